@@ -1,0 +1,99 @@
+-- What an entry says of the parts that stand for it.
+use Rattle.std.proofs.Common.{◌≡◌, ◌≢◌, ℕ, ◌+◌, ◌<◌, ◌≤◌, Bool, true, false, ◌&&◌, not, nat_eq, nat_lt, cond, arith, rules, refl, ap, sym, ◌∙◌, subst, ⊎_elim}
+use Rattle.std.specs.FinMap as map
+use Rattle.std.proofs.lemmas.Bool.{cases_eq, cases_lt}
+use Rattle.rd_history.specs.Table.{identity_limit, identities}
+use Rattle.rd_history.specs.Vector.{IdentitySet, VersionVector}
+use Rattle.rd_history.specs.History.{History, at, versions, is_pruned}
+use Rattle.rd_history.specs.Cuts.{without}
+use Rattle.rd_model.specs.Entry.{Entry, seen_by, seen_mark, is_same_mark, is_unchanged}
+use Rattle.rd_vectors.specs.Vectors.{Numbers, number_at, raised}
+use Rattle.rd_vectors.proofs.Laws.{number_at-empty, number_at-raised_same, number_at-raised_other, number_at-numbers_of_above}
+use Rattle.rd_vectors.proofs.Walks.{all_or_any}
+use Rattle.rd_markers.specs.Marks.{Marks, mark_of, begun, is_performed, performed_in, marker_seen_by, is_unseen_by, has_unseen_by}
+use Rattle.rd_markers.proofs.Meaning.{begun-seen, performed-seen, same_seen, equal_test}
+use Rattle.rd_envelope.specs.Images.{Parts, StandsFor}
+use Rattle.rd_envelope.proofs.Entries.{pruned_is}
+
+-- a vector that has been filled below an identity
+pub record IsFilledBelow (numbers : VersionVector) (known : Numbers) (count : ℕ) : Type 0 where
+  pub below : (i : ℕ) → i < count → number_at known i ≡ numbers i
+  pub above : (i : ℕ) → count ≤ i → number_at known i ≡ 0
+
+pub filled_none : (numbers : VersionVector) (known : Numbers) → known ≡ map.empty → IsFilledBelow numbers known 0
+filled_none numbers known e = record { below = λ i l. absurd (omega arith); above = λ i l. ap (λ m. number_at m i) e ∙ number_at-empty i }
+
+pub filled_one : (numbers : VersionVector) (known next : Numbers) (id seq count : ℕ) → id ≡ count → count < identity_limit → seq ≡ numbers id → next ≡ raised known id seq → IsFilledBelow numbers known count → IsFilledBelow numbers next (count + 1)
+filled_one numbers known next id seq count same few is e h =
+    let apart : (i : ℕ) → i ≢ id → number_at next i ≡ number_at known i = λ i ne. ap (λ m. number_at m i) e ∙ ⊎_elim
+    (λ (l : i < identity_limit). number_at-raised_other known id seq i l ne)
+    (λ (l : identity_limit ≤ i). number_at-numbers_of_above _ i l ∙ sym (h.above i (omega arith))) (cases_lt i identity_limit) in
+    record {
+      below = λ i l. ⊎_elim
+          (λ (here : i ≡ id). ap (λ m. number_at m i) e ∙ number_at-raised_same known id seq i (omega arith) here ∙ (let none : number_at known id ≡ 0 = h.above id (omega arith) in omega arith) ∙ is ∙ ap numbers (sym here))
+          (λ (ne : i ≢ id). apart i ne ∙ h.below i (omega arith)) (cases_eq i id);
+      above = λ i l. apart i (λ here. omega arith) ∙ h.above i (omega arith);
+    }
+
+pub filled_nothing : (numbers : VersionVector) (known : Numbers) (id count : ℕ) → id ≡ count → numbers id ≡ 0 → IsFilledBelow numbers known count → IsFilledBelow numbers known (count + 1)
+filled_nothing numbers known id count same none h = record {
+  below = λ i l. ⊎_elim (λ (here : i ≡ id). h.above i (omega arith) ∙ sym (ap numbers here ∙ none)) (λ (ne : i ≢ id). h.below i (omega arith)) (cases_eq i id);
+  above = λ i l. h.above i (omega arith);
+}
+
+pub filled_all : (numbers : VersionVector) (known : Numbers) (count : ℕ) → identity_limit ≤ count → ((i : ℕ) → identity_limit ≤ i → numbers i ≡ 0) → IsFilledBelow numbers known count → (i : ℕ) → number_at known i ≡ numbers i
+filled_all numbers known count l none h i = ⊎_elim (λ (b : i < count). h.below i b) (λ (a : count ≤ i). h.above i a ∙ sym (none i (omega arith))) (cases_lt i count)
+
+kept_or_none : (b : Bool) (n : ℕ) → cond b 0 n ≤ n
+kept_or_none true n = omega arith
+kept_or_none false n = omega arith
+
+pub second_is : (b c d : Bool) → b ≡ true → c ≡ d → (b && c) ≡ d
+second_is true c d e f = f
+second_is false c d e f = absurd (let x : false ≡ true = e in cc)
+
+pub some_test : (n : ℕ) → 0 < n → nat_lt 0 n ≡ true
+some_test n l = grind rules
+
+pub none_test : (n : ℕ) → n ≤ 0 → nat_lt 0 n ≡ false
+none_test n l = grind rules
+
+module _ {State Op : Type 0} (D : State → History Op → VersionVector → IdentitySet → Type 0) where
+  -- the identities with a performed mark are those that the history has a prune of
+  pub pruned_at : (parts : Parts State) (log : History Op) (entry : Entry Op) → StandsFor D parts log entry → (r : ℕ) → performed_in parts.marks r ≡ is_pruned entry.history r
+  pruned_at parts log entry s = pruned_is D parts log entry.history s.histories s.taken s.holds
+
+  pub numbers_at : (parts : Parts State) (log : History Op) (entry : Entry Op) → StandsFor D parts log entry → (i : ℕ) → number_at parts.versions i ≡ without (is_pruned entry.history) (versions entry.history) i
+  numbers_at parts log entry s i = s.holds.numbers i ∙ ap (λ b. cond b 0 (at entry.history i)) (pruned_at parts log entry s i)
+
+  -- so there is room in the versions where there is room in the history
+  pub numbers_within : (parts : Parts State) (log : History Op) (entry : Entry Op) → StandsFor D parts log entry → (i : ℕ) → number_at parts.versions i ≤ at entry.history i
+  numbers_within parts log entry s i = subst (λ n. n ≤ at entry.history i) (sym (numbers_at parts log entry s i)) (kept_or_none (is_pruned entry.history i) (at entry.history i))
+
+  pub none_above : (parts : Parts State) (log : History Op) (entry : Entry Op) → StandsFor D parts log entry → (i : ℕ) → identity_limit ≤ i → at entry.history i ≡ 0
+  none_above parts log entry s = s.holds.cut.few
+
+  pub stands_seen : (old : Parts State) (marks : Marks) (log : History Op) (entry : Entry Op) (id view : ℕ) → StandsFor D old log entry → ((r : ℕ) → mark_of marks r ≡ marker_seen_by id view (mark_of old.marks r))
+      → StandsFor D (record old { marks = marks }) log (seen_by id view entry)
+  stands_seen old marks log entry id view s seen =
+      let gone : (i : ℕ) → performed_in old.marks i ≡ performed_in marks i = λ i. sym (ap is_performed (seen i) ∙ performed-seen id view (mark_of old.marks i)) in
+      record {
+        histories = s.histories;
+        taken = s.taken;
+        holds = record {
+          cut = s.holds.cut;
+          exact = s.holds.exact;
+          prunes = λ r o k p. seen r ∙ ap (marker_seen_by id view) (s.holds.prunes r o k p);
+          marked = λ r g. s.holds.marked r (gone r ∙ g);
+          state = subst (D old.value log (versions entry.history)) (λ j i. gone i j) s.holds.state;
+          numbers = λ i. s.holds.numbers i ∙ ap (λ b. cond b 0 (at entry.history i)) (gone i);
+        };
+        marks = λ r. ap (seen_mark id view) (s.marks r) ∙ sym (begun-seen id view (mark_of old.marks r)) ∙ ap begun (sym (seen r));
+      }
+
+  pub changed_seen : (parts : Parts State) (log : History Op) (entry : Entry Op) (id view : ℕ) → id < identity_limit → StandsFor D parts log entry → is_unchanged entry (seen_by id view entry) ≡ not (has_unseen_by id view parts.marks)
+  unfolding has_unseen_by
+  changed_seen parts log entry id view l s = all_or_any _ (λ r. is_unseen_by id view (mark_of parts.marks r)) same identities
+    where
+      same : (r : ℕ) → (nat_eq (at entry.history r) (at entry.history r) && is_same_mark (entry.marks r) (seen_mark id view (entry.marks r))) ≡ not (is_unseen_by id view (mark_of parts.marks r))
+      same r = second_is _ _ _ (equal_test (at entry.history r) (at entry.history r) refl) (ap (λ m. is_same_mark m (seen_mark id view m)) (s.marks r) ∙ same_seen id view (mark_of parts.marks r) l)

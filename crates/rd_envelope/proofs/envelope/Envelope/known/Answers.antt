@@ -1,0 +1,17 @@
+use Rattle.std.proofs.Common.{◌≡◌, ◌+◌, sym, ◌∙◌, arith, subst}
+use Rattle.rd_history.specs.History.{at, versions}
+use Rattle.rd_envelope.proofs.Reading.{IsFilledBelow, filled_none, filled_one, filled_nothing}
+use Rattle.rd_envelope.proofs.envelope.Envelope.known.Goals as goal
+use Rattle.rd_envelope.proofs.envelope.Envelope.known.Goals.{in-Some+then-seq-gt0+in_ok-raise, in-Some+else-seq-gt0, in_default}
+
+pub loop-number-init : goal.loop-number-init
+loop-number-init g c = λ log entry s. filled_none (versions entry.history) c.new-known.result c.new-known.ensures
+
+pub loop-number-preserved : goal.loop-number-preserved
+loop-number-preserved g c = λ log entry s. elim c.match-new.branch [
+  | in-Some+then-seq-gt0+in_ok-raise w ↦ filled_one (versions entry.history) c.loop-number.known c.match-new.known w.in-Some.id w.at-seq.result c.loop-number.number w.in-Some.ensures.value c.loop-number-test.true
+      (w.at-seq.ensures.image log entry s) (w.known-is ∙ w.in_ok-raise.ensures.ok) (c.loop-number.invariant log entry s)
+  | in-Some+else-seq-gt0 w ↦ subst (λ m. IsFilledBelow (versions entry.history) m (c.loop-number.number + 1)) (sym w.known-is)
+      (filled_nothing (versions entry.history) c.loop-number.known w.in-Some.id c.loop-number.number w.in-Some.ensures.value (let none : at entry.history w.in-Some.id ≡ 0 = omega (arith, w.at-seq.ensures.image log entry s) in none) (c.loop-number.invariant log entry s))
+  | in_default w ↦ absurd (let no = w.in_default.ensures.variant.1 c.loop-number-test.true in cc)
+]

@@ -1,0 +1,15 @@
+pub mod Bits
+pub mod Recorded
+pub mod RecordedLaws
+pub mod Flags
+pub mod FlagLaws
+pub mod Texts
+pub mod TextLaws
+pub mod TextSetLaws
+pub mod Sets
+pub mod SetLaws
+pub mod Timestamps
+pub mod TimestampLaws
+pub mod Registers
+pub mod WriteLaws
+pub mod RegisterLaws

@@ -1,0 +1,13 @@
+//! Values that only grow: a set, a flag, and a register that keeps the last write.
+#![tactic(auto)]
+
+mod elements;
+mod flag;
+mod register;
+mod set;
+#[cfg(test)]
+mod tests;
+
+pub use flag::{Flag, SwitchedOn};
+pub use register::{LwwRegister, Written};
+pub use set::{GSet, MOST_ELEMENTS};

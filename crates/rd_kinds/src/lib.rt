@@ -1,0 +1,13 @@
+//! The six kinds of replicated values: their names, their operations, and the values that they show.
+//! What histories of these operations mean stands in `specs/SixKinds.antt`.
+#![tactic(auto)]
+
+mod kind;
+mod moment;
+mod operation;
+mod shown;
+
+pub use kind::Kind;
+pub use moment::Moment;
+pub use operation::Op;
+pub use shown::{Shown, Texts};

@@ -1,0 +1,9 @@
+//! What every replicated data type offers, and what its data and answers mean over histories.
+#![tactic(auto)]
+
+mod answers;
+mod replica;
+
+pub use answers::{ApplyError, PruneError};
+pub use rd_kinds::Shown;
+pub use replica::Replica;

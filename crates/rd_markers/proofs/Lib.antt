@@ -1,0 +1,6 @@
+pub mod Laws
+pub mod Meaning
+pub mod Views
+pub mod Merges
+pub mod Seen
+pub mod Keeping

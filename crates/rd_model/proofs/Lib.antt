@@ -1,0 +1,5 @@
+pub mod GroupLaws
+pub mod Steps
+pub mod Flushing
+pub mod Taking
+pub mod Changes

@@ -1,0 +1,9 @@
+pub mod View
+pub mod Entry
+pub mod DataType
+pub mod Message
+pub mod Node
+pub mod Step
+pub mod World
+pub mod Script
+pub mod Report

@@ -1,0 +1,12 @@
+pub mod Lookup
+pub mod Numbers
+pub mod Nodes
+pub mod Vectors
+pub mod Standing
+pub mod Starting
+pub mod Written
+pub mod Stepping
+pub mod Flushes
+pub mod Takings
+pub mod TakingSteps
+pub mod Quiet

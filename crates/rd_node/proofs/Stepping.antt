@@ -1,0 +1,95 @@
+-- What a member stands for after a step that writes at every key.
+use Rattle.std.proofs.Common.{◌≡◌, ℕ, suc, ◌+◌, ◌<◌, ◌≤◌, List, [], ◌∷◌, length, get_or, refl, sym, ap, ◌∙◌, subst, arith, false}
+use Rattle.std.specs.Prelude.{map}
+use Rattle.std.specs.Vec.{with_items}
+use Rattle.std.specs.declared.vec.Vec.{Vec}
+use Rattle.std.proofs.lemmas.List.{with_items_is}
+use Rattle.rd_history.specs.Texts.{Text}
+use Rattle.rd_history.specs.Vector.{VersionVector, IdentitySet}
+use Rattle.rd_history.specs.History.{History}
+use Rattle.rd_model.specs.View.{identities_of}
+use Rattle.rd_model.specs.Node as nodes
+use Rattle.rd_markers.specs.Marks.{performed_in}
+use Rattle.rd_kinds.specs.declared.shown.Shown.{Shown}
+use Rattle.rd_lattice.specs.declared.replica.Replica.{Ghosts}
+use Rattle.rd_envelope.specs.Words.{parts_of}
+use Rattle.rd_node.specs.declared.node.Node.{Node}
+use Rattle.rd_node.specs.declared.key.KeyState.{KeyState}
+use Rattle.rd_node.specs.declared.change.Change.{Change}
+use Rattle.rd_node.specs.declared.change.Change.TheVariants.{Same, Entry, Flushed}
+use Rattle.rd_node.specs.Own.{HasFewOwn, IsUnpruned}
+use Rattle.rd_node.specs.Keys.{AreDistinct, declared_by}
+use Rattle.rd_node.specs.Sending.{own_number}
+use Rattle.rd_node.specs.Changes.{changed, AreChanged, AreMade}
+use Rattle.rd_node.specs.Members.{StandsForKey, StandsForNode}
+
+-- lists that f can't tell apart, place by place
+pub map-places : {X Y : Type 0} (f : X → Y) (xs ys : List X) → length ys ≡ length xs → ((k : ℕ) (d : X) → k < length xs → f (get_or ys k d) ≡ f (get_or xs k d)) → map f ys ≡ map f xs
+map-places f [] [] counted same = refl
+map-places f [] (y ∷ ys) counted same = absurd (omega arith)
+map-places f (x ∷ xs) [] counted same = absurd (omega arith)
+map-places f (x ∷ xs) (y ∷ ys) counted same = λ i. same 0 x (omega arith) i ∷ map-places f xs ys (omega arith) (λ k d below. same (suc k) d (omega arith)) i
+
+module _ {T Kind Op Delta : Type 0} where
+  pub same_name : (state : KeyState T Kind Op Delta) (change : Change T Kind Op Delta) → (changed state change).name ≡ state.name
+  same_name state Same = refl
+  same_name state (Entry entry) = refl
+  same_name state (Flushed flushed) = refl
+
+  pub same_declared : (state : KeyState T Kind Op Delta) (change : Change T Kind Op Delta) → declared_by (changed state change) ≡ declared_by state
+  same_declared state Same = refl
+  same_declared state (Entry entry) = refl
+  same_declared state (Flushed flushed) = refl
+
+  -- a slice that was written is the vector's items
+  pub written_back : {Z : Type 0} (keys : Vec (KeyState T Kind Op Delta) Z) (old new : List (KeyState T Kind Op Delta)) (changes : List (Change T Kind Op Delta)) → old ≡ keys.items → AreChanged old changes new → AreChanged keys.items changes (with_items keys new).items
+  written_back keys old new changes is after =
+      let here : AreChanged keys.items changes new = subst (λ (xs : List (KeyState T Kind Op Delta)). AreChanged xs changes new) is after in
+      subst (AreChanged keys.items changes) (sym (with_items_is keys new (here.same_length ∙ sym keys.ok.0))) here
+
+  -- own numbers that don't grow stay small
+  pub few_changed : (Makes : KeyState T Kind Op Delta → Change T Kind Op Delta → Type 0) (id steps later : ℕ) (old new : List (KeyState T Kind Op Delta)) (changes : List (Change T Kind Op Delta)) → steps ≤ later
+      → ((state : KeyState T Kind Op Delta) (change : Change T Kind Op Delta) → Makes state change → own_number id (changed state change) ≤ own_number id state)
+      → AreMade Makes old changes → AreChanged old changes new → HasFewOwn id steps old → HasFewOwn id later new
+  few_changed Makes id steps later old new changes more no_more made after few k d within =
+      let inside : k < length old = (let l = after.same_length in omega arith) in
+      let is = after.each k d Same inside in
+      let grown = no_more _ _ (made.made k d Same inside) in
+      let e = ap (own_number id) is in
+      let before = few k d inside in
+      omega (arith, e, grown, before)
+
+  pub unpruned_changed : (Makes : KeyState T Kind Op Delta → Change T Kind Op Delta → Type 0) (id : ℕ) (old new : List (KeyState T Kind Op Delta)) (changes : List (Change T Kind Op Delta))
+      → ((state : KeyState T Kind Op Delta) (change : Change T Kind Op Delta) → Makes state change → performed_in (parts_of state.entry).marks id ≡ false → performed_in (parts_of (changed state change).entry).marks id ≡ false)
+      → AreMade Makes old changes → AreChanged old changes new → IsUnpruned id old → IsUnpruned id new
+  unpruned_changed Makes id old new changes stays made after unpruned k d within =
+      let inside : k < length old = (let l = after.same_length in omega arith) in
+      ap (λ (state : KeyState T Kind Op Delta). performed_in (parts_of state.entry).marks id) (after.each k d Same inside) ∙ stays _ _ (made.made k d Same inside) (unpruned k d inside)
+
+module _ {T Kind Op Delta : Type 0} {ghosts : Ghosts T Kind Op Delta} (kind_of : T → Kind) (IsDataOf : T → History Op → VersionVector → IdentitySet → Type 0) (kinds : Text → Kind) (logs : Text → History Op)
+    (code : Node T Kind Op Delta ghosts) (node : nodes.Node Kind Op Shown) (s : StandsForNode kind_of IsDataOf kinds logs code node) where
+  -- each key stands for what the next state has of it
+  pub stands_changed : (new : Node T Kind Op Delta ghosts) (end next : nodes.Node Kind Op Shown) → end ≡ next → (changes : List (Change T Kind Op Delta))
+      → new.id ≡ code.id → new.view ≡ code.view → new.members.items ≡ code.members.items → new.steps ≡ code.steps + 1
+      → next.identity ≡ node.identity → next.view ≡ node.view → next.keys ≡ node.keys → next.steps ≡ node.steps + 1
+      → AreChanged code.keys.items changes new.keys.items
+      → ((k : ℕ) (d : KeyState T Kind Op Delta) → k < length code.keys.items → StandsForKey kind_of IsDataOf kinds logs (get_or code.keys.items k d) (node.entries (get_or code.keys.items k d).name) (node.flushed (get_or code.keys.items k d).name)
+      → StandsForKey kind_of IsDataOf kinds logs (changed (get_or code.keys.items k d) (get_or changes k Same)) (next.entries (get_or code.keys.items k d).name) (next.flushed (get_or code.keys.items k d).name))
+      → StandsForNode kind_of IsDataOf kinds logs new end
+  stands_changed new end next same changes id view members steps identity' view' keys' steps' after each =
+      subst (λ n. StandsForNode kind_of IsDataOf kinds logs new n) (sym same) (record {
+        identity = identity' ∙ s.identity ∙ sym id;
+        view = ap (λ v. v.number) view' ∙ s.view ∙ sym view;
+        members = ap identities_of view' ∙ s.members ∙ sym members;
+        keys = keys' ∙ s.keys ∙ sym (map-places declared_by code.keys.items new.keys.items after.same_length (λ k d within. ap declared_by (after.each k d Same within) ∙ same_declared _ _));
+        distinct = subst AreDistinct (sym (map-places (λ (state : KeyState T Kind Op Delta). state.name) code.keys.items new.keys.items after.same_length
+            (λ k d within. ap (λ (state : KeyState T Kind Op Delta). state.name) (after.each k d Same within) ∙ same_name _ _))) s.distinct;
+        entries = λ k d within.
+            let inside : k < length code.keys.items = (let l = after.same_length in omega arith) in
+            let state = get_or code.keys.items k d in
+            let change = get_or changes k Same in
+            subst (λ (state : KeyState T Kind Op Delta). StandsForKey kind_of IsDataOf kinds logs state (next.entries state.name) (next.flushed state.name)) (sym (after.each k d Same inside))
+            (subst (λ name. StandsForKey kind_of IsDataOf kinds logs (changed (get_or code.keys.items k d) (get_or changes k Same)) (next.entries name) (next.flushed name)) (sym (same_name (get_or code.keys.items k d) (get_or changes k Same)))
+            (each k d inside (s.entries k d inside)));
+        steps = steps' ∙ ap (λ n. n + 1) s.steps ∙ sym steps;
+      })

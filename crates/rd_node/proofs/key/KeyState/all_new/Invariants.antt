@@ -1,0 +1,11 @@
+use Rattle.std.proofs.Common.{◌≡◌, take, map}
+use Rattle.std.specs.Prelude.{All}
+use Rattle.rd_node.specs.Keys.{declared, declared_by}
+use Rattle.rd_node.specs.Fresh.{IsFresh}
+use Rattle.rd_node.proofs.key.KeyState.all_new.Given as goal
+
+abbrev pub invariant-loop-decl : goal.invariant-loop-decl
+invariant-loop-decl g l = record {
+  declared : map declared_by l.states ≡ map declared (take l.decl-index l.keys);
+  fresh : All (IsFresh g.T.Replica.kind_of g.T.Replica.IsDataOf) l.states;
+}

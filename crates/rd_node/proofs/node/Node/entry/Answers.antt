@@ -1,0 +1,14 @@
+use Rattle.std.proofs.Common.{ap, sym, ◌∙◌, Some}
+use Rattle.std.specs.Prelude.{option_map}
+use Rattle.std.specs.Str.{bytes_eq}
+use Rattle.rd_node.proofs.Lookup.{position-found, position-none}
+use Rattle.rd_node.proofs.node.Node.entry.Goals as goal
+
+pub returns-in-Some : goal.returns-in-Some
+returns-in-Some g c =
+    let keys = c.args.self.now.keys.items in
+    let at = position-found (λ state. bytes_eq state.name c.args.key.now) keys c.in-Some.index c.in-Some.ensures in
+    ap (λ state. Some state.entry) c.index.ensures ∙ sym (ap (option_map (λ state. state.entry)) (at.found c.index.result.now))
+
+pub returns-in-None : goal.returns-in-None
+returns-in-None g c = sym (ap (option_map (λ state. state.entry)) (position-none (λ state. bytes_eq state.name c.args.key.now) c.args.self.now.keys.items c.in-None.ensures))

@@ -1,0 +1,17 @@
+-- What a member holds of a key before its first step.
+use Rattle.std.specs.Prelude.{◌≡◌}
+use Rattle.std.specs.FinMap as map
+use Rattle.rd_history.specs.Vector.{VersionVector, IdentitySet}
+use Rattle.rd_history.specs.History.{History, IsHistory}
+use Rattle.rd_model.specs.Entry.{empty_entry}
+use Rattle.rd_envelope.specs.Images.{StandsFor}
+use Rattle.rd_envelope.specs.Words.{parts_of}
+use Rattle.rd_node.specs.declared.key.KeyState.{KeyState}
+
+-- it has no record, no mark, and nothing was sent
+pub record IsFresh {T Kind Op Delta : Type 0} (kind_of : T → Kind) (IsDataOf : T → History Op → VersionVector → IdentitySet → Type 0) (state : KeyState T Kind Op Delta) : Type 0 where
+  pub kind_is : kind_of state.entry.value ≡ state.kind
+  pub versions : (parts_of state.entry).versions ≡ map.empty
+  pub marks : (parts_of state.entry).marks ≡ map.empty
+  pub sent : state.flushed ≡ map.empty
+  pub image : (log : History Op) → IsHistory log → StandsFor IsDataOf (parts_of state.entry) log empty_entry

@@ -1,0 +1,9 @@
+pub mod Sketches
+pub mod Own
+pub mod Replies
+pub mod Fresh
+pub mod Keys
+pub mod Members
+pub mod Sending
+pub mod Changes
+pub mod Taking

@@ -1,0 +1,232 @@
+ghost use Rattle.std.specs.Prelude.{◌≡◌, ◌≤◌, ℕ, true, ◌==◌};
+ghost use Rattle.std.specs.List.{list_any};
+ghost use Rattle.rd_node.specs.Own.{HasFewOwn, IsUnpruned};
+
+use crate::change::write_all;
+use crate::key::{KeyDecl, KeyState};
+use crate::message::{Message, Posts};
+use crate::reply::{Reply, StepError};
+use crate::sending::{flushes, posts};
+use crate::taking::{any_changed, takes};
+use rd_bytes::{Memory, Text};
+use rd_envelope::Envelope;
+use rd_lattice::Replica;
+use rd_vectors::Id;
+use std::alloc::Global;
+
+/// A member makes at most so many steps.
+pub const MOST_STEPS: usize = 16_384;
+
+/// A member: its identity, the view that it has installed, and what it holds of each declared key.
+#[derive(Drop)]
+pub struct Node<T: Replica> {
+    alloc: Global,
+    id: Id,
+    view: u32,
+    members: Vec<Id>,
+    keys: Vec<KeyState<T>>,
+    steps: usize,
+    ghost member: { list_any (λ i. i == id) members.items ≡ true },
+    ghost few_steps: { steps ≤ 16384 },
+    ghost few_own: { HasFewOwn id steps keys.items },
+    ghost unpruned: { IsUnpruned id keys.items },
+}
+
+impl<T: Replica> Node<T> {
+    ghost use Rattle.std.specs.Prelude.{◌+◌, List, [], map, find, position, ◌↔◌, IfOk, OnOk, OnErr, Err, option_copied, option_map};
+    ghost use Rattle.std.specs.Str.{bytes_eq};
+    ghost use Rattle.rd_history.specs.History.{History, IsHistory};
+    ghost use Rattle.rd_model.specs.Entry.{Entry};
+    ghost use Rattle.rd_model.specs.View.{View, identities_of};
+    ghost use Rattle.rd_model.specs.World.{loaded_node};
+    ghost use Rattle.rd_model.specs.Message.{Message as Sent};
+    ghost use Rattle.rd_model.specs.Node.{Node as Member, Input, Level, Fate};
+    ghost use Rattle.rd_model.specs.Step.{step};
+    ghost use Rattle.rd_kinds.specs.declared.shown.Shown.{Shown};
+    ghost use Rattle.rd_node.specs.declared.reply.StepError.TheVariants as StepError;
+    ghost use Rattle.rd_node.specs.Replies.{whole_entries, meant};
+    ghost use Rattle.rd_node.specs.Keys.{declared, AreDistinct, AreOfKinds};
+    ghost use Rattle.rd_node.specs.Members.{AreTakenFrom, ArePruneFree, StandsForNode, StandsForMessage, StandsForPosts};
+
+    /// A member of view 0 without records. The keys are held in the order in which they are given.
+    pub fn new(
+        alloc: Global,
+        id: Id,
+        members: &[Id],
+        keys: &[KeyDecl<T>],
+    ) -> Result<Node<T>, Memory>
+        requires member { list_any (λ i. i == id) members.now ≡ true }
+        requires distinct { AreDistinct (map (λ decl. decl.key) keys.now) }
+        ensures stands { (kinds : Text → T.Kind) (logs : Text → History T.Op) (view : View)
+            → view.number ≡ 0 → identities_of view ≡ members.now → ((key : Text) → IsHistory (logs key)) → AreOfKinds kinds keys.now
+            → IfOk result (λ node. StandsForNode T.kind_of T.IsDataOf kinds logs node (loaded_node (map declared keys.now) id view [])) }
+    {
+        let keys = KeyState::all_new(alloc, keys)?;
+        let members = Vec::from_slice(alloc, members)?;
+        Ok(Node {
+            alloc,
+            id,
+            view: 0,
+            members,
+            keys,
+            steps: 0,
+        })
+    }
+
+    /// The identity.
+    pub fn id(&self) -> Id
+        ensures { result ≡ self.now.id }
+    {
+        self.id
+    }
+
+    /// The number of the view that the member has installed.
+    pub fn view(&self) -> u32
+        ensures { result ≡ self.now.view }
+    {
+        self.view
+    }
+
+    /// What the member holds of each declared key.
+    pub fn keys(&self) -> &[KeyState<T>]
+        ensures { result.now ≡ self.now.keys.items }
+    {
+        self.keys.as_slice()
+    }
+
+    /// What the member holds of a key, if it is declared.
+    pub fn entry(&self, key: &Text) -> Option<&Envelope<T>>
+        ensures { option_copied result ≡ option_map (λ state. state.entry) (find (λ state. bytes_eq state.name key.now) self.now.keys.items) }
+    {
+        match self.position(key) {
+            Some(index) => Some(&self.keys[index].entry),
+            None => None,
+        }
+    }
+
+    /// Where the key stands.
+    fn position(&self, key: &Text) -> Option<usize>
+        ensures { result ≡ position (λ state. bytes_eq state.name key.now) self.now.keys.items }
+    {
+        self.keys
+            .iter()
+            .position(|state| state.name.as_str() == key.as_str())
+    }
+
+    fn has_member(&self, id: Id) -> bool
+        ensures { result ≡ list_any (λ j. j == id) self.now.members.items }
+    {
+        self.members.iter().any(|member| *member == id)
+    }
+
+    /// Adds an operation as the member's next record of the key.
+    pub fn update(&mut self, key: &Text, op: &T::Op) -> Result<Reply, StepError>
+        ensures stands { (digest : T.Kind → Entry T.Op → List ℕ) (kinds : Text → T.Kind) (logs : Text → History T.Op) (node : Member T.Kind T.Op Shown)
+            → StandsForNode T.kind_of T.IsDataOf kinds logs self.old node
+            → let next = step (whole_entries T.data_type digest) node (Input.Update key.now op.now Level.Local) Fate.NoStore in
+            AreTakenFrom logs next.node → OnOk result (StandsForNode T.kind_of T.IsDataOf kinds logs self.new next.node) }
+        ensures reply { (digest : T.Kind → Entry T.Op → List ℕ) (kinds : Text → T.Kind) (logs : Text → History T.Op) (node : Member T.Kind T.Op Shown)
+            → StandsForNode T.kind_of T.IsDataOf kinds logs self.old node
+            → let next = step (whole_entries T.data_type digest) node (Input.Update key.now op.now Level.Local) Fate.NoStore in
+            AreTakenFrom logs next.node → IfOk result (λ reply. meant reply ≡ next.output.reply) }
+        ensures full { result ≡ Err StepError.HistoryFull ↔ (self.old.steps ≡ 16384) }
+        ensures err { OnErr result (self.new ≡ self.old) }
+        ensures counts { OnOk result (self.new.steps ≡ self.old.steps + 1) }
+    {
+        if self.steps >= MOST_STEPS {
+            return Err(StepError::HistoryFull);
+        }
+        let Some(index) = self.position(key) else {
+            self.steps += 1;
+            return Ok(Reply::UnknownKey);
+        };
+        let reply = self.keys[index].update(self.id, op)?;
+        self.steps += 1;
+        Ok(reply)
+    }
+
+    /// Shows the value of a key.
+    pub fn get(&mut self, key: &Text) -> Result<Reply, StepError>
+        ensures stands { (digest : T.Kind → Entry T.Op → List ℕ) (kinds : Text → T.Kind) (logs : Text → History T.Op) (node : Member T.Kind T.Op Shown)
+            → StandsForNode T.kind_of T.IsDataOf kinds logs self.old node
+            → let next = step (whole_entries T.data_type digest) node (Input.Get key.now Level.Local) Fate.NoStore in
+            AreTakenFrom logs next.node → OnOk result (StandsForNode T.kind_of T.IsDataOf kinds logs self.new next.node) }
+        ensures reply { (digest : T.Kind → Entry T.Op → List ℕ) (kinds : Text → T.Kind) (logs : Text → History T.Op) (node : Member T.Kind T.Op Shown)
+            → StandsForNode T.kind_of T.IsDataOf kinds logs self.old node
+            → let next = step (whole_entries T.data_type digest) node (Input.Get key.now Level.Local) Fate.NoStore in
+            AreTakenFrom logs next.node → IfOk result (λ reply. meant reply ≡ next.output.reply) }
+        ensures full { result ≡ Err StepError.HistoryFull ↔ (self.old.steps ≡ 16384) }
+        ensures err { OnErr result (self.new ≡ self.old) }
+        ensures counts { OnOk result (self.new.steps ≡ self.old.steps + 1) }
+    {
+        if self.steps >= MOST_STEPS {
+            return Err(StepError::HistoryFull);
+        }
+        let Some(index) = self.position(key) else {
+            self.steps += 1;
+            return Ok(Reply::UnknownKey);
+        };
+        let reply = self.keys[index].show(self.alloc)?;
+        self.steps += 1;
+        Ok(reply)
+    }
+
+    /// Merges the entries of a message from a member.
+    pub fn take(&mut self, from: Id, message: &Message<T>) -> Result<Reply, StepError>
+        ensures stands { (digest : T.Kind → Entry T.Op → List ℕ) (kinds : Text → T.Kind) (logs : Text → History T.Op) (node : Member T.Kind T.Op Shown) (sent : Sent T.Op)
+            → StandsForNode T.kind_of T.IsDataOf kinds logs self.old node → ArePruneFree logs → StandsForMessage T.kind_of T.IsDataOf kinds logs message.now sent
+            → let next = step (whole_entries T.data_type digest) node (Input.Take from sent) Fate.NoStore in
+            AreTakenFrom logs next.node → OnOk result (StandsForNode T.kind_of T.IsDataOf kinds logs self.new next.node) }
+        ensures reply { (digest : T.Kind → Entry T.Op → List ℕ) (kinds : Text → T.Kind) (logs : Text → History T.Op) (node : Member T.Kind T.Op Shown) (sent : Sent T.Op)
+            → StandsForNode T.kind_of T.IsDataOf kinds logs self.old node → ArePruneFree logs → StandsForMessage T.kind_of T.IsDataOf kinds logs message.now sent
+            → let next = step (whole_entries T.data_type digest) node (Input.Take from sent) Fate.NoStore in
+            AreTakenFrom logs next.node → IfOk result (λ reply. meant reply ≡ next.output.reply) }
+        ensures full { result ≡ Err StepError.HistoryFull ↔ (self.old.steps ≡ 16384) }
+        ensures err { OnErr result (self.new ≡ self.old) }
+        ensures counts { OnOk result (self.new.steps ≡ self.old.steps + 1) }
+    {
+        if self.steps >= MOST_STEPS {
+            return Err(StepError::HistoryFull);
+        }
+        if !self.has_member(from) {
+            self.steps += 1;
+            return Ok(Reply::NotFromMember);
+        }
+        let changes = takes(
+            self.alloc,
+            &self.keys,
+            self.id,
+            self.view,
+            message.entries(),
+        )?;
+        let changed = any_changed(&self.keys, &changes);
+        write_all(self.keys.as_mut_slice(), changes);
+        self.steps += 1;
+        Ok(Reply::of_take(changed))
+    }
+
+    /// What to send to the other members: to each the entries with own records that it was not sent. It then counts as
+    /// sent.
+    pub fn flush(&mut self) -> Result<Posts<T>, StepError>
+        ensures stands { (digest : T.Kind → Entry T.Op → List ℕ) (kinds : Text → T.Kind) (logs : Text → History T.Op) (node : Member T.Kind T.Op Shown)
+            → StandsForNode T.kind_of T.IsDataOf kinds logs self.old node
+            → let next = step (whole_entries T.data_type digest) node Input.Flush Fate.NoStore in
+            AreTakenFrom logs next.node → OnOk result (StandsForNode T.kind_of T.IsDataOf kinds logs self.new next.node) }
+        ensures posts { (digest : T.Kind → Entry T.Op → List ℕ) (kinds : Text → T.Kind) (logs : Text → History T.Op) (node : Member T.Kind T.Op Shown)
+            → StandsForNode T.kind_of T.IsDataOf kinds logs self.old node
+            → let next = step (whole_entries T.data_type digest) node Input.Flush Fate.NoStore in
+            AreTakenFrom logs next.node → IfOk result (λ posts. StandsForPosts T.kind_of T.IsDataOf kinds logs posts next.output.posts) }
+        ensures full { result ≡ Err StepError.HistoryFull ↔ (self.old.steps ≡ 16384) }
+        ensures err { OnErr result (self.new ≡ self.old) }
+        ensures counts { OnOk result (self.new.steps ≡ self.old.steps + 1) }
+    {
+        if self.steps >= MOST_STEPS {
+            return Err(StepError::HistoryFull);
+        }
+        let posts = posts(self.alloc, &self.keys, self.id, &self.members)?;
+        let changes = flushes(self.alloc, &self.keys, self.id, &self.members)?;
+        write_all(self.keys.as_mut_slice(), changes);
+        self.steps += 1;
+        Ok(posts)
+    }
+}

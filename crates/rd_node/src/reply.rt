@@ -1,0 +1,66 @@
+use rd_bytes::Memory;
+use rd_kinds::Shown;
+
+/// What a member replies.
+#[derive(Drop)]
+pub enum Reply {
+    /// The update or the flush was done.
+    Done,
+    /// The value of the key.
+    Value(Shown),
+    /// The key has no record.
+    NotFound,
+    /// The key is not declared.
+    UnknownKey,
+    /// The operation is not one of the key's kind.
+    WrongKind,
+    /// The own share of a counter would pass its limit.
+    Overflow { share: u64, amount: u64 },
+    /// A register was written at the last moment of its clock.
+    ClockSpent,
+    /// A set has as many elements as it may have.
+    SetFull,
+    /// The message changed an entry.
+    Taken,
+    /// The message changed nothing.
+    Already,
+    /// The sender is no member.
+    NotFromMember,
+}
+
+impl Reply {
+    ghost use Rattle.std.specs.Prelude.{◌≡◌, if◌then◌else◌};
+    ghost use Rattle.rd_model.specs.Node.{Reply as Meant};
+    ghost use Rattle.rd_node.specs.Replies.{meant};
+
+    /// What is replied to a message.
+    pub(crate) fn of_take(changed: bool) -> Reply
+        ensures { meant result ≡ (if changed then Meant.Taken else Meant.Already) }
+    {
+        if changed {
+            Reply::Taken
+        } else {
+            Reply::Already
+        }
+    }
+}
+
+/// Why a member made no step. It is then as before.
+#[derive(Clone, Copy, Debug, PartialEq, Eq)]
+pub enum StepError {
+    /// The member has made as many steps as it may.
+    HistoryFull,
+    /// Memory was refused.
+    Memory,
+}
+
+impl From<Memory> for StepError {
+    ghost use Rattle.std.specs.Prelude.{◌≡◌};
+    ghost use Rattle.rd_node.specs.declared.reply.StepError.TheVariants as StepError;
+
+    ghost from_gives = { λ _ error. error ≡ StepError.Memory };
+
+    fn from(_: Memory) -> StepError {
+        StepError::Memory
+    }
+}

@@ -1,0 +1,4 @@
+pub mod Causes
+pub mod InMemory
+pub mod Standard
+pub mod Transfers

@@ -1,0 +1,4 @@
+pub mod FinalBlocks
+pub mod Orders
+pub mod Stages
+pub mod Told

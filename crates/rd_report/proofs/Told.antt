@@ -1,0 +1,116 @@
+-- Events are told as the model's lines.
+use Rattle.std.proofs.Common.{◌≡◌, ℕ, ◌<◌, List, [], ◌∷◌, ◌++◌, length, map, flat_map, Option, None, Some, refl, sym, ap, ap₂, ◌∙◌, arith, append_assoc}
+use Rattle.std.specs.Prelude.{codes, decimal, option_map}
+use Rattle.std.specs.List.{AllZip}
+use Rattle.std.proofs.lemmas.List.{append-nil}
+use Rattle.std.proofs.lemmas.Grind.{flat_map-append}
+use Rattle.rd_history.specs.Texts.{Text}
+use Rattle.rd_model.specs.DataType.{Replication}
+use Rattle.rd_model.specs.Message as model
+use Rattle.rd_model.specs.Script as script
+use Rattle.rd_model.specs.Script.{Told}
+use Rattle.rd_model.specs.Report as report
+use Rattle.rd_model.specs.Report.{words, line_of, answer_text, message_text, post_words, told_text, link_text}
+use Rattle.rd_kinds.specs.ShownText.{shown_text}
+use Rattle.rd_kinds.specs.declared.shown.Shown.{Shown}
+use Rattle.rd_world.specs.Lines.{sketched, sketched_post, IsHead, IsLine}
+use Rattle.rd_world.specs.declared.event.Event.{Event}
+use Rattle.rd_world.specs.declared.event.Head.{Head}
+use Rattle.rd_world.specs.declared.event.Head.TheVariants as head
+use Rattle.rd_report.specs.Lines.{sketch_text, delivered_words, head_words, post_text, sent_text, event_text}
+
+-- WORDS
+
+-- a word after a space
+abbrev spaced : Text → Text
+spaced word = 32 ∷ word
+
+words_spaced : (w : Text) (ws : List Text) → words (w ∷ ws) ≡ w ++ flat_map spaced ws
+words_spaced w [] = sym (append-nil w)
+words_spaced w (v ∷ ws) = ap (λ t. w ++ (32 ∷ t)) (words_spaced v ws)
+
+some_spaced : (ws : List Text) → 0 < length ws → 32 ∷ words ws ≡ flat_map spaced ws
+some_spaced [] some = absurd (omega arith)
+some_spaced (w ∷ ws) some = ap (λ t. 32 ∷ t) (words_spaced w ws)
+
+regroup : (a b c d : Text) (x y : ℕ) → a ++ (x ∷ []) ++ b ++ (y ∷ []) ++ c ++ d ≡ a ++ ((x ∷ b) ++ ((y ∷ c) ++ d))
+regroup a b c d x y = simp append_assoc
+
+module _ {Op : Type 0} where
+  sketch_told : (message : model.Message Op) → sketch_text (sketched message) ≡ message_text message
+  sketch_told (model.Message.Deltas groups entries) = refl
+  sketch_told (model.Message.Nack keys) = refl
+  sketch_told (model.Message.Status digests) = refl
+  sketch_told (model.Message.Gossip entries wants) = refl
+  sketch_told (model.Message.Write op key entry) = refl
+  sketch_told (model.Message.WriteAck op) = refl
+  sketch_told (model.Message.WriteNack op) = refl
+  sketch_told (model.Message.Read op key) = refl
+  sketch_told (model.Message.ReadAnswer op key entry) = refl
+
+  delivered_told : (message : Option (model.Message Op)) → delivered_words (option_map sketched message) ≡ report.delivered_words message
+  delivered_told None = refl
+  delivered_told (Some message) = ap (λ t. t ∷ []) (sketch_told message)
+
+  head_told : (h : Head) (told : script.Head Op) → IsHead h told → head_words h ≡ report.head_words told
+  head_told (head.Update at key) told is = sym (ap report.head_words is)
+  head_told (head.Get at key) told is = sym (ap report.head_words is)
+  head_told (head.Flush at) told is = sym (ap report.head_words is)
+  head_told (head.Deliver from to index sketch) told is =
+      ap (λ ws. codes "deliver" ∷ link_text from to index ∷ ws) (ap delivered_words is.2 ∙ delivered_told is.0) ∙ sym (ap report.head_words is.1)
+  head_told (head.Lose from to index) told is = sym (ap report.head_words is)
+  head_told head.Round told is = sym (ap report.head_words is)
+
+  post_told : (post : model.Post Op) → post_text (sketched_post post) ≡ spaced (report.post_text post)
+  post_told post = ap (λ t. 32 ∷ (decimal post.to ++ codes ":" ++ t)) (sketch_told post.message)
+
+  posts_told : (posts : List (model.Post Op)) → flat_map post_text (map sketched_post posts) ≡ flat_map spaced (map report.post_text posts)
+  posts_told [] = refl
+  posts_told (post ∷ posts) = ap₂ (λ (a b : Text). a ++ b) (post_told post) (posts_told posts)
+
+  sent_told : (posts : List (model.Post Op)) → sent_text (map sketched_post posts) ≡ flat_map spaced (post_words posts)
+  sent_told [] = refl
+  sent_told (post ∷ posts) = ap (λ t. codes " sent" ++ t) (posts_told (post ∷ posts))
+
+  some_head : (h : script.Head Op) → 0 < length (report.head_words h)
+  some_head (script.Head.UpdateHead i key) = omega arith
+  some_head (script.Head.GetHead i key) = omega arith
+  some_head (script.Head.FlushHead i) = omega arith
+  some_head (script.Head.TickHead i) = omega arith
+  some_head (script.Head.GossipHead i to) = omega arith
+  some_head (script.Head.DeliverHead from to index message) = omega arith
+  some_head script.Head.RoundHead = omega arith
+  some_head (script.Head.LoseHead from to index) = omega arith
+  some_head (script.Head.TimeoutHead i op) = omega arith
+  some_head (script.Head.RemoveHead i) = omega arith
+  some_head (script.Head.JoinHead place) = omega arith
+  some_head (script.Head.RestartHead i) = omega arith
+  some_head (script.Head.InstallHead i view) = omega arith
+  some_head script.Head.SettleHead = omega arith
+
+  head_spaced : (h : script.Head Op) → 32 ∷ words (report.head_words h) ≡ flat_map spaced (report.head_words h)
+  head_spaced h = some_spaced (report.head_words h) (some_head h)
+
+  -- a line of words
+  line_told : (n : Text) (head : script.Head Op) (answer : Text) (more : List Text) → words ((n ∷ report.head_words head) ++ answer ∷ more) ≡ n ++ ((32 ∷ words (report.head_words head)) ++ (spaced answer ++ flat_map spaced more))
+  line_told n head answer more =
+      words_spaced n (report.head_words head ++ answer ∷ more)
+      ∙ ap (λ t. n ++ t) (flat_map-append spaced (report.head_words head) (answer ∷ more) ∙ ap (λ t. t ++ (spaced answer ++ flat_map spaced more)) (sym (head_spaced head)))
+
+  pub event_told : {Kind : Type 0} (D : Replication Kind Op Shown) (n : ℕ) (event : Event) (told : Told Op Shown) → IsLine event told → event_text n event ≡ told_text D shown_text n told
+  event_told D n event told is =
+      let number = decimal n in
+      let answer = answer_text shown_text told.answer in
+      let sent : sent_text event.sent ≡ flat_map spaced (post_words told.posts) = ap sent_text is.sent ∙ sent_told told.posts in
+      ap line_of (
+      ap₂ (λ (h : List Text) (a : Text). number ++ codes " " ++ words h ++ codes " " ++ a ++ sent_text event.sent) (head_told event.head told.head is.head) (ap (answer_text shown_text) (sym is.answer))
+      ∙ regroup number (words (report.head_words told.head)) answer (sent_text event.sent) 32 32
+      ∙ ap (λ t. number ++ ((32 ∷ words (report.head_words told.head)) ++ (spaced answer ++ t))) sent
+      ∙ sym (line_told number told.head answer (post_words told.posts))
+      ∙ ap words (sym (append-nil ((number ∷ report.head_words told.head) ++ answer ∷ post_words told.posts)) ∙ ap (λ ended. (number ∷ report.head_words told.head) ++ answer ∷ post_words told.posts ++ report.ended_words shown_text ended) (sym is.ended)))
+
+  pub lines_told : {Kind : Type 0} (D : Replication Kind Op Shown) (n : ℕ) (events : List Event) (told : List (Told Op Shown)) → AllZip IsLine events told → flat_map (event_text n) events ≡ flat_map (told_text D shown_text n) told
+  lines_told D n [] [] all = refl
+  lines_told D n [] (t ∷ ts) all = absurd all
+  lines_told D n (e ∷ es) [] all = absurd all
+  lines_told D n (e ∷ es) (t ∷ ts) all = ap₂ (λ (a b : Text). a ++ b) (event_told D n e t all.0) (lines_told D n es ts all.1)

@@ -1,0 +1,4 @@
+pub mod Counters
+pub mod Finals
+pub mod Lines
+pub mod Run

@@ -1,0 +1,53 @@
+-- The texts of events, as the lines of a report tell them.
+use Rattle.std.specs.Prelude.{ℕ, List, [], ◌∷◌, ◌++◌, codes, decimal, flat_map, Option, None, Some}
+use Rattle.rd_history.specs.Texts.{Text}
+use Rattle.rd_model.specs.Report.{words, slashed, link_text, line_of, answer_text}
+use Rattle.rd_kinds.specs.ShownText.{shown_text}
+use Rattle.rd_node.specs.declared.message.MessageKind.{MessageKind}
+use Rattle.rd_node.specs.declared.message.MessageKind.TheVariants.{Deltas, Nack, Status, Gossip, Write, WriteAck, WriteNack, Read, ReadAnswer}
+use Rattle.rd_node.specs.declared.message.Sketch.{Sketch}
+use Rattle.rd_world.specs.Lines.{meant_answer}
+use Rattle.rd_world.specs.declared.event.Event.{Event}
+use Rattle.rd_world.specs.declared.event.Head.{Head}
+use Rattle.rd_world.specs.declared.event.Head.TheVariants as head
+use Rattle.rd_world.specs.declared.event.SentTo.{SentTo}
+
+abbrev pub kind_text : MessageKind → ℕ → ℕ → Text
+kind_text Deltas first second = slashed (codes "deltas") (first ∷ second ∷ [])
+kind_text Nack first second = slashed (codes "nack") (first ∷ [])
+kind_text Status first second = slashed (codes "status") (first ∷ [])
+kind_text Gossip first second = slashed (codes "gossip") (first ∷ second ∷ [])
+kind_text Write first second = codes "write"
+kind_text WriteAck first second = codes "write-ack"
+kind_text WriteNack first second = codes "write-nack"
+kind_text Read first second = codes "read"
+kind_text ReadAnswer first second = codes "read-answer"
+
+-- a message by its kind and its numbers
+abbrev pub sketch_text : Sketch → Text
+sketch_text sketch = kind_text sketch.kind sketch.first sketch.second
+
+abbrev pub delivered_words : Option Sketch → List Text
+delivered_words None = []
+delivered_words (Some sketch) = sketch_text sketch ∷ []
+
+abbrev pub head_words : Head → List Text
+head_words (head.Update at key) = codes "update" ∷ decimal at ∷ key ∷ []
+head_words (head.Get at key) = codes "get" ∷ decimal at ∷ key ∷ []
+head_words (head.Flush at) = codes "flush" ∷ decimal at ∷ []
+head_words (head.Deliver from to index sketch) = codes "deliver" ∷ link_text from to index ∷ delivered_words sketch
+head_words (head.Lose from to index) = codes "lose" ∷ link_text from to index ∷ []
+head_words head.Round = codes "round" ∷ []
+
+-- a receiver and the message that it was sent, after a space
+abbrev pub post_text : SentTo → Text
+post_text sent = codes " " ++ decimal sent.to ++ codes ":" ++ sketch_text sent.sketch
+
+-- what was sent, if anything was
+abbrev pub sent_text : List SentTo → Text
+sent_text [] = []
+sent_text (sent ∷ more) = codes " sent" ++ flat_map post_text (sent ∷ more)
+
+-- the line of an event of a step
+abbrev pub event_text : ℕ → Event → Text
+event_text n event = line_of (decimal n ++ codes " " ++ words (head_words event.head) ++ codes " " ++ answer_text shown_text (meant_answer event.answer) ++ sent_text event.sent)

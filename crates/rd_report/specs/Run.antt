@@ -1,0 +1,58 @@
+-- The run that a script asks for, and its report.
+use Rattle.std.specs.Prelude.{◌≡◌, ℕ, suc, false, List, [], ◌∷◌, map, fold, if◌then◌else◌}
+use Rattle.rd_history.specs.Texts.{Text, text_lt}
+use Rattle.rd_model.specs.Entry.{Entry}
+use Rattle.rd_model.specs.DataType.{Replication}
+use Rattle.rd_model.specs.Node.{KeyDecl, Level}
+use Rattle.rd_model.specs.Script.{ScriptStep}
+use Rattle.rd_model.specs.Report.{report}
+use Rattle.rd_kinds.specs.SixKinds.{of_kind}
+use Rattle.rd_kinds.specs.ShownText.{shown_text}
+use Rattle.rd_kinds.specs.declared.kind.Kind.TheVariants.{GCounter}
+use Rattle.rd_kinds.specs.declared.operation.Op.{Op}
+use Rattle.rd_kinds.specs.declared.shown.Shown.{Shown}
+use Rattle.rd_script.specs.declared.script.Script.{Script}
+use Rattle.rd_script.specs.declared.script.ScriptKey.{ScriptKey}
+use Rattle.rd_script.specs.declared.script.Step.{Step}
+use Rattle.rd_script.specs.declared.script.Step.TheVariants.{Update, Get, Flush, Deliver, Lose, Round}
+
+-- growing counters, whose whole entries are sent
+abbrev pub counters : (Unit {0} → Entry Op → List ℕ) → Replication (Unit {0}) Op Shown
+counters digest = record { data_type = of_kind GCounter; digest = digest; log_length = 0 }
+
+abbrev pub step_of : Step → ScriptStep Op
+step_of (Update at key op) = ScriptStep.Update at key op Level.Local
+step_of (Get at key) = ScriptStep.Get at key Level.Local
+step_of (Flush at) = ScriptStep.Flush at
+step_of (Deliver from to index) = ScriptStep.Deliver from to index
+step_of (Lose from to) = ScriptStep.Lose from to
+step_of Round = ScriptStep.Round
+
+abbrev pub decl_of : ScriptKey → KeyDecl (Unit {0})
+decl_of key = record { name = key.key; kind = tt; durable = key.durable }
+
+-- the same key, not durable
+abbrev pub plain_of : ScriptKey → KeyDecl (Unit {0})
+plain_of key = record { name = key.key; kind = tt; durable = false }
+
+-- where a name stands among others: before the first that is greater
+abbrev pub place_in : List Text → Text → ℕ
+place_in [] x = 0
+place_in (y ∷ ys) x = if text_lt x y then 0 else suc (place_in ys x)
+
+-- something with a name, put before the first with a greater name
+abbrev pub placed : {X : Type 0} → (X → Text) → List X → X → List X
+placed name [] x = x ∷ []
+placed name (y ∷ ys) x = if text_lt (name x) (name y) then x ∷ y ∷ ys else y ∷ placed name ys x
+
+abbrev pub ordered : {X : Type 0} → (X → Text) → List X → List X
+ordered name xs = fold (placed name) [] xs
+
+-- the keys in the byte order of their names
+abbrev pub in_order : List ScriptKey → List ScriptKey
+in_order keys = ordered (λ key. key.key) keys
+
+-- whatever the digests of entries are, this is the report of the script's run
+abbrev pub IsReport : Script → List ℕ → Type 0
+IsReport script text =
+    (digest : Unit {0} → Entry Op → List ℕ) → text ≡ report (counters digest) shown_text (λ place. []) script.members (map decl_of (in_order script.keys)) (map step_of script.steps)

@@ -1,0 +1,9 @@
+//! The report of a script's run: the lines of its steps, and what each member holds at the end.
+#![tactic(auto)]
+
+mod lines;
+mod members;
+mod order;
+mod playing;
+
+pub use playing::report;

@@ -1,0 +1,146 @@
+ghost use Rattle.std.specs.Prelude.{◌≡◌, ℕ, List, ◌++◌, flat_map, string_bytes, OnOk};
+ghost use Rattle.std.specs.List.{AllZip};
+ghost use Rattle.rd_model.specs.DataType.{DataType, Replication};
+ghost use Rattle.rd_model.specs.Script.{Told};
+ghost use Rattle.rd_model.specs.Report.{words, reply_text, answer_text, told_text};
+ghost use Rattle.rd_kinds.specs.ShownText.{shown_text};
+ghost use Rattle.rd_kinds.specs.declared.operation.Op.{Op};
+ghost use Rattle.rd_kinds.specs.declared.shown.Shown.{Shown};
+ghost use Rattle.rd_node.specs.Members.{meant};
+ghost use Rattle.rd_world.specs.Lines.{meant_answer, IsLine};
+ghost use Rattle.rd_report.specs.Lines.{sketch_text, head_words, sent_text, event_text};
+
+use rd_bytes::Memory;
+use rd_node::{MessageKind, Reply, Sketch};
+use rd_texts::push_shown;
+use rd_world::{Answer, Event, Head, SentTo};
+use std::alloc::Global;
+
+/// Adds what is printed of a message.
+fn push_sketch(text: &mut String, sketch: Sketch) -> Result<(), Memory>
+    ensures { OnOk result (string_bytes text.new ≡ string_bytes text.old ++ sketch_text sketch) }
+{
+    let first = sketch.first;
+    let second = sketch.second;
+    match sketch.kind {
+        MessageKind::Deltas => write!(text, "deltas/{first}/{second}")?,
+        MessageKind::Nack => write!(text, "nack/{first}")?,
+        MessageKind::Status => write!(text, "status/{first}")?,
+        MessageKind::Gossip => write!(text, "gossip/{first}/{second}")?,
+        MessageKind::Write => text.push_str("write")?,
+        MessageKind::WriteAck => text.push_str("write-ack")?,
+        MessageKind::WriteNack => text.push_str("write-nack")?,
+        MessageKind::Read => text.push_str("read")?,
+        MessageKind::ReadAnswer => text.push_str("read-answer")?,
+    }
+    Ok(())
+}
+
+/// Adds what was done.
+fn push_head(text: &mut String, head: &Head) -> Result<(), Memory>
+    ensures { OnOk result (string_bytes text.new ≡ string_bytes text.old ++ words (head_words head.now)) }
+{
+    match head {
+        Head::Update { at, key } => write!(text, "update {at} {}", key.as_str())?,
+        Head::Get { at, key } => write!(text, "get {at} {}", key.as_str())?,
+        Head::Flush { at } => write!(text, "flush {at}")?,
+        Head::Deliver {
+            from,
+            to,
+            index,
+            sketch,
+        } => {
+            write!(text, "deliver {from}>{to} {index}")?;
+            if let Some(sketch) = sketch {
+                text.push_str(" ")?;
+                push_sketch(text, *sketch)?;
+            }
+        }
+        Head::Lose { from, to, index } => write!(text, "lose {from}>{to} {index}")?,
+        Head::Round => text.push_str("round")?,
+    }
+    Ok(())
+}
+
+/// Adds a member's reply.
+fn push_reply(alloc: Global, text: &mut String, reply: &Reply) -> Result<(), Memory>
+    ensures { OnOk result (string_bytes text.new ≡ string_bytes text.old ++ reply_text shown_text (meant reply.now)) }
+{
+    match reply {
+        Reply::Done => text.push_str("done")?,
+        Reply::Value(shown) => {
+            text.push_str("value ")?;
+            push_shown(alloc, text, shown)?;
+        }
+        Reply::NotFound => text.push_str("not found")?,
+        Reply::UnknownKey => text.push_str("unknown key")?,
+        Reply::WrongKind => text.push_str("wrong kind")?,
+        Reply::Overflow { share, amount } => write!(text, "overflow {share} {amount}")?,
+        Reply::ClockSpent => text.push_str("clock spent")?,
+        Reply::SetFull => text.push_str("set full")?,
+        Reply::Taken => text.push_str("taken")?,
+        Reply::Already => text.push_str("already")?,
+        Reply::NotFromMember => text.push_str("not from member")?,
+    }
+    Ok(())
+}
+
+/// Adds what came of an event.
+fn push_answer(alloc: Global, text: &mut String, answer: &Answer) -> Result<(), Memory>
+    ensures { OnOk result (string_bytes text.new ≡ string_bytes text.old ++ answer_text shown_text (meant_answer answer.now)) }
+{
+    match answer {
+        Answer::Reply(reply) => push_reply(alloc, text, reply)?,
+        Answer::Gone => text.push_str("gone")?,
+        Answer::HistoryFull => text.push_str("history full")?,
+        Answer::NoSuchMessage => text.push_str("no such message")?,
+        Answer::Lost => text.push_str("lost")?,
+        Answer::Nothing => text.push_str("nothing")?,
+    }
+    Ok(())
+}
+
+/// Adds the messages that were sent, each with its receiver.
+fn push_sent(text: &mut String, sent: &[SentTo]) -> Result<(), Memory>
+    ensures { OnOk result (string_bytes text.new ≡ string_bytes text.old ++ sent_text sent.now) }
+{
+    if sent.is_empty() {
+        return Ok(());
+    }
+    text.push_str(" sent")?;
+    for post in sent {
+        let to = post.to.number();
+        write!(text, " {to}:")?;
+        push_sketch(text, post.sketch)?;
+    }
+    Ok(())
+}
+
+/// Adds the line of an event of the step with this number.
+fn push_event(alloc: Global, text: &mut String, number: usize, event: &Event) -> Result<(), Memory>
+    ensures { OnOk result (string_bytes text.new ≡ string_bytes text.old ++ event_text number event.now) }
+{
+    write!(text, "{number} ")?;
+    push_head(text, &event.head)?;
+    text.push_str(" ")?;
+    push_answer(alloc, text, &event.answer)?;
+    push_sent(text, event.sent.as_slice())?;
+    text.push_str("\n")?;
+    Ok(())
+}
+
+/// Adds the lines of the step with this number.
+pub(crate) fn push_lines(
+    alloc: Global,
+    text: &mut String,
+    number: usize,
+    events: &[Event],
+) -> Result<(), Memory>
+    ensures { (D : Replication (Unit {0}) Op Shown) (told : List (Told Op Shown)) → AllZip IsLine events.now told
+        → OnOk result (string_bytes text.new ≡ string_bytes text.old ++ flat_map (told_text D shown_text number) told) }
+{
+    for event in events {
+        push_event(alloc, text, number, event)?;
+    }
+    Ok(())
+}

@@ -1,0 +1,79 @@
+ghost use Rattle.std.specs.Prelude.{◌≡◌, ℕ, List, ◌++◌, string_bytes, OnOk};
+ghost use Rattle.rd_history.specs.Texts.{Text as Name};
+ghost use Rattle.rd_history.specs.History.{History};
+ghost use Rattle.rd_model.specs.Entry.{Entry};
+ghost use Rattle.rd_model.specs.Node.{Node as Member};
+ghost use Rattle.rd_model.specs.World.{World as Modelled};
+ghost use Rattle.rd_model.specs.Report.{node_text, final_block};
+ghost use Rattle.rd_kinds.specs.ShownText.{shown_text};
+ghost use Rattle.rd_kinds.specs.declared.shown.Shown.{Shown};
+ghost use Rattle.rd_node.specs.Members.{whole_entries, StandsForKey, StandsForNode};
+ghost use Rattle.rd_world.specs.Standing.{StandsForWorld};
+ghost use Rattle.rd_report.specs.Finals.{key_line, member_line};
+
+use rd_bytes::Memory;
+use rd_lattice::Replica;
+use rd_node::{KeyState, Node};
+use rd_texts::{push_known, push_marks, push_value};
+use rd_world::World;
+use std::alloc::Global;
+
+/// Adds the line of a key: its value, its records by identity, and its marks.
+fn push_key<T: Replica>(alloc: Global, text: &mut String, key: &KeyState<T>) -> Result<(), Memory>
+    ensures { (kinds : Name → T.Kind) (logs : Name → History T.Op) (entry : Entry T.Op) (flushed : ℕ → ℕ)
+        → StandsForKey T.kind_of T.IsDataOf kinds logs key.now entry flushed
+        → OnOk result (string_bytes text.new ≡ string_bytes text.old ++ key_line T.data_type key.now.name key.now.kind entry) }
+{
+    let entry = key.entry();
+    write!(text, "{} ", key.name().as_str())?;
+    push_value(alloc, text, entry)?;
+    text.push_str(" known ")?;
+    push_known(alloc, text, entry)?;
+    text.push_str(" marks ")?;
+    push_marks(alloc, text, entry)?;
+    text.push_str("\n")?;
+    Ok(())
+}
+
+/// Adds the line of a member: its identity, the place where it runs, and the number of its view.
+fn push_member_line(text: &mut String, id: u8, place: usize, view: u32) -> Result<(), Memory>
+    ensures { OnOk result (string_bytes text.new ≡ string_bytes text.old ++ member_line id place view) }
+{
+    writeln!(text, "member {id} place {place} view {view}")?;
+    Ok(())
+}
+
+/// Adds what a member at a place holds.
+fn push_member<T: Replica>(
+    alloc: Global,
+    text: &mut String,
+    place: usize,
+    member: &Node<T>,
+) -> Result<(), Memory>
+    ensures { (digest : T.Kind → Entry T.Op → List ℕ) (kinds : Name → T.Kind) (logs : Name → History T.Op) (node : Member T.Kind T.Op Shown)
+        → StandsForNode T.kind_of T.IsDataOf kinds logs member.now node
+        → OnOk result (string_bytes text.new ≡ string_bytes text.old ++ node_text (whole_entries T.data_type digest) shown_text place node) }
+{
+    push_member_line(text, member.id().number(), place, member.view())?;
+    for key in member.keys() {
+        push_key(alloc, text, key)?;
+    }
+    Ok(())
+}
+
+/// Adds what all members hold.
+pub(crate) fn push_final_block<T: Replica>(
+    alloc: Global,
+    text: &mut String,
+    world: &World<T>,
+) -> Result<(), Memory>
+    ensures { (digest : T.Kind → Entry T.Op → List ℕ) (kinds : Name → T.Kind) (logs : Name → History T.Op) (end : Modelled T.Kind T.Op Shown)
+        → StandsForWorld T.kind_of T.IsDataOf kinds logs world.now end
+        → OnOk result (string_bytes text.new ≡ string_bytes text.old ++ final_block (whole_entries T.data_type digest) shown_text end) }
+{
+    text.push_str("final view 0\n")?;
+    for (place, member) in world.nodes().iter().enumerate() {
+        push_member(alloc, text, place, member)?;
+    }
+    Ok(())
+}

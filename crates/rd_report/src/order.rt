@@ -1,0 +1,40 @@
+ghost use Rattle.std.specs.Prelude.{◌≡◌, ◌≤◌, map, length, IfOk};
+ghost use Rattle.rd_report.specs.Run.{place_in, plain_of, in_order};
+ghost use Rattle.rd_node.specs.Members.{declared};
+
+use rd_bytes::Memory;
+use rd_counters::GCounter;
+use rd_node::KeyDecl;
+use rd_script::ScriptKey;
+use std::alloc::Global;
+
+/// Where a key with this name is to be put: before the first with a greater name.
+fn place_of(decls: &[KeyDecl<GCounter>], name: &str) -> usize
+    ensures within { result ≤ length decls.now }
+    ensures place { result ≡ place_in (map (λ decl. decl.key) decls.now) name.now }
+{
+    for (i, decl) in decls.iter().enumerate() {
+        if name < decl.key.as_str() {
+            return i;
+        }
+    }
+    decls.len()
+}
+
+/// The keys of a script in the byte order of their names.
+pub(crate) fn in_order(alloc: Global, keys: &[ScriptKey]) -> Result<Vec<KeyDecl<GCounter>>, Memory>
+    ensures { IfOk result (λ decls. map declared decls.items ≡ map plain_of (in_order keys.now)) }
+{
+    let mut decls: Vec<KeyDecl<GCounter>> = Vec::new(alloc);
+    for key in keys {
+        let decl = KeyDecl {
+            key: key.key.copy(alloc)?,
+            kind: (),
+        };
+        let place = place_of(decls.as_slice(), key.key.as_str());
+        if decls.insert(place, decl).is_err() {
+            return Err(Memory);
+        }
+    }
+    Ok(decls)
+}

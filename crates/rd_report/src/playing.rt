@@ -1,0 +1,68 @@
+ghost use Rattle.std.specs.Prelude.{◌≡◌, ◌∷◌, [], ℕ, List, string_bytes, IfOk};
+ghost use Rattle.rd_history.specs.Texts.{Text as Name};
+ghost use Rattle.rd_history.specs.History.{History};
+ghost use Rattle.rd_model.specs.Entry.{Entry};
+ghost use Rattle.rd_model.specs.World.{World as Modelled};
+ghost use Rattle.rd_model.specs.Script.{Playing, IsRun, played};
+ghost use Rattle.rd_kinds.specs.declared.operation.Op.{Op};
+ghost use Rattle.rd_kinds.specs.declared.shown.Shown.{Shown};
+ghost use Rattle.rd_script.specs.WellFormed.{IsWellFormed};
+ghost use Rattle.rd_world.specs.Ways.{Throughout};
+ghost use Rattle.rd_report.specs.Run.{counters, step_of, IsReport};
+ghost use Rattle.rd_report.specs.Counters.{StandsFor, Plays};
+
+use crate::lines::push_lines;
+use crate::members::push_final_block;
+use crate::order::in_order;
+use rd_bytes::{Items, Memory};
+use rd_counters::GCounter;
+use rd_script::{Script, Step};
+use rd_world::{Event, Events, World};
+use std::alloc::Global;
+
+/// A list of one event.
+fn alone(alloc: Global, event: Event) -> Result<Events, Memory>
+    ensures { IfOk result (λ events. events ≡ event ∷ []) }
+{
+    let mut events = Items::new(alloc);
+    events.push(event)?;
+    Ok(events)
+}
+
+/// Plays a step of a script.
+fn play(alloc: Global, world: &mut World<GCounter>, step: &Step) -> Result<Events, Memory>
+    ensures { (digest : Unit {0} → Entry Op → List ℕ) (logs : Name → History Op) (first : Modelled (Unit {0}) Op Shown) (before : Playing (Unit {0}) Op Shown)
+        → let D = counters digest in let after = played D before (step_of step.now) in
+        IsRun D first before.events before.world → Throughout D logs first after → StandsFor logs world.old before.world → IfOk result (Plays logs before after world.new) }
+{
+    match step {
+        Step::Update { at, key, op } => alone(alloc, world.update(*at, key, op)?),
+        Step::Get { at, key } => alone(alloc, world.get(*at, key)?),
+        Step::Flush { at } => alone(alloc, world.flush(*at)?),
+        Step::Deliver { from, to, index } => alone(alloc, world.deliver(*from, *to, *index)?),
+        Step::Lose { from, to } => alone(alloc, world.lose(*from, *to)?),
+        Step::Round => world.round(),
+    }
+}
+
+/// The report of a script's run.
+///
+/// It has a line for each event of each step, and then for each member a block with what it holds of each key.
+///
+/// # Errors
+///
+/// Memory was refused.
+pub fn report(alloc: Global, script: &Script) -> Result<String, Memory>
+    requires { IsWellFormed script.now }
+    ensures { IfOk result (λ text. IsReport script.now (string_bytes text)) }
+{
+    let keys = in_order(alloc, script.keys.as_slice())?;
+    let mut world = World::start(alloc, script.members, &keys)?;
+    let mut text = String::new(alloc);
+    for (i, step) in script.steps.as_slice().iter().enumerate() {
+        let events = play(alloc, &mut world, step)?;
+        push_lines(alloc, &mut text, i + 1, events.as_slice())?;
+    }
+    push_final_block(alloc, &mut text, &world)?;
+    Ok(text)
+}

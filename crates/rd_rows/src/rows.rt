@@ -1,0 +1,33 @@
+ghost use Rattle.rd_rows.specs.Rows.{Meanings, EmptyScript, OneMember, Repeats, AddWins, DeltaOvertakesItsCause, PrunedCounter, BlockedPrune, ReplacedDot, OwnerDeparts, LateMessages, RestartedMember, MajorityWriteAndRead, TimedOutWrite, RegisterWrites, Refusals, OtherKinds, FiftyDeltas, FiftyOneDeltas, Carts, FailingStore, FailingLoad, GeneratedScript, TwoMembers, RegisterByWholeEntries, AddWinsByWholeEntries, GossipedCounter, ThreeMembers};
+
+/// What the model makes of worked scripts.
+pub fn worked_rows()
+    ensures meanings { Meanings }
+    ensures empty_script { EmptyScript }
+    ensures one_member { OneMember }
+    ensures repeats { Repeats }
+    ensures add_wins { AddWins }
+    ensures delta_overtakes_its_cause { DeltaOvertakesItsCause }
+    ensures pruned_counter { PrunedCounter }
+    ensures blocked_prune { BlockedPrune }
+    ensures replaced_dot { ReplacedDot }
+    ensures owner_departs { OwnerDeparts }
+    ensures late_messages { LateMessages }
+    ensures restarted_member { RestartedMember }
+    ensures majority_write_and_read { MajorityWriteAndRead }
+    ensures timed_out_write { TimedOutWrite }
+    ensures register_writes { RegisterWrites }
+    ensures refusals { Refusals }
+    ensures other_kinds { OtherKinds }
+    ensures fifty_deltas { FiftyDeltas }
+    ensures fifty_one_deltas { FiftyOneDeltas }
+    ensures carts { Carts }
+    ensures failing_store { FailingStore }
+    ensures failing_load { FailingLoad }
+    ensures generated_script { GeneratedScript }
+    ensures two_members { TwoMembers }
+    ensures register_by_whole_entries { RegisterByWholeEntries }
+    ensures add_wins_by_whole_entries { AddWinsByWholeEntries }
+    ensures gossiped_counter { GossipedCounter }
+    ensures three_members { ThreeMembers }
+{}

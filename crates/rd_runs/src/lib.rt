@@ -1,0 +1,9 @@
+//! What holds in every run of the model. There is no code here: the functions carry the theorems.
+#![tactic(auto)]
+
+mod laws;
+
+pub use laws::{
+    logs_throughout, one_log, own_marks, pruning_safety, same_taken_same_shown, scripts_are_runs,
+    unpruned_marks,
+};

@@ -1,0 +1,5 @@
+pub mod Fields
+pub mod Operations
+pub mod Reading
+pub mod Refusals
+pub mod WellFormed

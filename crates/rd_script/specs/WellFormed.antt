@@ -1,0 +1,40 @@
+-- The bounds that every script keeps.
+use Rattle.std.specs.Prelude.{◌≡◌, ◌≢◌, ℕ, ◌-◌, ◌^◌, ◌<◌, ◌≤◌, length, false, All, AllPairs, ⊤}
+use Rattle.rd_kinds.specs.declared.operation.Op.{Op}
+use Rattle.rd_kinds.specs.declared.operation.Op.TheVariants.{Increment, Decrement, Add, Remove, Enable, Assign}
+use Rattle.rd_script.specs.declared.script.Script.{Script}
+use Rattle.rd_script.specs.declared.script.Step.{Step}
+use Rattle.rd_script.specs.declared.script.Step.TheVariants.{Update, Get, Flush, Deliver, Lose, Round}
+
+-- what a counter takes at once
+abbrev pub IsAmount : ℕ → Type 0
+IsAmount n = (1 ≤ n) × (n ≤ 2 ^ 63 - 1)
+
+abbrev pub IsOperation : Op → Type 0
+IsOperation (Increment by) = IsAmount by
+IsOperation (Decrement by) = IsAmount by
+IsOperation (Add element) = ⊤
+IsOperation (Remove element) = ⊤
+IsOperation Enable = ⊤
+IsOperation (Assign text now) = ⊤
+
+-- there are 64 identities
+abbrev pub IsIdentity : ℕ → Type 0
+IsIdentity i = i < 64
+
+abbrev pub IsStep : Step → Type 0
+IsStep (Update at key op) = IsIdentity at × IsOperation op
+IsStep (Get at key) = IsIdentity at
+IsStep (Flush at) = IsIdentity at
+IsStep (Deliver from to index) = IsIdentity from × IsIdentity to
+IsStep (Lose from to) = IsIdentity from × IsIdentity to
+IsStep Round = ⊤
+
+-- members and keys within their bounds, names that differ, keys that are not stored, and steps within their bounds
+pub record IsWellFormed (script : Script) : Type 0 where
+  pub members : (1 ≤ script.members) × (script.members ≤ 8)
+  pub key_count : (1 ≤ length script.keys) × (length script.keys ≤ 16)
+  pub key_names : AllPairs (λ a b. a.key ≢ b.key) script.keys
+  pub plain : All (λ key. key.durable ≡ false) script.keys
+  pub step_count : length script.steps ≤ 4096
+  pub steps : All IsStep script.steps

@@ -1,0 +1,20 @@
+//! Scripts: what the bytes of a JSON text say is to be done.
+//!
+//! A script is one JSON object of a number of members, a list of keys and a list of steps. Its rules have numbers,
+//! and a text that is no script is refused with the first rule that it breaks and the step at which it does.
+#![tactic(auto)]
+
+mod fault;
+mod fields;
+mod keys;
+mod operations;
+mod read;
+mod script;
+mod steps;
+
+pub use fault::Rule;
+pub use read::{ScriptError, read_script};
+pub use script::{Script, ScriptKey, Step};
+
+#[cfg(test)]
+mod tests;

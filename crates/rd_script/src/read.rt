@@ -1,0 +1,97 @@
+ghost use Rattle.std.specs.Prelude.{◌≡◌, ◌≤◌, length, IfOk, IfErr};
+ghost use Rattle.serde_json.specs.Find.{get};
+ghost use Rattle.serde_json.specs.View.{view, items_view};
+ghost use Rattle.rd_script.specs.Fields.{Finds, Gives};
+ghost use Rattle.rd_script.specs.Reading.{step_list_of, script_of, Spells, Breaks, HasNoReading};
+ghost use Rattle.rd_script.specs.Refusals.{MatchError};
+ghost use Rattle.rd_script.specs.WellFormed.{IsWellFormed};
+
+use crate::fault::{Fault, Rule};
+use crate::fields::{are_objects, has_names, list, whole};
+use crate::keys::all_keys;
+use crate::script::Script;
+use crate::steps::{MOST_STEPS, all_steps};
+use serde_json::Value;
+use std::alloc::Global;
+
+/// Why no script was read.
+#[derive(Clone, Copy, Debug, PartialEq, Eq)]
+pub enum ScriptError {
+    /// The bytes are no JSON text.
+    NotJson,
+    /// The first rule that is broken, and at which step, from 1. Step 0 is the script as a whole.
+    NotAScript { step: u32, rule: u8 },
+    /// Memory was refused.
+    Memory,
+}
+
+const NAMES: Rule = Rule { step: 0, number: 1 };
+
+const MEMBERS: Rule = Rule { step: 0, number: 2 };
+
+const MOST_MEMBERS: u64 = 8;
+
+const KEYS: Rule = Rule { step: 0, number: 3 };
+
+const MOST_KEYS: usize = 16;
+
+const STEPS: Rule = Rule { step: 0, number: 4 };
+
+fn step_list<'v>(value: &'v Value) -> Result<&'v [Value], Rule>
+    ensures items { Finds (λ list. items_view list.now) result (step_list_of (view value.now)) }
+    ensures bound { IfOk result (λ list. length list.now ≤ MOST_STEPS) }
+{
+    let list = list(value, "steps", 0, MOST_STEPS, STEPS)?;
+    if !are_objects(list) {
+        return Err(STEPS);
+    }
+    Ok(list)
+}
+
+#[tactic(auto, unfolding(crate::specs::Reading::script_of))]
+fn script(alloc: Global, value: &Value) -> Result<Script, Fault>
+    ensures value { Gives (λ s. s) result (script_of (view value.now)) }
+    ensures bounds { IfOk result IsWellFormed }
+{
+    if !has_names(value, &["keys", "members", "steps"], &[]) {
+        return Err(Fault::Breaks(NAMES));
+    }
+    let members = whole(value, "members", 1, MOST_MEMBERS, MEMBERS)? as u8;
+    let keys = all_keys(alloc, list(value, "keys", 1, MOST_KEYS, KEYS)?)?;
+    let steps = all_steps(alloc, step_list(value)?)?;
+    Ok(Script {
+        members,
+        keys,
+        steps,
+    })
+}
+
+/// The script that the bytes spell.
+///
+/// # Errors
+///
+/// `NotJson` where the bytes are no JSON text, `NotAScript` with the first rule that they break and its step, and
+/// `Memory` where memory was refused.
+pub fn read_script(alloc: Global, bytes: &[u8]) -> Result<Script, ScriptError>
+    ensures script { IfOk result (Spells bytes.now) }
+    ensures bounds { IfOk result IsWellFormed }
+    ensures refused { IfErr result (MatchError (HasNoReading bytes.now) (Breaks bytes.now)) }
+{
+    match Value::from_slice(alloc, bytes) {
+        Ok(value) => match script(alloc, &value) {
+            Ok(script) => Ok(script),
+            Err(Fault::Breaks(rule)) => Err(ScriptError::NotAScript {
+                step: rule.step,
+                rule: rule.number,
+            }),
+            Err(Fault::Memory) => Err(ScriptError::Memory),
+        },
+        Err(error) => {
+            if error.is_memory() {
+                Err(ScriptError::Memory)
+            } else {
+                Err(ScriptError::NotJson)
+            }
+        }
+    }
+}

@@ -1,0 +1,158 @@
+use crate::{ScriptError, Step, read_script};
+use rd_kinds::Op;
+use std::alloc::Global;
+use std::test::Fail;
+
+// What is said of a script, before the script.
+const SCRIPTS: &str = r#"not json: {"members":1
+not json: {"members":1,"keys":[],"steps":[]} 1
+not json: {"members":1e999,"keys":[],"steps":[]}
+step 0 rule 1: []
+step 0 rule 1: {"members":1,"keys":[]}
+step 0 rule 1: {"members":9,"keys":[],"steps":[],"x":0}
+step 0 rule 2: {"members":0,"keys":[],"steps":[]}
+step 0 rule 2: {"members":9,"keys":[],"steps":[]}
+step 0 rule 2: {"members":1.0,"keys":[],"steps":[]}
+step 0 rule 3: {"members":1,"keys":[],"steps":7}
+step 0 rule 3: {"members":1,"keys":[{"key":"","kind":"gcounter"}],"steps":[]}
+step 0 rule 3: {"members":1,"keys":[{"key":"A","kind":"gcounter"}],"steps":[]}
+step 0 rule 3: {"members":1,"keys":[{"key":"a","kind":"counter"}],"steps":[]}
+step 0 rule 3: {"members":1,"keys":[{"key":"a","kind":"gcounter","durable":false}],"steps":[]}
+step 0 rule 3: {"members":1,"keys":[{"key":"a","kind":"gcounter"},{"key":"a","kind":"gcounter"}],"steps":[]}
+step 0 rule 4: {"members":1,"keys":[{"key":"a","kind":"gcounter"}],"steps":{}}
+step 0 rule 4: {"members":1,"keys":[{"key":"a","kind":"gcounter"}],"steps":[{},7]}
+1 2 0: {"members":1,"keys":[{"key":"a-b_9","kind":"gcounter"},{"key":"b","kind":"gcounter"}],"steps":[]}
+8 1 0: {"members":9,"members":8,"keys":[{"key":"a","kind":"gcounter"}],"steps":[]}"#;
+
+// What is said of a script with these steps, before the steps.
+const STEPS: &str = r#"step 1 rule 5: {}
+step 1 rule 5: {"do":7}
+step 1 rule 5: {"do":"settle"}
+step 1 rule 5: {"do":"update","at":64}
+step 1 rule 5: {"do":"update","op":"set"}
+step 1 rule 5: {"do":"update","op":"enable"}
+step 2 rule 6: {"do":"round"},{"do":"round","at":0}
+step 1 rule 6: {"do":"get","at":64}
+step 1 rule 6: {"do":"get","at":0,"key":"n","level":"local"}
+step 1 rule 6: {"do":"lose","from":0,"to":1,"index":0}
+step 1 rule 7: {"do":"get","at":64,"key":""},{}
+step 1 rule 7: {"do":"flush","at":-1}
+step 1 rule 7: {"do":"flush","at":1.0}
+step 1 rule 7: {"do":"flush","at":1e0}
+step 1 rule 7: {"do":"deliver","from":0,"to":1,"index":null}
+step 1 rule 7: {"do":"deliver","from":0,"to":1,"index":4294967296}
+step 1 rule 7: {"do":"deliver","from":64,"to":1}
+step 1 rule 7: {"do":"lose","from":0,"to":64}
+step 1 rule 8: {"do":"get","at":0,"key":"N"}
+step 1 rule 8: {"do":"get","at":0,"key":"abcdefghijklmnopqrstuvwxyz0123456"}
+step 1 rule 8: {"do":"update","op":"increment","at":0,"key":"","by":0}
+step 1 rule 10: {"do":"update","op":"increment","at":0,"key":"n","by":0}
+step 1 rule 10: {"do":"update","op":"increment","at":0,"key":"n","by":9223372036854775808}
+step 1 rule 10: {"do":"update","op":"increment","at":0,"key":"n","by":99999999999999999999}
+8 1 1: {"do":"get","at":0,"key":"not-declared"}
+8 1 0: "#;
+
+// A step as it is read, before the step.
+const FORMS: &str =
+    r#"update 63 n increment 9223372036854775807: {"at":63,"by":9223372036854775807,"do":"update","key":"n","op":"increment"}
+get 0 zz: {"at":0,"do":"get","key":"zz"}
+flush 1: {"at":1,"do":"flush"}
+deliver 1 2: {"do":"deliver","from":1,"to":2}
+deliver 2 1 index 4294967295: {"do":"deliver","from":2,"index":4294967295,"to":1}
+lose 1 2: {"do":"lose","from":1,"to":2}
+round: {"do":"round"}"#;
+
+// What is said of a script: its fault, or how many members, keys and steps it has.
+fn told(alloc: Global, text: &str) -> Result<String, Fail> {
+    let told = match read_script(alloc, text.as_bytes()) {
+        Ok(script) => {
+            let keys = script.keys.len();
+            format!(in alloc; "{} {keys} {}", script.members, script.steps.len())?
+        }
+        Err(ScriptError::NotAScript { step, rule }) => format!(in alloc;
+            "step {step} rule {rule}"
+        )?,
+        Err(ScriptError::NotJson) => String::from_str(alloc, "not json")?,
+        Err(ScriptError::Memory) => String::from_str(alloc, "memory")?,
+    };
+    Ok(told)
+}
+
+fn operation_line(alloc: Global, op: &Op) -> Result<String, Fail> {
+    let line = match op {
+        Op::Increment(by) => format!(in alloc; "increment {by}")?,
+        _ => String::from_str(alloc, "another operation")?,
+    };
+    Ok(line)
+}
+
+fn line(alloc: Global, step: &Step) -> Result<String, Fail> {
+    let line = match step {
+        Step::Update { at, key, op } => {
+            let op = operation_line(alloc, op)?;
+            format!(in alloc; "update {at} {} {op}", key.as_str())?
+        }
+        Step::Get { at, key } => format!(in alloc; "get {at} {}", key.as_str())?,
+        Step::Flush { at } => format!(in alloc; "flush {at}")?,
+        Step::Deliver { from, to, index } => match index {
+            Some(index) => format!(in alloc; "deliver {from} {to} index {index}")?,
+            None => format!(in alloc; "deliver {from} {to}")?,
+        },
+        Step::Lose { from, to } => format!(in alloc; "lose {from} {to}")?,
+        Step::Round => String::from_str(alloc, "round")?,
+    };
+    Ok(line)
+}
+
+// A script of eight members and one key with these steps.
+fn with_steps(alloc: Global, steps: &str) -> Result<String, Fail> {
+    let text = format!(in alloc;
+        "{{\"members\":8,\"keys\":[{{\"key\":\"n\",\"kind\":\"gcounter\"}}],\"steps\":[{steps}]}}"
+    )?;
+    Ok(text)
+}
+
+#[test]
+fn tells_the_first_rule_that_a_script_breaks(rt: HostRuntime) -> Result<(), Fail> {
+    let alloc = rt.alloc();
+    for (want, text) in SCRIPTS.lines().filter_map(|row| row.split_once(": ")) {
+        let told = told(alloc, text)?;
+        assert_eq!(rt; told.as_str(), want, "at {text}");
+    }
+    for (want, steps) in STEPS.lines().filter_map(|row| row.split_once(": ")) {
+        let text = with_steps(alloc, steps)?;
+        let told = told(alloc, text.as_str())?;
+        assert_eq!(rt; told.as_str(), want, "at {steps}");
+    }
+    Ok(())
+}
+
+#[test]
+fn reads_each_form(rt: HostRuntime) -> Result<(), Fail> {
+    let alloc = rt.alloc();
+    for (want, step) in FORMS.lines().filter_map(|row| row.split_once(": ")) {
+        let text = with_steps(alloc, step)?;
+        let script = read_script(alloc, text.as_bytes())?;
+        assert_eq!(rt; script.steps.len(), 1, "at {step}");
+        for step in script.steps.as_slice() {
+            let line = line(alloc, step)?;
+            assert_eq!(rt; line.as_str(), want);
+        }
+    }
+    Ok(())
+}
+
+#[test]
+fn bounds_the_number_of_steps(rt: HostRuntime) -> Result<(), Fail> {
+    let alloc = rt.alloc();
+    for (count, want) in [(4096, "8 1 4096"), (4097, "step 0 rule 4")] {
+        let mut steps = String::from_str(alloc, "{\"do\":\"round\"}")?;
+        for _ in 1..count {
+            steps.push_str(",{\"do\":\"round\"}")?;
+        }
+        let text = with_steps(alloc, steps.as_str())?;
+        let told = told(alloc, text.as_str())?;
+        assert_eq!(rt; told.as_str(), want);
+    }
+    Ok(())
+}

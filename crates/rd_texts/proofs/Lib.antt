@@ -1,0 +1,3 @@
+pub mod MarkTexts
+pub mod Ranges
+pub mod Records

@@ -1,0 +1,120 @@
+-- What is due is what the bytes of a source call for, unless a read failed or memory was refused.
+use Rattle.std.proofs.Common.{◌≡◌, ℕ, ◌+◌, ◌<◌, ◌≤◌, ◌⊎◌, inl, inr, List, [], ◌++◌, length, length-append, append-nil, String, Global, string_bytes, arith, refl, sym, ap, subst, ◌∙◌, None, Some, Ok, Err, MatchResult}
+use Rattle.std.proofs.lemmas.Option.{none-some}
+use Rattle.std.specs.Option.{unwrap_or}
+use Rattle.std.specs.Io.KnownBytes.{Appends, Consumes}
+use Rattle.std.specs.declared.option.Option.{Option}
+use Rattle.rd_outside.specs.Causes.{Rose}
+use Rattle.rd_outside.specs.Transfers.{ReadsToEnd}
+use Rattle.rd_script.specs.declared.script.Script.{Script}
+use Rattle.rd_script.specs.declared.fault.Rule.{Rule}
+use Rattle.rd_script.specs.Reading.{Spells, Breaks, HasNoReading}
+use Rattle.rd_top.specs.Status.{code_of}
+use Rattle.rd_top.specs.Answers.{IsPlain, IsReported, CallsFor, IsUnlessRefused, limit, done, not_json, not_a_script, too_long}
+use Rattle.rd_top.specs.Due.{IsDue, status_due, text_due}
+use Rattle.rd_top.specs.declared.due.Due.{Due}
+use Rattle.rd_top.specs.declared.due.Due.TheVariants.{Report, BadWords, NotJson, NotAScript, ReadFailed, TooLong, Memory}
+use Rattle.rd_top.specs.declared.status.Status.{Status}
+use Rattle.rd_top.specs.declared.status.Status.TheVariants as status
+
+-- what a source that tells its bytes gave to its end
+all_read : (bytes read : List ℕ) (new : Option (List ℕ)) → ReadsToEnd (Some bytes) new read → read ≡ bytes
+all_read bytes read None h = absurd h.consumed
+all_read bytes read (Some rest) h = sym (h.consumed ∙ ap (λ l. read ++ l) h.at_end ∙ append-nil read)
+
+-- more was read than a script may have, so there was more
+more_read : (bytes read : List ℕ) (new : Option (List ℕ)) → Consumes (Some bytes) new read → length read ≡ limit + 1 → limit < length bytes
+more_read bytes read None h long = absurd h
+more_read bytes read (Some rest) h long = rw h (omega (arith, long, length-append read rest))
+
+same_some : {A : Type 0} (x y : A) → Some x ≡ Some y → x ≡ y
+same_some x y e = ap (λ o. unwrap_or o x) e
+
+ok_err : {A B : Type 0} (x : A) (y : B) → Ok x ≡ Err y → ⊥
+ok_err x y e = subst (λ r. MatchResult r (λ _. Unit {0}) (λ _. ⊥)) e tt
+
+-- bytes that spell a script, break a rule or have no reading do one of these alone
+spells_json : (bytes : List ℕ) (script : Script) → Spells bytes script → HasNoReading bytes → ⊥
+spells_json bytes script h none = none-some h.0 (sym (none h.1.0) ∙ h.1.1)
+
+breaks_json : (bytes : List ℕ) (rule : Rule) → Breaks bytes rule → HasNoReading bytes → ⊥
+breaks_json bytes rule h none = none-some h.0 (sym (none h.1.0) ∙ h.1.1)
+
+spells_breaks : (bytes : List ℕ) (script : Script) (rule : Rule) → Spells bytes script → Breaks bytes rule → ⊥
+spells_breaks bytes script rule h k =
+    let same : h.0 ≡ k.0 = same_some h.0 k.0 (sym h.1.1 ∙ k.1.1) in
+    ok_err script rule (sym h.2 ∙ rw same k.2)
+
+report_called : (bytes : List ℕ) (script : Script) (wanted : Status) → length bytes ≤ limit → Spells bytes script → CallsFor bytes wanted → status.Done ≡ wanted
+report_called bytes script _ within h (done other short k) = refl
+report_called bytes script _ within h (not_json short k) = absurd (spells_json bytes script h k)
+report_called bytes script _ within h (not_a_script rule short k) = absurd (spells_breaks bytes script rule h k)
+report_called bytes script _ within h (too_long long) = absurd (omega arith)
+
+json_called : (bytes : List ℕ) (wanted : Status) → length bytes ≤ limit → HasNoReading bytes → CallsFor bytes wanted → status.NotJson ≡ wanted
+json_called bytes _ within h (done script short k) = absurd (spells_json bytes script k h)
+json_called bytes _ within h (not_json short k) = refl
+json_called bytes _ within h (not_a_script rule short k) = absurd (breaks_json bytes rule k h)
+json_called bytes _ within h (too_long long) = absurd (omega arith)
+
+script_called : (bytes : List ℕ) (rule : Rule) (wanted : Status) → length bytes ≤ limit → Breaks bytes rule → CallsFor bytes wanted → status.NotAScript ≡ wanted
+script_called bytes rule _ within h (done script short k) = absurd (spells_breaks bytes script rule k h)
+script_called bytes rule _ within h (not_json short k) = absurd (breaks_json bytes rule h k)
+script_called bytes rule _ within h (not_a_script other short k) = refl
+script_called bytes rule _ within h (too_long long) = absurd (omega arith)
+
+length_called : (bytes : List ℕ) (wanted : Status) → limit < length bytes → CallsFor bytes wanted → status.TooLong ≡ wanted
+length_called bytes _ more (done script short k) = absurd (omega arith)
+length_called bytes _ more (not_json short k) = absurd (omega arith)
+length_called bytes _ more (not_a_script rule short k) = absurd (omega arith)
+length_called bytes _ more (too_long long) = refl
+
+pub status_called : (words : List (String Global)) (bytes : List ℕ) (new : Option (List ℕ)) (before now : ℕ) (due : Due) (wanted : Status) → IsDue words (Some bytes) new before now due → IsPlain words → CallsFor bytes wanted → (status_due due ≡ wanted) ⊎ (((status_due due ≡ status.ReadFailed) × Rose before now) ⊎ (status_due due ≡ status.Memory))
+status_called words bytes new before now (Report text) wanted h plain calls =
+    let all = all_read bytes h.1.bytes new h.1.read.whole in
+    inl (report_called bytes h.1.script wanted (rw (← all) h.1.read.within) (rw (← all) h.1.spelled) calls)
+status_called words bytes new before now BadWords wanted h plain calls = absurd (h plain)
+status_called words bytes new before now NotJson wanted h plain calls =
+    let all = all_read bytes h.1.0 new h.1.1.whole in
+    inl (json_called bytes wanted (rw (← all) h.1.1.within) (rw (← all) h.1.2) calls)
+status_called words bytes new before now NotAScript wanted h plain calls =
+    let all = all_read bytes h.1.0 new h.1.2.whole in
+    inl (script_called bytes h.1.1 wanted (rw (← all) h.1.2.within) (rw (← all) h.1.3) calls)
+status_called words bytes new before now ReadFailed wanted h plain calls = inr (inl (refl, h.1))
+status_called words bytes new before now TooLong wanted h plain calls =
+    inl (length_called bytes wanted (more_read bytes h.1.0 new h.1.2 h.1.1) calls)
+status_called words bytes new before now Memory wanted h plain calls = inr (inr refl)
+
+-- the number that is answered, where all that was due was written
+pub answered : (read_rose write_rose : Type 0) (given wanted : Status) (result : ℕ) → result ≡ code_of given → (given ≡ wanted) ⊎ (((given ≡ status.ReadFailed) × read_rose) ⊎ (given ≡ status.Memory)) → IsUnlessRefused read_rose write_rose wanted result
+answered read_rose write_rose given wanted result code (inl same) = inl (code ∙ ap code_of same)
+answered read_rose write_rose given wanted result code (inr (inl failed)) = inr (inl (code ∙ ap code_of failed.0, failed.1))
+answered read_rose write_rose given wanted result code (inr (inr refused)) = inr (inr (inr (code ∙ ap code_of refused)))
+
+-- what a source that tells its bytes has left at its end
+none_left : (bytes read : List ℕ) (new : Option (List ℕ)) → ReadsToEnd (Some bytes) new read → new ≡ Some []
+none_left bytes read None h = absurd h.consumed
+none_left bytes read (Some rest) h = ap Some h.at_end
+
+grown : (before text : List ℕ) (new : Option (List ℕ)) → Appends (Some before) new text → new ≡ Some (before ++ text)
+grown before text None h = absurd h
+grown before text (Some all) h = ap Some h
+
+-- what status 0 says of told bytes
+pub is_reported : (words : List (String Global)) (bytes before : List ℕ) (left written : Option (List ℕ)) (faults faults_now : ℕ) (due : Due) → IsDue words (Some bytes) left faults faults_now due → code_of (status_due due) ≡ 0 → Appends (Some before) written (text_due due) → IsReported bytes before left written
+is_reported words bytes before left written faults faults_now (Report text) h none w =
+    let all = all_read bytes h.1.bytes left h.1.read.whole in
+    record {
+      script = h.1.script;
+      text = string_bytes text;
+      spelled = rw (← all) h.1.spelled;
+      reported = h.1.reported;
+      all_read = none_left bytes h.1.bytes left h.1.read.whole;
+      all_written = grown before (string_bytes text) written w;
+    }
+is_reported words bytes before left written faults faults_now BadWords h none w = absurd (omega arith)
+is_reported words bytes before left written faults faults_now NotJson h none w = absurd (omega arith)
+is_reported words bytes before left written faults faults_now NotAScript h none w = absurd (omega arith)
+is_reported words bytes before left written faults faults_now ReadFailed h none w = absurd (omega arith)
+is_reported words bytes before left written faults faults_now TooLong h none w = absurd (omega arith)
+is_reported words bytes before left written faults faults_now Memory h none w = absurd (omega arith)

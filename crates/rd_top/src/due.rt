@@ -1,0 +1,45 @@
+use crate::status::Status;
+
+/// What is to be written, and why.
+#[derive(Drop)]
+pub enum Due {
+    Report(String),
+    BadWords,
+    NotJson,
+    NotAScript,
+    ReadFailed,
+    TooLong,
+    Memory,
+}
+
+impl Due {
+    ghost use Rattle.std.specs.Prelude.{◌≡◌};
+    ghost use Rattle.rd_top.specs.Due.{text_due, status_due};
+
+    pub fn text(&self) -> &str
+        ensures { result.now ≡ text_due self.now }
+    {
+        match self {
+            Due::Report(text) => text.as_str(),
+            Due::BadWords => "bad words\n",
+            Due::NotJson => "not json\n",
+            Due::NotAScript => "not a script\n",
+            Due::TooLong => "too long\n",
+            Due::ReadFailed | Due::Memory => "",
+        }
+    }
+
+    pub fn status(&self) -> Status
+        ensures { result ≡ status_due self.now }
+    {
+        match self {
+            Due::Report(_) => Status::Done,
+            Due::BadWords => Status::Usage,
+            Due::NotJson => Status::NotJson,
+            Due::NotAScript => Status::NotAScript,
+            Due::ReadFailed => Status::ReadFailed,
+            Due::TooLong => Status::TooLong,
+            Due::Memory => Status::Memory,
+        }
+    }
+}

@@ -1,0 +1,13 @@
+//! The top call: from the bytes of a script on a source to the bytes of its report on a sink.
+#![tactic(auto)]
+
+mod answer;
+mod due;
+mod status;
+#[cfg(test)]
+mod tests;
+mod top;
+mod words;
+
+pub use status::Status;
+pub use top::replicate_plain;

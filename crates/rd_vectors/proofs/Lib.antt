@@ -1,0 +1,6 @@
+pub mod Laws
+pub mod Views
+pub mod Joins
+pub mod Sets
+pub mod Walks
+pub mod Seqs

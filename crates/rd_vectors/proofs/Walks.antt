@@ -1,0 +1,145 @@
+-- Going over the identities, from 0 up.
+use Rattle.std.proofs.Common.{rules, nat_lt, Some, None, find, ◌≤◌, cond, List, not, inl, inr, ◌≡◌, ℕ, zero, suc, ◌+◌, ◌<◌, Bool, true, false, ◌&&◌, ◌||◌, [], ◌∷◌, ◌++◌, arith, refl, ap, sym, ◌∙◌, ⊎_elim}
+use Rattle.std.specs.List.{range_with_len, list_any, list_all}
+use Rattle.std.proofs.lemmas.Bool.{cases_eq, cases_Bool}
+use Rattle.std.proofs.lemmas.List.Folds.{list_any-append, list_all-append}
+use Rattle.rd_history.specs.Vector.{VersionVector, first_lacking}
+use Rattle.rd_history.specs.Table.{identity_limit, identities}
+
+pub range_more : (first n : ℕ) → range_with_len first (n + 1) ≡ range_with_len first n ++ (first + n) ∷ []
+range_more first zero = let e : first ≡ first + 0 = omega arith in ap (λ m. m ∷ []) e
+range_more first (suc n) =
+    let a : suc n + 1 ≡ suc (n + 1) = omega arith in
+    let b : first + 1 + n ≡ first + suc n = omega arith in
+    rw a (ap (λ xs. first ∷ xs) (range_more (first + 1) n ∙ ap (λ m. range_with_len (first + 1) n ++ m ∷ []) b))
+
+or_none : (b : Bool) → (b || false) ≡ b
+or_none true = refl
+or_none false = refl
+
+and_none : (b : Bool) → (b && true) ≡ b
+and_none true = refl
+and_none false = refl
+
+-- one more identity passed
+pub any_more : (test : ℕ → Bool) (n : ℕ) → list_any test (range_with_len 0 (n + 1)) ≡ (list_any test (range_with_len 0 n) || test n)
+any_more test n =
+    let e : 0 + n ≡ n = omega arith in
+    ap (list_any test) (range_more 0 n ∙ ap (λ m. range_with_len 0 n ++ m ∷ []) e) ∙ list_any-append test (range_with_len 0 n) (n ∷ []) ∙ ap (λ b. list_any test (range_with_len 0 n) || b) (or_none (test n))
+
+pub all_more : (test : ℕ → Bool) (n : ℕ) → list_all test (range_with_len 0 (n + 1)) ≡ (list_all test (range_with_len 0 n) && test n)
+all_more test n =
+    let e : 0 + n ≡ n = omega arith in
+    ap (list_all test) (range_more 0 n ∙ ap (λ m. range_with_len 0 n ++ m ∷ []) e) ∙ list_all-append test (range_with_len 0 n) (n ∷ []) ∙ ap (λ b. list_all test (range_with_len 0 n) && b) (and_none (test n))
+
+both_true : (b c : Bool) → b ≡ true → c ≡ true → (b && c) ≡ true
+both_true true c e f = f
+both_true false c e f = absurd (let x : false ≡ true = e in cc)
+
+first_true : (b c : Bool) → (b && c) ≡ true → b ≡ true
+first_true true c e = refl
+first_true false c e = e
+
+second_true : (b c : Bool) → (b && c) ≡ true → c ≡ true
+second_true true c e = e
+second_true false c e = absurd (let x : false ≡ true = e in cc)
+
+pub all_below : (test : ℕ → Bool) (n : ℕ) → ((i : ℕ) → i < n → test i ≡ true) → list_all test (range_with_len 0 n) ≡ true
+all_below test zero holds = refl
+all_below test (suc n) holds =
+    let e : suc n ≡ n + 1 = omega arith in
+    ap (λ m. list_all test (range_with_len 0 m)) e ∙ all_more test n ∙ both_true _ _ (all_below test n (λ i l. holds i (omega arith))) (holds n (omega arith))
+
+pub each_below : (test : ℕ → Bool) (n : ℕ) → list_all test (range_with_len 0 n) ≡ true → (i : ℕ) → i < n → test i ≡ true
+each_below test zero all i l = absurd (omega arith)
+each_below test (suc n) all i l =
+    let e : suc n ≡ n + 1 = omega arith in
+    let both : (list_all test (range_with_len 0 n) && test n) ≡ true = sym (ap (λ m. list_all test (range_with_len 0 m)) e ∙ all_more test n) ∙ all in
+    ⊎_elim (λ (same : i ≡ n). ap test same ∙ second_true _ _ both) (λ ne. each_below test n (first_true _ _ both) i (omega arith)) (cases_eq i n)
+
+-- every identity passes
+pub all_identities : (test : ℕ → Bool) → ((i : ℕ) → i < identity_limit → test i ≡ true) → list_all test identities ≡ true
+all_identities test holds = all_below test identity_limit holds
+
+pub each_identity : (test : ℕ → Bool) → list_all test identities ≡ true → (i : ℕ) → i < identity_limit → test i ≡ true
+each_identity test all i l = each_below test identity_limit all i l
+
+any_first : (b c : Bool) → b ≡ true → (b || c) ≡ true
+any_first true c e = refl
+any_first false c e = absurd (let x : false ≡ true = e in cc)
+
+any_second : (b c : Bool) → c ≡ true → (b || c) ≡ true
+any_second true c e = refl
+any_second false c e = e
+
+pub any_below : (test : ℕ → Bool) (n i : ℕ) → i < n → test i ≡ true → list_any test (range_with_len 0 n) ≡ true
+any_below test zero i l holds = absurd (omega arith)
+any_below test (suc n) i l holds =
+    let e : suc n ≡ n + 1 = omega arith in
+    ap (λ m. list_any test (range_with_len 0 m)) e ∙ any_more test n
+    ∙ ⊎_elim (λ (same : i ≡ n). any_second _ _ (ap test (sym same) ∙ holds)) (λ ne. any_first _ _ (any_below test n i (omega arith) holds)) (cases_eq i n)
+
+-- some identity passes
+pub any_identity : (test : ℕ → Bool) (i : ℕ) → i < identity_limit → test i ≡ true → list_any test identities ≡ true
+any_identity test i l holds = any_below test identity_limit i l holds
+
+-- some identity fails
+pub not_all_identities : (test : ℕ → Bool) (i : ℕ) → i < identity_limit → test i ≡ false → list_all test identities ≡ false
+not_all_identities test i l fails = elim (cases_Bool (list_all test identities)) [
+  | inl all ↦ absurd (let x : true ≡ false = sym (each_identity test all i l) ∙ fails in cc)
+  | inr some ↦ some
+]
+
+-- all pass one test where none passes the other
+pub all_or_any : (test other : ℕ → Bool) → ((i : ℕ) → test i ≡ not (other i)) → (xs : List ℕ) → list_all test xs ≡ not (list_any other xs)
+all_or_any test other same [] = refl
+all_or_any test other same (x ∷ xs) = ap (λ b. b && list_all test xs) (same x) ∙ ap (λ b. not (other x) && b) (all_or_any test other same xs) ∙ neither (other x) (list_any other xs)
+  where
+    neither : (b c : Bool) → (not b && not c) ≡ not (b || c)
+    neither true c = refl
+    neither false c = refl
+
+pub none_more : (test : ℕ → Bool) (n : ℕ) → list_any test (range_with_len 0 n) ≡ false → test n ≡ false → list_any test (range_with_len 0 (n + 1)) ≡ false
+none_more test n none fails = any_more test n ∙ ap (λ b. b || test n) none ∙ fails
+
+pub all_one_more : (test : ℕ → Bool) (n : ℕ) → list_all test (range_with_len 0 n) ≡ true → test n ≡ true → list_all test (range_with_len 0 (n + 1)) ≡ true
+all_one_more test n all holds = all_more test n ∙ ap (λ b. b && test n) all ∙ holds
+
+-- every identity was passed
+pub any_at_end : (test : ℕ → Bool) (n : ℕ) → n ≡ identity_limit → list_any test (range_with_len 0 n) ≡ list_any test identities
+any_at_end test n e = ap (λ k. list_any test (range_with_len 0 k)) e
+
+pub all_at_end : (test : ℕ → Bool) (n : ℕ) → n ≡ identity_limit → list_all test (range_with_len 0 n) ≡ list_all test identities
+all_at_end test n e = ap (λ k. list_all test (range_with_len 0 k)) e
+
+find_from : (test : ℕ → Bool) (first n i : ℕ) → first ≤ i → i < first + n → test i ≡ true → ((j : ℕ) → j < i → test j ≡ false) → find test (range_with_len first n) ≡ Some i
+find_from test first zero i l m holds others = absurd (omega arith)
+find_from test first (suc n) i l m holds others = ⊎_elim
+    (λ (e : first ≡ i). ap (λ b. cond b (Some first) (find test (range_with_len (first + 1) n))) (ap test e ∙ holds) ∙ ap Some e)
+    (λ ne. let before : first < i = omega arith in
+    ap (λ b. cond b (Some first) (find test (range_with_len (first + 1) n))) (others first before) ∙ find_from test (first + 1) n i (omega arith) (omega arith) holds others) (cases_eq first i)
+
+find_nothing : (test : ℕ → Bool) (first n : ℕ) → ((i : ℕ) → i < first + n → test i ≡ false) → find test (range_with_len first n) ≡ None
+find_nothing test first zero fails = refl
+find_nothing test first (suc n) fails =
+    ap (λ b. cond b (Some first) (find test (range_with_len (first + 1) n))) (fails first (omega arith)) ∙ find_nothing test (first + 1) n (λ i l. fails i (omega arith))
+
+-- the least identity that passes
+pub find_first : (test : ℕ → Bool) (i : ℕ) → i < identity_limit → test i ≡ true → ((j : ℕ) → j < i → test j ≡ false) → find test identities ≡ Some i
+find_first test i l holds others = find_from test 0 identity_limit i (omega arith) (omega arith) holds others
+
+pub find_none : (test : ℕ → Bool) → ((i : ℕ) → i < identity_limit → test i ≡ false) → find test identities ≡ None
+find_none test fails = find_nothing test 0 identity_limit (λ i l. fails i (omega arith))
+
+pub below_test : (m n : ℕ) → m < n → nat_lt m n ≡ true
+below_test m n l = grind rules
+
+pub reached_test : (m n : ℕ) → n ≤ m → nat_lt m n ≡ false
+reached_test m n l = grind rules
+
+-- the least identity that lacks, as a search finds it
+pub lacking_first : (vector needs : VersionVector) (id : ℕ) → id < identity_limit → vector id < needs id → ((j : ℕ) → j < id → needs j ≤ vector j) → first_lacking vector needs ≡ Some id
+lacking_first vector needs id l lacks others = find_first (λ i. nat_lt (vector i) (needs i)) id l (below_test (vector id) (needs id) lacks) (λ j m. reached_test (vector j) (needs j) (others j m))
+
+pub lacking_none : (vector needs : VersionVector) → ((i : ℕ) → i < identity_limit → needs i ≤ vector i) → first_lacking vector needs ≡ None
+lacking_none vector needs covers = find_none (λ i. nat_lt (vector i) (needs i)) (λ i l. reached_test (vector i) (needs i) (covers i l))

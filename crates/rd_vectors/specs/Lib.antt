@@ -1,0 +1,4 @@
+pub mod Vectors
+pub mod Kept
+pub mod IdSets
+pub mod Orders

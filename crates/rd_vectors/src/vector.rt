@@ -1,0 +1,197 @@
+ghost use Rattle.std.specs.Prelude.{◌≡◌, ℕ, ◌<◌, ◌≤◌, ◌^◌, ◌↔◌, IsTrue, IsSome, IfSome, IfNone, OnOk, OnErr, IfOk};
+ghost use Rattle.std.specs.FinMap as map;
+ghost use Rattle.rd_history.specs.Vector.{Covers};
+ghost use Rattle.rd_vectors.specs.Vectors.{IsNormal, number_at, raised, joined, removed, IsFirstLacking};
+ghost use Rattle.rd_vectors.specs.Orders.{reaches, is_reached};
+
+use crate::id::{Dot, IDENTITIES, Id, Seq};
+use crate::numbers::Numbers;
+use rd_bytes::Memory;
+use std::alloc::Global;
+use std::marker::Model;
+
+/// The greatest record number taken, per origin.
+#[derive(Drop)]
+pub struct VersionVector {
+    numbers: Numbers,
+}
+
+impl Model for VersionVector {
+    ghost use Rattle.std.specs.Prelude.{ℕ};
+    ghost use Rattle.std.specs.Coded.{coded_ℕ};
+    ghost use Rattle.std.specs.FinMap as map;
+    ghost use Rattle.std.specs.Ordering.{nat_cmp};
+
+    ghost Value = { map.FinMap nat_cmp ℕ };
+
+    ghost coded = { map.code coded_ℕ coded_ℕ };
+
+    ghost use Rattle.rd_vectors.specs.Kept.{AreSeqs};
+
+    ghost view = { λ vector. vector.numbers };
+
+    ghost invariant = { λ vector. AreSeqs vector.numbers };
+}
+
+/// How two version vectors stand to each other.
+#[derive(Clone, Copy, Debug, PartialEq, Eq)]
+pub enum Order {
+    /// The other has all that the one has, and more.
+    Before,
+    /// Both have the same.
+    Same,
+    /// The one has all that the other has, and more.
+    After,
+    /// Each has what the other lacks.
+    Concurrent,
+}
+
+impl VersionVector {
+    /// No record of any origin.
+    pub fn new(alloc: Global) -> VersionVector
+        ensures { result ≡ map.empty }
+    {
+        VersionVector {
+            numbers: Numbers::new(alloc),
+        }
+    }
+
+    /// The greatest record number of an origin, 0 where there is none.
+    pub fn at(&self, id: Id) -> Seq
+        ensures value { result ≡ number_at self.now id }
+        ensures range { result ≤ 2 ^ 62 }
+        ensures normal { IsNormal self.now }
+    {
+        self.numbers.at(id)
+    }
+
+    /// Keeps the greater number.
+    pub fn raise(&mut self, id: Id, to: Seq) -> Result<(), Memory>
+        requires { (1 ≤ to) × (to ≤ 2 ^ 62) }
+        ensures ok { OnOk result (self.new ≡ raised self.old id to) }
+        ensures err { OnErr result (self.new ≡ self.old) }
+    {
+        self.numbers.raise(id, to)
+    }
+
+    /// Drops the number at an identity.
+    pub fn without(&mut self, id: Id)
+        ensures { self.new ≡ removed self.old id }
+    {
+        self.numbers.without(id);
+    }
+
+    /// Whether the record is counted.
+    pub fn contains_dot(&self, dot: Dot) -> bool
+        ensures { IsTrue result ↔ (dot.seq ≤ number_at self.now dot.origin) }
+    {
+        dot.seq <= self.at(dot.origin)
+    }
+
+    /// Keeps the greater number at each identity.
+    pub fn join(&mut self, other: &VersionVector) -> Result<(), Memory>
+        ensures ok { OnOk result (self.new ≡ joined self.old other.now) }
+        ensures err { OnErr result (self.new ≡ self.old) }
+    {
+        self.numbers.join(&other.numbers)
+    }
+
+    /// Whether each number of the other is reached.
+    pub fn covers(&self, needs: &VersionVector) -> bool
+        ensures { IsTrue result ↔ Covers (number_at self.now) (number_at needs.now) }
+    {
+        self.first_lacking(needs).is_none()
+    }
+
+    /// How this vector stands to the other.
+    pub fn compare(&self, other: &VersionVector) -> Order
+        ensures reaches { IsTrue (reaches result) ↔ Covers (number_at self.now) (number_at other.now) }
+        ensures reached { IsTrue (is_reached result) ↔ Covers (number_at other.now) (number_at self.now) }
+    {
+        if self.covers(other) {
+            if other.covers(self) {
+                Order::Same
+            } else {
+                Order::After
+            }
+        } else if other.covers(self) {
+            Order::Before
+        } else {
+            Order::Concurrent
+        }
+    }
+
+    /// The least identity at which this vector is below the other.
+    pub fn first_lacking(&self, needs: &VersionVector) -> Option<Id>
+        ensures none { IfNone result (Covers (number_at self.now) (number_at needs.now)) }
+        ensures some { IfSome result (IsFirstLacking self.now needs.now) }
+    {
+        let _few = &needs.numbers;
+        for number in 0..IDENTITIES {
+            if let Some(id) = Id::new(number) {
+                if self.at(id) < needs.at(id) {
+                    return Some(id);
+                }
+            }
+        }
+        None
+    }
+
+    /// An equal vector.
+    pub fn copy(&self, alloc: Global) -> Result<VersionVector, Memory>
+        ensures same { IfOk result (λ copy. copy ≡ self.now) }
+        ensures normal { IsNormal self.now }
+    {
+        let numbers = self.numbers.copy(alloc)?;
+        Ok(VersionVector { numbers })
+    }
+}
+
+#[cfg(test)]
+mod tests {
+    use super::*;
+    use crate::id_set::IdSet;
+    use std::test::Fail;
+
+    #[test]
+    fn a_join_keeps_the_greater_numbers(rt: HostRuntime) -> Result<(), Fail> {
+        let zero = Id::new(0).ok_or("identity")?;
+        let last = Id::new(IDENTITIES - 1).ok_or("identity")?;
+        let mut one = VersionVector::new(rt.alloc());
+        let mut other = VersionVector::new(rt.alloc());
+        one.raise(zero, 3)?;
+        other.raise(zero, 2)?;
+        other.raise(last, 7)?;
+        assert_eq!(rt; one.first_lacking(&other), Some(last));
+        one.join(&other)?;
+        assert_eq!(rt; one.at(zero), 3);
+        assert_eq!(rt; one.at(last), 7);
+        assert_eq!(rt; one.covers(&other), true);
+        Ok(())
+    }
+
+    #[test]
+    fn vectors_are_compared(rt: HostRuntime) -> Result<(), Fail> {
+        let zero = Id::new(0).ok_or("identity")?;
+        let one = Id::new(1).ok_or("identity")?;
+        let mut less = VersionVector::new(rt.alloc());
+        less.raise(zero, 1)?;
+        let mut more = less.copy(rt.alloc())?;
+        assert_eq!(rt; less.compare(&more), Order::Same);
+        more.raise(one, 2)?;
+        assert_eq!(rt; less.compare(&more), Order::Before);
+        assert_eq!(rt; more.compare(&less), Order::After);
+        less.raise(zero, 2)?;
+        assert_eq!(rt; less.compare(&more), Order::Concurrent);
+        more.without(one);
+        let dot = Dot {
+            origin: one,
+            seq: 1,
+        };
+        assert_eq!(rt; more.contains_dot(dot), false);
+        let set = IdSet::empty().with(one).union(IdSet::empty().with(zero));
+        assert_eq!(rt; set.has(one), true);
+        assert_eq!(rt; set.len(), 2);
+        Ok(())
+    }
+}

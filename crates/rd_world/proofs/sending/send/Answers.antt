@@ -1,0 +1,46 @@
+use Rattle.std.proofs.Common.{◌≡◌, ◌∙◌, sym, ap, subst, refl, arith, List, length, map, ◌+◌, ◌-◌, ◌++◌, [], ◌∷◌}
+use Rattle.std.specs.Prelude.{is_ok, slice_get, option_map}
+use Rattle.std.proofs.lemmas.Iterator.Adapters.{YieldsList-from_vec}
+use Rattle.std.proofs.lemmas.Iterator.Consumers.{YieldsList-end}
+use Rattle.rd_node.specs.declared.message.Post.{Post}
+use Rattle.rd_world.specs.Channels.{row_of}
+use Rattle.rd_world.specs.Sending.{extended, messages_to, told_of}
+use Rattle.rd_world.proofs.Rooms.{less_room}
+use Rattle.rd_world.proofs.Sendings.{none_yet, sent_more, told_more}
+use Rattle.rd_world.proofs.sending.send.Goals as goal
+
+pub loop-post-init : goal.loop-post-init
+loop-post-init g c = let start = none_yet c.args.row.now c.args.sent.now in record { row = start.0; told = start.1 }
+
+pub loop-post-preserved : goal.loop-post-preserved
+loop-post-preserved g c =
+    record {
+      row = sent_more c.args.row.now c.loop-post.row c.append.new.row c.loop-post.yielded c.in-Some.post c.from.result (c.from.ensures ∙ c.number.ensures.value) c.loop-post.invariant.row c.append.ensures.sent c.append.ensures.room;
+      told = told_more c.args.sent.now c.loop-post.sent c.push.new.self c.loop-post.yielded c.in-Some.post (record { to = c.in-Some.post.to; sketch = c.sketch-sketch.result }) (is_ok c.push.result)
+          (ap (λ s. record { to = c.in-Some.post.to; sketch = s }) c.sketch-sketch.ensures) c.loop-post.invariant.told c.push.ensures.succeeds c.push.ensures.items c.push.ensures.len c.push.ensures.capacity;
+    }
+
+all_yielded : {A : Type 0} (xs ys : List A) → map (λ (x : A). x) xs ≡ ys → xs ≡ ys
+all_yielded {A = A} xs ys e = sym (same xs) ∙ e
+  where
+    same : (zs : List A) → map (λ (x : A). x) zs ≡ zs
+    same [] = refl
+    same (z ∷ zs) = ap (λ ws. z ∷ ws) (same zs)
+
+pub returns-clause-row : goal.returns-clause-row
+returns-clause-row g c = λ room has within.
+    let posts = c.args.posts.items in
+    let ends = YieldsList-end (YieldsList-from_vec posts c.into_iter-post-iterator.ensures.into_iter_gives.0 (c.into_iter-post-iterator.ensures.into_iter_gives.1 ∙ c.args.posts.ok.0)) c.loop-post.yielded c.loop-post.post-iterator c.loop-post.yielded_by c.next.result c.next.new.self c.in-None.is c.next.ensures.steps in
+    let whole : c.loop-post.yielded ≡ posts = all_yielded c.loop-post.yielded posts ends.0 in
+    let count : length c.loop-post.yielded ≡ length posts = ap length whole in
+    λ b.
+    subst (λ (these : List (Post g.row.T.Denot g.row.T-Kind.Denot g.row.T-Op.Denot g.row.T-Delta.Denot)). slice_get (row_of c.loop-post.row) b ≡ option_map (extended (messages_to these b)) (slice_get (row_of c.args.row.now) b)) whole
+    (c.loop-post.invariant.row.sent (room - length posts) (less_room c.args.row.now room (room - length posts + length c.loop-post.yielded) (omega arith) has) b)
+
+pub returns-clause-told : goal.returns-clause-told
+returns-clause-told g c = λ has.
+    let posts = c.args.posts.items in
+    let ends = YieldsList-end (YieldsList-from_vec posts c.into_iter-post-iterator.ensures.into_iter_gives.0 (c.into_iter-post-iterator.ensures.into_iter_gives.1 ∙ c.args.posts.ok.0)) c.loop-post.yielded c.loop-post.post-iterator c.loop-post.yielded_by c.next.result c.next.new.self c.in-None.is c.next.ensures.steps in
+    let whole : c.loop-post.yielded ≡ posts = all_yielded c.loop-post.yielded posts ends.0 in
+    let count : length c.loop-post.yielded ≡ length posts = ap length whole in
+    c.loop-post.invariant.told.told (omega arith) ∙ ap (λ (these : List (Post g.row.T.Denot g.row.T-Kind.Denot g.row.T-Op.Denot g.row.T-Delta.Denot)). c.args.sent.now.items ++ map told_of these) whole

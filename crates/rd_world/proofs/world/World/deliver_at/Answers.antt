@@ -1,0 +1,147 @@
+use Rattle.std.proofs.Common.{◌∙◌, sym, ap, subst, arith, refl, get_or, set, None, Some, Vec, Global, Ok, Err, [], ◌∷◌, ◌<◌, length}
+use Rattle.std.specs.Prelude.{option_copied}
+use Rattle.rd_model.specs.Node.{Input}
+use Rattle.rd_model.specs.Script as script
+use Rattle.rd_model.specs.Script.{ScriptStep, Playing, deliver}
+use Rattle.rd_node.specs.Members.{whole_entries}
+use Rattle.rd_node.specs.declared.node.Node.{Node}
+use Rattle.rd_runs.proofs.Playing.{played_is_run}
+use Rattle.rd_world.specs.declared.event.Event.{Event}
+use Rattle.rd_world.specs.declared.event.Answer.TheVariants as answer
+use Rattle.rd_world.specs.declared.world.World.{World}
+use Rattle.rd_world.specs.Standing.{StandsForWorld}
+use Rattle.rd_world.specs.Lines.{IsNextLine}
+use Rattle.rd_world.specs.declared.event.Head.TheVariants as head
+use Rattle.rd_world.proofs.Steppings.{IsDone}
+use Rattle.rd_world.proofs.Vectors.{same_item}
+use Rattle.rd_world.proofs.Delivering.{sent_within, undelivered_gone, undelivered_none, gone_stands, told_none, is_sent, full_stands, full_told, taken_stands, taken_told}
+use Rattle.rd_world.proofs.world.World.deliver_at.Goals as goal
+
+pub returns-then-receiver-len-clause-stands : goal.returns-then-receiver-len-clause-stands
+returns-then-receiver-len-clause-stands g c = λ digest kinds logs first p run through stands.
+    let D = whole_entries g.T.Replica.data_type digest in
+    let nodes = c.args.self.now.nodes in
+    gone_stands g.T.Replica.kind_of g.T.Replica.IsDataOf kinds logs g.T.Replica D c.args.self.now p stands c.args.from c.args.to c.args.index (deliver D p c.args.from c.args.to c.args.index) (script.Head.DeliverHead c.args.from c.args.to c.args.index None) script.Answer.Gone
+    (undelivered_gone g.T.Replica.kind_of g.T.Replica.IsDataOf kinds logs g.T.Replica D c.args.self.now p stands c.args.from c.args.to c.args.index (omega (arith, nodes.ok.0)))
+
+pub returns-then-receiver-len-clause-told : goal.returns-then-receiver-len-clause-told
+returns-then-receiver-len-clause-told g c = λ digest kinds logs first p run through stands.
+    let D = whole_entries g.T.Replica.data_type digest in
+    let nodes = c.args.self.now.nodes in
+    let q = deliver D p c.args.from c.args.to c.args.index in
+    subst (λ (event : Event). IsNextLine event p q) (sym c.undelivered.ensures)
+    (told_none g.T.Replica.kind_of g.T.Replica.IsDataOf kinds logs g.T.Replica D c.args.self.now p stands c.args.from c.args.to c.args.index q answer.Gone script.Answer.Gone
+    (undelivered_gone g.T.Replica.kind_of g.T.Replica.IsDataOf kinds logs g.T.Replica D c.args.self.now p stands c.args.from c.args.to c.args.index (omega (arith, nodes.ok.0))) refl)
+
+pub returns-in_default-message-clause-stands : goal.returns-in_default-message-clause-stands
+returns-in_default-message-clause-stands g c = λ digest kinds logs first p run through stands.
+    let D = whole_entries g.T.Replica.data_type digest in
+    let nodes = c.args.self.now.nodes in
+    let here = c.from-receiver.ensures in
+    gone_stands g.T.Replica.kind_of g.T.Replica.IsDataOf kinds logs g.T.Replica D c.args.self.now p stands c.args.from c.args.to c.args.index (deliver D p c.args.from c.args.to c.args.index) (script.Head.DeliverHead c.args.from c.args.to c.args.index None) script.Answer.NoSuchMessage
+    (undelivered_none g.T.Replica.kind_of g.T.Replica.IsDataOf kinds logs g.T.Replica D c.args.self.now p stands c.args.from c.args.to c.args.index (omega (arith, nodes.ok.0)) (sym c.message.ensures ∙ ap option_copied c.in_default-message.is))
+
+pub returns-in_default-message-clause-told : goal.returns-in_default-message-clause-told
+returns-in_default-message-clause-told g c = λ digest kinds logs first p run through stands.
+    let D = whole_entries g.T.Replica.data_type digest in
+    let nodes = c.args.self.now.nodes in
+    let here = c.from-receiver.ensures in
+    let q = deliver D p c.args.from c.args.to c.args.index in
+    subst (λ (event : Event). IsNextLine event p q) (sym c.undelivered-in_default-message.ensures)
+    (told_none g.T.Replica.kind_of g.T.Replica.IsDataOf kinds logs g.T.Replica D c.args.self.now p stands c.args.from c.args.to c.args.index q answer.NoSuchMessage script.Answer.NoSuchMessage
+    (undelivered_none g.T.Replica.kind_of g.T.Replica.IsDataOf kinds logs g.T.Replica D c.args.self.now p stands c.args.from c.args.to c.args.index (omega (arith, nodes.ok.0)) (sym c.message.ensures ∙ ap option_copied c.in_default-message.is)) refl)
+
+pub pass-requires : goal.pass-requires
+pass-requires g c = sent_within _ c.args.index c.in-Some-message.message.now (sym c.message.ensures ∙ ap option_copied c.in-Some-message.is)
+
+pub returns-in-Ok-clause-stands : goal.returns-in-Ok-clause-stands
+returns-in-Ok-clause-stands g c = λ digest kinds logs first p run through stands.
+    let D = whole_entries g.T.Replica.data_type digest in
+    let code = c.args.self.now in
+    let nodes = code.nodes in
+    let old = c.index_mut.result.now in
+    let new = c.take.new.self in
+    let from = c.args.from in
+    let to = c.args.to in
+    let index = c.args.index in
+    let here = c.from-receiver.ensures in
+    let within : to < length nodes.items = omega (arith, nodes.ok.0) in
+    let is = c.index_mut.ensures.value ∙ ap (λ j. get_or nodes.items j old) here in
+    let message = c.in-Some-message.message.now in
+    let sent = sym c.message.ensures ∙ ap option_copied c.in-Some-message.is in
+    let found = is_sent g.T.Replica.kind_of g.T.Replica.IsDataOf kinds logs g.T.Replica D code p stands from to index message sent in
+    let reply = c.in-Ok.reply in
+    let does : IsDone g.T.Replica.kind_of g.T.Replica.IsDataOf kinds logs g.T.Replica D (Input.Take c.in-Some.sender found.sent) old new (Ok reply) =
+    record { stands = λ node st. c.in-Ok.ensures.stands digest kinds logs node found.sent st through.prune_free found.stands_for; full = c.in-Ok.ensures.full } in
+    let run_then = played_is_run D first p (ScriptStep.Deliver from to (Some index) ∷ []) (tt, tt) run in
+    taken_stands g.T.Replica.kind_of g.T.Replica.IsDataOf kinds logs g.T.Replica D code p stands from to index within old is message found new reply c.in-Some.sender c.in-Some.ensures.value does first run_then through c.pass.new.self (sent_within _ index message sent) c.pass.ensures _ refl
+    (ap (λ j. set nodes.items j new) here) refl
+
+pub returns-in-Ok-clause-told : goal.returns-in-Ok-clause-told
+returns-in-Ok-clause-told g c = λ digest kinds logs first p run through stands.
+    let D = whole_entries g.T.Replica.data_type digest in
+    let code = c.args.self.now in
+    let nodes = code.nodes in
+    let old = c.index_mut.result.now in
+    let new = c.take.new.self in
+    let from = c.args.from in
+    let to = c.args.to in
+    let index = c.args.index in
+    let here = c.from-receiver.ensures in
+    let within : to < length nodes.items = omega (arith, nodes.ok.0) in
+    let is = c.index_mut.ensures.value ∙ ap (λ j. get_or nodes.items j old) here in
+    let message = c.in-Some-message.message.now in
+    let sent = sym c.message.ensures ∙ ap option_copied c.in-Some-message.is in
+    let found = is_sent g.T.Replica.kind_of g.T.Replica.IsDataOf kinds logs g.T.Replica D code p stands from to index message sent in
+    let reply = c.in-Ok.reply in
+    let does : IsDone g.T.Replica.kind_of g.T.Replica.IsDataOf kinds logs g.T.Replica D (Input.Take c.in-Some.sender found.sent) old new (Ok reply) =
+    record { stands = λ node st. c.in-Ok.ensures.stands digest kinds logs node found.sent st through.prune_free found.stands_for; full = c.in-Ok.ensures.full } in
+    let run_then = played_is_run D first p (ScriptStep.Deliver from to (Some index) ∷ []) (tt, tt) run in
+    subst (λ (event : Event). IsNextLine event p (deliver D p from to index)) (sym (c.line.ensures ∙ ap (λ sketch. record { head = head.Deliver from to index (Some sketch); answer = answer.Reply reply; sent = [] }) c.sketch.ensures))
+    (taken_told g.T.Replica.kind_of g.T.Replica.IsDataOf kinds logs g.T.Replica D code p stands from to index within old is message found new reply c.in-Some.sender c.in-Some.ensures.value does first run_then through c.pass.new.self (sent_within _ index message sent) c.pass.ensures
+    (λ node st. c.in-Ok.ensures.reply digest kinds logs node found.sent st through.prune_free found.stands_for))
+
+pub returns-in-Err-HistoryFull-clause-stands : goal.returns-in-Err-HistoryFull-clause-stands
+returns-in-Err-HistoryFull-clause-stands g c = λ digest kinds logs first p run through stands.
+    let D = whole_entries g.T.Replica.data_type digest in
+    let code = c.args.self.now in
+    let nodes = code.nodes in
+    let old = c.index_mut.result.now in
+    let new = c.take.new.self in
+    let from = c.args.from in
+    let to = c.args.to in
+    let index = c.args.index in
+    let here = c.from-receiver.ensures in
+    let within : to < length nodes.items = omega (arith, nodes.ok.0) in
+    let is = c.index_mut.ensures.value ∙ ap (λ j. get_or nodes.items j old) here in
+    let message = c.in-Some-message.message.now in
+    let sent = sym c.message.ensures ∙ ap option_copied c.in-Some-message.is in
+    let found = is_sent g.T.Replica.kind_of g.T.Replica.IsDataOf kinds logs g.T.Replica D code p stands from to index message sent in
+    subst (λ (after : World g.row.T.Denot g.row.T-Kind.Denot g.row.T-Op.Denot g.row.T-Delta.Denot g.T.Replica). StandsForWorld g.T.Replica.kind_of g.T.Replica.IsDataOf kinds logs after (deliver D p from to index).world)
+    (sym (ap (λ (v : Vec (Node g.row.T.Denot g.row.T-Kind.Denot g.row.T-Op.Denot g.row.T-Delta.Denot g.T.Replica) Global). record code { nodes = v }) (same_item nodes c.from-receiver.result old new c.index_mut.ensures.value c.in-Err-HistoryFull.ensures.err)))
+    (full_stands g.T.Replica.kind_of g.T.Replica.IsDataOf kinds logs g.T.Replica D code p stands from to index within old is message found (c.in-Err-HistoryFull.ensures.full.0 (ap Err c.in-Err-HistoryFull.field-0-is)))
+
+pub returns-in-Err-HistoryFull-clause-told : goal.returns-in-Err-HistoryFull-clause-told
+returns-in-Err-HistoryFull-clause-told g c = λ digest kinds logs first p run through stands.
+    let D = whole_entries g.T.Replica.data_type digest in
+    let code = c.args.self.now in
+    let nodes = code.nodes in
+    let old = c.index_mut.result.now in
+    let new = c.take.new.self in
+    let from = c.args.from in
+    let to = c.args.to in
+    let index = c.args.index in
+    let here = c.from-receiver.ensures in
+    let within : to < length nodes.items = omega (arith, nodes.ok.0) in
+    let is = c.index_mut.ensures.value ∙ ap (λ j. get_or nodes.items j old) here in
+    let message = c.in-Some-message.message.now in
+    let sent = sym c.message.ensures ∙ ap option_copied c.in-Some-message.is in
+    let found = is_sent g.T.Replica.kind_of g.T.Replica.IsDataOf kinds logs g.T.Replica D code p stands from to index message sent in
+    subst (λ (event : Event). IsNextLine event p (deliver D p from to index)) (sym (c.line-in-Err-HistoryFull.ensures ∙ ap (λ sketch. record { head = head.Deliver from to index (Some sketch); answer = answer.HistoryFull; sent = [] }) c.sketch.ensures))
+    (full_told g.T.Replica.kind_of g.T.Replica.IsDataOf kinds logs g.T.Replica D code p stands from to index within old is message found (c.in-Err-HistoryFull.ensures.full.0 (ap Err c.in-Err-HistoryFull.field-0-is)))
+
+pub returns-in-Err-Memory-clause-err : goal.returns-in-Err-Memory-clause-err
+returns-in-Err-Memory-clause-err g c =
+    let code = c.args.self.now in
+    ap (λ (v : Vec (Node g.row.T.Denot g.row.T-Kind.Denot g.row.T-Op.Denot g.row.T-Delta.Denot g.T.Replica) Global). record code { nodes = v })
+    (same_item code.nodes c.from-receiver.result c.index_mut.result.now c.take.new.self c.index_mut.ensures.value c.in-Err-Memory.ensures.err)

@@ -1,0 +1,75 @@
+-- Which lines of the model's report events are.
+use Rattle.std.specs.Prelude.{◌≡◌, List, Result, Ok, Err, ◌∷◌, [], ◌++◌, map, length, Option, None, option_map}
+use Rattle.std.specs.List.{AllZip}
+use Rattle.rd_kinds.specs.declared.shown.Shown.{Shown}
+use Rattle.rd_model.specs.Message as model
+use Rattle.rd_model.specs.Script as script
+use Rattle.rd_model.specs.Script.{Told, Playing}
+use Rattle.rd_node.specs.Members.{meant}
+use Rattle.rd_bytes.specs.declared.memory.Memory.{Memory}
+use Rattle.rd_node.specs.declared.reply.Reply.{Reply}
+use Rattle.rd_node.specs.declared.reply.StepError.{StepError}
+use Rattle.rd_node.specs.declared.reply.StepError.TheVariants as failed
+use Rattle.rd_node.specs.declared.message.MessageKind.TheVariants as kind
+use Rattle.rd_node.specs.declared.message.Sketch.{Sketch}
+use Rattle.rd_world.specs.declared.event.Head.{Head}
+use Rattle.rd_world.specs.declared.event.Head.TheVariants as head
+use Rattle.rd_world.specs.declared.event.Answer.{Answer}
+use Rattle.rd_world.specs.declared.event.Answer.TheVariants as answer
+use Rattle.rd_world.specs.declared.event.SentTo.{SentTo}
+use Rattle.rd_world.specs.declared.event.Event.{Event}
+
+-- what is printed of a message
+abbrev pub sketched : {Op : Type 0} → model.Message Op → Sketch
+sketched (model.Message.Deltas groups entries) = record { kind = kind.Deltas; first = length groups; second = length entries }
+sketched (model.Message.Nack keys) = record { kind = kind.Nack; first = length keys; second = 0 }
+sketched (model.Message.Status digests) = record { kind = kind.Status; first = length digests; second = 0 }
+sketched (model.Message.Gossip entries wants) = record { kind = kind.Gossip; first = length entries; second = length wants }
+sketched (model.Message.Write op key entry) = record { kind = kind.Write; first = 0; second = 0 }
+sketched (model.Message.WriteAck op) = record { kind = kind.WriteAck; first = 0; second = 0 }
+sketched (model.Message.WriteNack op) = record { kind = kind.WriteNack; first = 0; second = 0 }
+sketched (model.Message.Read op key) = record { kind = kind.Read; first = 0; second = 0 }
+sketched (model.Message.ReadAnswer op key entry) = record { kind = kind.ReadAnswer; first = 0; second = 0 }
+
+abbrev pub sketched_post : {Op : Type 0} → model.Post Op → SentTo
+sketched_post post = record { to = post.to; sketch = sketched post.message }
+
+abbrev pub meant_answer : Answer → script.Answer Shown
+meant_answer (answer.Reply reply) = script.Answer.Replied (meant reply)
+meant_answer answer.Gone = script.Answer.Gone
+meant_answer answer.HistoryFull = script.Answer.HistoryFull
+meant_answer answer.NoSuchMessage = script.Answer.NoSuchMessage
+meant_answer answer.Lost = script.Answer.Lost
+meant_answer answer.Nothing = script.Answer.Nothing
+
+-- what a member's step answers. Want of memory is no answer
+abbrev pub answer_of : Result Reply StepError → Result Answer Memory
+answer_of (Ok reply) = Ok (answer.Reply reply)
+answer_of (Err failed.HistoryFull) = Ok answer.HistoryFull
+answer_of (Err failed.Memory) = Err (record {})
+
+module _ {Op : Type 0} where
+  -- of a delivered message the sketch is told
+  abbrev pub IsHead : Head → script.Head Op → Type 0
+  IsHead (head.Update at key) told = told ≡ script.Head.UpdateHead at key
+  IsHead (head.Get at key) told = told ≡ script.Head.GetHead at key
+  IsHead (head.Flush at) told = told ≡ script.Head.FlushHead at
+  IsHead (head.Deliver from to index sketch) told =
+      (message : Option (model.Message Op)) × (told ≡ script.Head.DeliverHead from to index message) × (sketch ≡ option_map sketched message)
+  IsHead (head.Lose from to index) told = told ≡ script.Head.LoseHead from to index
+  IsHead head.Round told = told ≡ script.Head.RoundHead
+
+  -- the event says what the line says
+  pub record IsLine (event : Event) (told : Told Op Shown) : Type 0 where
+    pub head : IsHead event.head told.head
+    pub answer : told.answer ≡ meant_answer event.answer
+    pub sent : event.sent ≡ map sketched_post told.posts
+    pub ended : told.ended ≡ None
+
+module _ {Kind Op : Type 0} where
+  -- a step of a script told this line, or these
+  abbrev pub IsNextLine : Event → Playing Kind Op Shown → Playing Kind Op Shown → Type 0
+  IsNextLine event before after = (told : Told Op Shown) × (after.lines ≡ before.lines ++ told ∷ []) × IsLine event told
+
+  abbrev pub AreNextLines : List Event → Playing Kind Op Shown → Playing Kind Op Shown → Type 0
+  AreNextLines events before after = (told : List (Told Op Shown)) × (after.lines ≡ before.lines ++ told) × AllZip IsLine events told

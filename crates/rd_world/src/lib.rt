@@ -1,0 +1,12 @@
+//! Members and the links between them: what a script's steps do to them, as the model says it.
+#![tactic(auto)]
+
+mod event;
+mod links;
+mod rounds;
+mod sending;
+mod start;
+mod world;
+
+pub use event::{Answer, Event, Events, Head, SentTo, Sketches};
+pub use world::World;

@@ -1,0 +1,8 @@
+//! Runs the script on standard input, by the word `plain`, and prints its report.
+#![tactic(auto)]
+
+use std::process::ExitCode;
+
+fn main(rt: HostRuntime) -> ExitCode {
+    rd_program::run(&rt)
+}
