@@ -35,9 +35,9 @@ counter_combined first later = record { origin = first.origin; share = max first
 abbrev pub counter_cleaned : GCounter → ℕ → GCounter
 counter_cleaned state id = record { shares = removed state.shares id }
 
-abbrev pub counter_pruned : GCounter → ℕ → Dot → GCounter
-counter_pruned state gone dot = record {
-  shares = numbers_of (with_at (with_at (number_at state.shares) dot.origin (number_at state.shares dot.origin + number_at state.shares gone)) gone 0);
+abbrev pub counter_pruned : GCounter → ℕ → ℕ → GCounter
+counter_pruned state gone owner = record {
+  shares = numbers_of (with_at (with_at (number_at state.shares) owner (number_at state.shares owner + number_at state.shares gone)) gone 0);
 }
 
 abbrev pub counter_prune_refusal : GCounter → ℕ → ℕ → Option Shares

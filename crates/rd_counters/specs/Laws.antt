@@ -116,14 +116,6 @@ pub pruned_by_steps : (shares : Numbers) (owner total id : ℕ) → number_at sh
 pruned_by_steps shares owner total id l = removed_at (with_at (number_at shares) owner (max (number_at shares owner) total)) id
     ∙ ap (λ n. numbers_of (with_at (with_at (number_at shares) owner n) id 0)) (max_right (number_at shares owner) total l)
 
--- nothing to move
-pub pruned_nothing : (shares : Numbers) (owner id : ℕ) → IsNormal shares → number_at shares id ≡ 0 → shares ≡ numbers_of (with_at (with_at (number_at shares) owner (number_at shares owner + number_at shares id)) id 0)
-pruned_nothing shares owner id normal none = normal ∙ numbers_of-same _ _ (λ i l. sym (⊎_elim
-    (λ (e : i ≡ id). with_at_is (with_at (number_at shares) owner (number_at shares owner + number_at shares id)) id 0 i e ∙ sym (ap (number_at shares) e ∙ none))
-    (λ (ne : i ≢ id). with_at_other (with_at (number_at shares) owner (number_at shares owner + number_at shares id)) id 0 i ne ∙ ⊎_elim
-    (λ (e : i ≡ owner). with_at_is (number_at shares) owner (number_at shares owner + number_at shares id) i e ∙ ap (λ n. number_at shares owner + n) none ∙ omega arith ∙ ap (number_at shares) (sym e))
-    (λ (ne' : i ≢ owner). with_at_other (number_at shares) owner _ i ne') (cases_eq i owner)) (cases_eq i id)))
-
 pub combined_origin : (first later : Share) (origin : ℕ) → IsShareOf first origin → IsShareOf later origin → IsShareOf (counter_combined first later) origin
 combined_origin first later origin e f = e
 
@@ -150,9 +142,9 @@ module _ {Op : Type 0} (amount : Op → ℕ) where
   }
 
   pub data_applied : (state : GCounter) (log : History Op) (held : VersionVector) (gone : IdentitySet) (op : Op) (dot : Dot)
-      → IsPrunedCut log held gone → gone dot.origin ≡ false → IsNext log held dot.origin (Operation op) → dot.seq ≡ held dot.origin + 1 → AreShares amount state log held gone → counter_apply_refusal state (amount op) dot.origin ≡ None
+      → IsPrunedCut log held gone → gone dot.origin ≡ false → IsNext log held dot.origin (Operation op) → dot.seq ≡ held dot.origin + 1 → AreShares amount state log held gone
       → AreShares amount (counter_applied state (amount op) dot) log (grown held dot.origin) gone × IsShareAt amount (counter_delta_of state (amount op) dot) log dot.origin (held dot.origin) (held dot.origin + 1)
-  data_applied state log held gone op dot h stays next seq is free =
+  data_applied state log held gone op dot h stays next seq is =
       let has : HasShare amount log dot.origin (held dot.origin + 1) (number_at state.shares dot.origin + amount op)
       = counted dot.origin _ _ (held dot.origin) (number_at state.shares dot.origin) op refl refl next.action (is.share dot.origin next.member stays) in
       (with_share state log held gone dot.origin _ _ next.member stays is has, record { made_by = refl; rises = omega arith; share = has })
@@ -186,9 +178,9 @@ module _ {Op : Type 0} (amount : Op → ℕ) where
   }
 
   pub data_pruned : (state : GCounter) (log : History Op) (held : VersionVector) (gone : IdentitySet) (id : ℕ) (dot : Dot)
-      → IsPrunedCut log held gone → gone dot.origin ≡ false → IsNext log held dot.origin (Prune id) → dot.seq ≡ held dot.origin + 1 → AreShares amount state log held gone → (id ≡ dot.origin → ⊥) → gone id ≡ false → counter_prune_refusal state id dot.origin ≡ None
-      → AreShares amount (counter_pruned state id dot) log (grown held dot.origin) (with_member gone id)
-  data_pruned state log held gone id dot h stays next seq is other kept free =
+      → IsPrunedCut log held gone → gone dot.origin ≡ false → IsNext log held dot.origin (Prune id) → dot.seq ≡ held dot.origin + 1 → AreShares amount state log held gone → (id ≡ dot.origin → ⊥) → gone id ≡ false
+      → AreShares amount (counter_pruned state id dot.origin) log (grown held dot.origin) (with_member gone id)
+  data_pruned state log held gone id dot h stays next seq is other kept =
       let past : past_of log dot.origin (held dot.origin) id ≡ held id = next.past id in
       let removed_share : HasShare amount log id (past_of log dot.origin (held dot.origin) id) (number_at state.shares id) = subst (λ n. HasShare amount log id n (number_at state.shares id)) (sym past) (⊎_elim
       (λ (l : id < identity_limit). is.share id l kept)

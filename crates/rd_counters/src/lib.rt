@@ -1,8 +1,11 @@
-//! A counter that only grows, as a share per identity.
+//! Counters: one that only grows, as a share per identity, and one that moves both ways, as two of these.
 #![tactic(auto)]
 
+mod amounts;
 mod counter;
 mod replica;
 mod shares;
+mod signed;
 
-pub use counter::{GCounter, Share};
+pub use amounts::Amount;
+pub use counter::{GCounter, PnCounter, PnShare, Share};

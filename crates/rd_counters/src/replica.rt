@@ -6,10 +6,11 @@ ghost use Rattle.rd_kinds.specs.declared.shown.Shown.TheVariants.{Count};
 ghost use Rattle.rd_counters.specs.Counter.{counter_applied, counter_delta_of, counter_apply_refusal, counter_joined, counter_absorbed, counter_combined, counter_cleaned, counter_pruned, counter_prune_refusal, counter_mentioned, counter_sum, AreShares, IsShareAt, AreSharesWithin, IsShareOf, empty_counter};
 ghost use Rattle.rd_counters.specs.Laws as laws;
 
+use crate::amounts::Amounts;
 use crate::counter::{GCounter, Share};
 use rd_kinds::Op;
 use rd_lattice::{ApplyError, PruneError, Replica, Shown};
-use rd_vectors::{Dot, Id, Memory, Numbers, VersionVector};
+use rd_vectors::{Dot, Id, Memory, VersionVector};
 use std::alloc::Global;
 
 /// What an operation adds to a growing counter.
@@ -55,7 +56,7 @@ impl Replica for GCounter {
 
     ghost cleaned = { counter_cleaned };
 
-    ghost pruned = { counter_pruned };
+    ghost pruned = { λ state gone dot. counter_pruned state gone dot.origin };
 
     ghost prune_refusal = { counter_prune_refusal };
 
@@ -71,7 +72,7 @@ impl Replica for GCounter {
 
     fn empty(alloc: Global, _kind: &()) -> Result<GCounter, Memory> {
         Ok(GCounter {
-            shares: Numbers::new(alloc),
+            shares: Amounts::new(alloc),
         })
     }
 
@@ -128,11 +129,11 @@ impl Replica for GCounter {
     }
 
     fn prune(&mut self, removed: Id, dot: Dot) -> Result<(), PruneError> {
-        self.take_over(removed, dot)
+        self.take_over(removed, dot.origin)
     }
 
     fn mentions(&self, id: Id) -> bool {
-        self.shares.at(id) != 0
+        self.shares.at(id).number() != 0
     }
 
     fn show(&self, _alloc: Global) -> Result<Shown, Memory> {
@@ -177,7 +178,7 @@ impl Replica for GCounter {
 
     ghost data_empty = { λ _ log held gone none. laws.data_empty increment log held gone none };
 
-    ghost data_applied = { λ state log held gone op dot p stays next seq is _ free. laws.data_applied increment state log held gone op dot p stays next seq is free };
+    ghost data_applied = { λ state log held gone op dot p stays next seq is _ _. laws.data_applied increment state log held gone op dot p stays next seq is };
 
     ghost data_joined = { λ state other log held also gone _ h j p d e. laws.data_joined increment state other log held also gone h j p d e };
 
@@ -185,7 +186,7 @@ impl Replica for GCounter {
 
     ghost data_cleaned = { laws.data_cleaned increment };
 
-    ghost data_pruned = { laws.data_pruned increment };
+    ghost data_pruned = { λ state log held gone removed dot p stays next seq is other kept _. laws.data_pruned increment state log held gone removed dot p stays next seq is other kept };
 
     ghost delta_combined = { λ _ first later log origin after mid to _ _. laws.delta_combined increment first later log origin after mid to };
 

@@ -1,14 +1,12 @@
-ghost use Rattle.std.specs.Prelude.{◌≡◌, ℕ, OnOk, OnErr, IfOk, IfErr, None};
+ghost use Rattle.std.specs.Prelude.{◌≡◌, ℕ, ◌≤◌, ◌^◌, OnOk, OnErr, IfOk, IfErr, None};
 ghost use Rattle.rd_vectors.specs.declared.id.Dot.{Dot};
 ghost use Rattle.rd_lattice.specs.Refusals.{IsApplyRefusal, IsPruneRefusal};
 ghost use Rattle.rd_counters.specs.Counter.{counter_applied, counter_delta_of, counter_apply_refusal, counter_absorbed, counter_pruned, counter_prune_refusal, counter_sum};
 
+use crate::amounts::Amount;
 use crate::counter::{GCounter, Share};
 use rd_lattice::{ApplyError, PruneError};
 use rd_vectors::{Dot, IDENTITIES, Id, Memory};
-
-/// The most that one identity may hold.
-const GREATEST_SHARE: u128 = 0x7fff_ffff_ffff_ffff;
 
 impl GCounter {
     /// Adds an amount to the share of the dot's origin, and answers that share.
@@ -20,17 +18,25 @@ impl GCounter {
         ensures err { OnErr result (self.new ≡ self.old) }
     {
         let share = self.shares.at(dot.origin);
-        if u128::from(share) + u128::from(by) > GREATEST_SHARE {
-            return Err(ApplyError::Overflow { share, amount: by });
-        }
-        let share = share + by;
-        if share > 0 {
-            self.shares.raise(dot.origin, share)?;
-        }
+        let Some(sum) = share.plus(by) else {
+            return Err(ApplyError::Overflow {
+                share: share.number(),
+                amount: by,
+            });
+        };
+        self.shares.raise(dot.origin, sum)?;
         Ok(Share {
             origin: dot.origin,
-            share,
+            share: sum,
         })
+    }
+
+    /// The share of the dot's origin, to which it adds nothing.
+    pub(crate) fn stay(&self, dot: Dot) -> Amount
+        ensures same { self.now ≡ counter_applied self.now 0 dot }
+        ensures share { result ≡ (counter_delta_of self.now 0 dot).share }
+    {
+        self.shares.at(dot.origin)
     }
 
     /// Takes the greater of the share here and that of a delta.
@@ -38,44 +44,59 @@ impl GCounter {
         ensures ok { OnOk result (self.new ≡ counter_absorbed self.old delta) }
         ensures err { OnErr result (self.new ≡ self.old) }
     {
-        let _share = self.shares.at(delta.origin);
-        if delta.share > 0 {
-            self.shares.raise(delta.origin, delta.share)?;
-        }
+        self.shares.raise(delta.origin, delta.share)
+    }
+
+    /// Adds the share of a removed identity to that of its owner.
+    pub(crate) fn take_over(&mut self, removed: Id, owner: Id) -> Result<(), PruneError>
+        requires { removed ≡ owner → ⊥ }
+        ensures unrefused { OnOk result (counter_prune_refusal self.old removed owner ≡ None) }
+        ensures pruned { OnOk result (self.new ≡ counter_pruned self.old removed owner) }
+        ensures refused { IfErr result (IsPruneRefusal (counter_prune_refusal self.old removed owner)) }
+        ensures err { OnErr result (self.new ≡ self.old) }
+    {
+        let owner_share = self.shares.at(owner);
+        let removed_share = self.shares.at(removed);
+        let Some(sum) = owner_share.plus(removed_share.number()) else {
+            return Err(PruneError::Blocked {
+                owner_share: owner_share.number(),
+                removed_share: removed_share.number(),
+            });
+        };
+        self.shares.raise(owner, sum)?;
+        self.shares.without(removed);
         Ok(())
     }
 
-    /// Adds the share of a removed identity to that of the dot's origin.
-    pub(crate) fn take_over(&mut self, removed: Id, dot: Dot) -> Result<(), PruneError>
-        requires { removed ≡ dot.origin → ⊥ }
-        ensures unrefused { OnOk result (counter_prune_refusal self.old removed dot.origin ≡ None) }
-        ensures pruned { OnOk result (self.new ≡ counter_pruned self.old removed dot) }
-        ensures refused { IfErr result (IsPruneRefusal (counter_prune_refusal self.old removed dot.origin)) }
-        ensures err { OnErr result (self.new ≡ self.old) }
+    /// An equal counter that took over a share, as `take_over` does.
+    pub(crate) fn taken_over(&self, removed: Id, owner: Id) -> Result<GCounter, PruneError>
+        requires { removed ≡ owner → ⊥ }
+        ensures unrefused { OnOk result (counter_prune_refusal self.now removed owner ≡ None) }
+        ensures pruned { IfOk result (λ pruned. pruned ≡ counter_pruned self.now removed owner) }
+        ensures refused { IfErr result (IsPruneRefusal (counter_prune_refusal self.now removed owner)) }
     {
-        let owner_share = self.shares.at(dot.origin);
-        let removed_share = self.shares.at(removed);
-        if u128::from(owner_share) + u128::from(removed_share) > GREATEST_SHARE {
-            return Err(PruneError::Blocked {
-                owner_share,
-                removed_share,
-            });
-        }
-        if removed_share > 0 {
-            self.shares.raise(dot.origin, owner_share + removed_share)?;
-            self.shares.without(removed);
-        }
-        Ok(())
+        let mut pruned = self.copy_beside()?;
+        pruned.take_over(removed, owner)?;
+        Ok(pruned)
+    }
+
+    /// An equal counter, from the same allocator.
+    pub(crate) fn copy_beside(&self) -> Result<GCounter, Memory>
+        ensures { IfOk result (λ copy. copy ≡ self.now) }
+    {
+        let shares = self.shares.copy_beside()?;
+        Ok(GCounter { shares })
     }
 
     /// The sum of the shares.
     pub(crate) fn sum(&self) -> u128
-        ensures { result ≡ counter_sum self.now }
+        ensures value { result ≡ counter_sum self.now }
+        ensures range { result ≤ 2 ^ 70 }
     {
         let mut total: u128 = 0;
         for number in 0..IDENTITIES {
             if let Some(id) = Id::new(number) {
-                total += u128::from(self.shares.at(id));
+                total += u128::from(self.shares.at(id).number());
             }
         }
         total
