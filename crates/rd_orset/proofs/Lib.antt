@@ -1,0 +1,6 @@
+pub mod Changes
+pub mod ElementsInOrder
+pub mod Merging
+pub mod Others
+pub mod Placings
+pub mod SetsOfDots

@@ -1,0 +1,14 @@
+pub mod Placing
+pub mod Dots
+pub mod Keeping
+pub mod Tests
+pub mod Live
+pub mod LiveLaws
+pub mod DataOf
+pub mod Cases
+pub mod DotLaws
+pub mod JoinLaws
+pub mod DataLaws
+pub mod OperationLaws
+pub mod PruneLaws
+pub mod ShownLaws

@@ -1,0 +1,243 @@
+ghost use Rattle.std.specs.Prelude.{◌≡◌, ◌≤◌, ◌^◌, ◌∷◌, [], true, not, ◌&&◌, nat_le, length, None, OnOk, OnErr, IfOk, IfErr};
+ghost use Rattle.std.specs.FinSet as set;
+ghost use Rattle.rd_meanings.specs.Refusal.{full, greatest_set};
+ghost use Rattle.rd_history.specs.Texts.{contains_text};
+ghost use Rattle.rd_kinds.specs.declared.operation.Op.TheVariants as op;
+ghost use Rattle.rd_lattice.specs.Refusals.{IsApplyRefusal};
+ghost use Rattle.rd_vectors.specs.Vectors.{number_at};
+ghost use Rattle.rd_orset.specs.Placing.{key};
+ghost use Rattle.rd_orset.specs.Dots.{is_element, set_joined, set_absorbed, set_combined, set_applied, set_delta_of, set_cleaned, set_pruned, set_mentioned, shown_elements};
+ghost use Rattle.rd_orset.specs.Keeping.{set_merged};
+
+use crate::dots::{All, Nothing, Rule, copied, has_origin, merged, named, unnamed};
+use crate::elements::{
+    append_at, count_elements, elements_at, elements_of, has_element, others, placed_at,
+};
+use crate::set::{OrSet, SetDelta};
+use rd_bytes::{Items, Memory, Text};
+use rd_kinds::Texts;
+use rd_lattice::ApplyError;
+use rd_vectors::{Dot, Id, VersionVector};
+use std::alloc::Global;
+
+/// With so many elements a set takes no other.
+pub const MOST_ELEMENTS: usize = 256;
+
+impl OrSet {
+    /// A set without dots.
+    pub(crate) fn new(alloc: Global) -> OrSet
+        ensures { result ≡ set.empty }
+    {
+        OrSet {
+            alloc,
+            dots: Vec::new(alloc),
+        }
+    }
+
+    /// The dots of two sets that stay: those of both where `both` says so, those of one alone by its rule.
+    fn merged_with<M: Rule, T: Rule>(
+        &self,
+        alloc: Global,
+        both: bool,
+        my_rule: &M,
+        other: &OrSet,
+        their_rule: &T,
+    ) -> Result<OrSet, Memory>
+        ensures { IfOk result (λ all. all ≡ set_merged both (M.keeps my_rule.now) (T.keeps their_rule.now) self.now other.now) }
+    {
+        let dots = merged(alloc, both, &self.dots, my_rule, &other.dots, their_rule)?;
+        Ok(OrSet { alloc, dots })
+    }
+
+    /// An equal set.
+    pub(crate) fn copy_of(&self, alloc: Global) -> Result<OrSet, Memory>
+        ensures { IfOk result (λ copy. copy ≡ self.now) }
+    {
+        let dots = copied(alloc, &self.dots)?;
+        Ok(OrSet { alloc, dots })
+    }
+
+    /// The dots of both.
+    fn united(&self, alloc: Global, other: &OrSet) -> Result<OrSet, Memory>
+        ensures { IfOk result (λ all. all ≡ set.union self.now other.now) }
+    {
+        self.merged_with(alloc, true, &All, other, &All)
+    }
+
+    /// The dots that the other lacks.
+    fn without(&self, alloc: Global, other: &OrSet) -> Result<OrSet, Memory>
+        ensures { IfOk result (λ rest. rest ≡ set.difference self.now other.now) }
+    {
+        self.merged_with(alloc, false, &All, other, &Nothing)
+    }
+
+    /// One dot.
+    fn of(alloc: Global, element: &Text, dot: &Dot) -> Result<OrSet, Memory>
+        requires { (1 ≤ dot.now.seq) × (dot.now.seq ≤ 2 ^ 62) }
+        ensures { IfOk result (λ one. one ≡ set.insert set.empty (key element.now dot.now.origin dot.now.seq)) }
+    {
+        let mut dots = Vec::new(alloc);
+        append_at(&mut dots, alloc, element, dot)?;
+        Ok(OrSet { alloc, dots })
+    }
+
+    /// The dots of an element.
+    fn named(&self, alloc: Global, element: &Text) -> Result<OrSet, Memory>
+        ensures { IfOk result (λ own. own ≡ set.retain self.now (is_element element.now)) }
+    {
+        let dots = named(alloc, &self.dots, element)?;
+        Ok(OrSet { alloc, dots })
+    }
+
+    /// The dots of all other elements.
+    fn unnamed(&self, alloc: Global, element: &Text) -> Result<OrSet, Memory>
+        ensures { IfOk result (λ rest. rest ≡ set.retain self.now (λ k. not (is_element element.now k))) }
+    {
+        let dots = unnamed(alloc, &self.dots, element)?;
+        Ok(OrSet { alloc, dots })
+    }
+
+    /// Whether the set takes no other element, and this is one.
+    fn is_full_for(&self, element: &Text) -> bool
+        ensures { result ≡ (nat_le greatest_set (length (shown_elements self.now)) && not (contains_text (shown_elements self.now) element.now)) }
+    {
+        count_elements(&self.dots) >= MOST_ELEMENTS && !has_element(&self.dots, element)
+    }
+
+    /// Gives an element the dot alone, unless the set is full, and answers what that added and saw.
+    pub(crate) fn add(
+        &mut self,
+        alloc: Global,
+        element: &Text,
+        dot: &Dot,
+    ) -> Result<SetDelta, ApplyError>
+        requires { (1 ≤ dot.now.seq) × (dot.now.seq ≤ 2 ^ 62) }
+        ensures unrefused { OnOk result (full element.now (shown_elements self.old) ≡ None) }
+        ensures applied { OnOk result (self.new ≡ set_applied self.old (op.Add element.now) dot.now) }
+        ensures delta { IfOk result (λ delta. delta ≡ set_delta_of self.old (op.Add element.now) dot.now) }
+        ensures refused { IfErr result (IsApplyRefusal (full element.now (shown_elements self.old))) }
+        ensures err { OnErr result (self.new ≡ self.old) }
+    {
+        if self.is_full_for(element) {
+            return Err(ApplyError::SetFull);
+        }
+        let fresh = OrSet::of(alloc, element, dot)?;
+        let old = self.named(alloc, element)?;
+        let seen = old.united(alloc, &fresh)?;
+        let left = self.unnamed(self.alloc, element)?;
+        let next = left.united(self.alloc, &fresh)?;
+        *self = next;
+        Ok(SetDelta { fresh, seen })
+    }
+
+    /// Takes all dots from an element, and answers what that saw.
+    pub(crate) fn remove(
+        &mut self,
+        alloc: Global,
+        element: &Text,
+        dot: &Dot,
+    ) -> Result<SetDelta, Memory>
+        ensures applied { OnOk result (self.new ≡ set_applied self.old (op.Remove element.now) dot.now) }
+        ensures delta { IfOk result (λ delta. delta ≡ set_delta_of self.old (op.Remove element.now) dot.now) }
+        ensures err { OnErr result (self.new ≡ self.old) }
+    {
+        let fresh = OrSet::new(alloc);
+        let seen = self.named(alloc, element)?;
+        let next = self.unnamed(self.alloc, element)?;
+        *self = next;
+        Ok(SetDelta { fresh, seen })
+    }
+
+    /// Keeps a dot that both have, and a dot that one has where the other's vector doesn't count it.
+    pub(crate) fn join_with(
+        &mut self,
+        mine: &VersionVector,
+        other: &OrSet,
+        theirs: &VersionVector,
+    ) -> Result<(), Memory>
+        ensures ok { OnOk result (self.new ≡ set_joined self.old (number_at mine.now) other.now (number_at theirs.now)) }
+        ensures err { OnErr result (self.new ≡ self.old) }
+    {
+        let next = self.merged_with(self.alloc, true, theirs, other, mine)?;
+        *self = next;
+        Ok(())
+    }
+
+    /// Drops the dots that were seen but for the fresh ones, and takes a fresh dot where the vector doesn't count it.
+    pub(crate) fn take(&mut self, mine: &VersionVector, delta: &SetDelta) -> Result<(), Memory>
+        ensures ok { OnOk result (self.new ≡ set_absorbed self.old (number_at mine.now) delta.now) }
+        ensures err { OnErr result (self.new ≡ self.old) }
+    {
+        let left = self.without(self.alloc, &delta.seen)?;
+        let fresh = self.merged_with(self.alloc, true, &Nothing, &delta.fresh, mine)?;
+        let next = left.united(self.alloc, &fresh)?;
+        *self = next;
+        Ok(())
+    }
+
+    /// Drops every dot of an identity.
+    pub(crate) fn drop_dots_of(&mut self, id: Id)
+        ensures { self.new ≡ set_cleaned self.old id }
+    {
+        self.dots.retain(|placed| placed.origin != id);
+    }
+
+    /// Gives each element with a dot of an identity the new dot alone.
+    pub(crate) fn take_over(&mut self, removed: Id, dot: &Dot) -> Result<(), Memory>
+        requires { (1 ≤ dot.now.seq) × (dot.now.seq ≤ 2 ^ 62) }
+        ensures ok { OnOk result (self.new ≡ set_pruned self.old removed dot.now) }
+        ensures err { OnErr result (self.new ≡ self.old) }
+    {
+        let texts = elements_at(self.alloc, &self.dots, removed)?;
+        let moved = OrSet {
+            alloc: self.alloc,
+            dots: placed_at(self.alloc, &texts, dot)?,
+        };
+        let left = OrSet {
+            alloc: self.alloc,
+            dots: others(self.alloc, &self.dots, &texts)?,
+        };
+        let next = left.united(self.alloc, &moved)?;
+        *self = next;
+        Ok(())
+    }
+
+    /// Whether a dot is of this identity.
+    pub(crate) fn has_dot_of(&self, id: Id) -> bool
+        ensures { result ≡ set_mentioned self.now id }
+    {
+        has_origin(&self.dots, id)
+    }
+
+    /// The elements in byte order, each once.
+    pub(crate) fn listed(&self, alloc: Global) -> Result<Texts, Memory>
+        ensures { IfOk result (λ texts. texts ≡ shown_elements self.now) }
+    {
+        Ok(Items::from_vec(elements_of(alloc, &self.dots)?))
+    }
+}
+
+impl SetDelta {
+    /// Two deltas as one: what the later has seen is fresh no more.
+    pub(crate) fn combined(
+        alloc: Global,
+        first: &SetDelta,
+        later: &SetDelta,
+    ) -> Result<SetDelta, Memory>
+        ensures { IfOk result (λ both. both ≡ set_combined first.now later.now) }
+    {
+        let left = first.fresh.without(alloc, &later.seen)?;
+        let fresh = later.fresh.united(alloc, &left)?;
+        let seen = first.seen.united(alloc, &later.seen)?;
+        Ok(SetDelta { fresh, seen })
+    }
+
+    /// An equal delta.
+    pub(crate) fn copy_of(&self, alloc: Global) -> Result<SetDelta, Memory>
+        ensures { IfOk result (λ copy. copy ≡ self.now) }
+    {
+        let fresh = self.fresh.copy_of(alloc)?;
+        let seen = self.seen.copy_of(alloc)?;
+        Ok(SetDelta { fresh, seen })
+    }
+}
