@@ -1,0 +1,9 @@
+//! A value of any of the six kinds, as one replicated data type.
+#![tactic(auto)]
+
+mod replica;
+#[cfg(test)]
+mod tests;
+mod value;
+
+pub use value::{Data, Delta};
