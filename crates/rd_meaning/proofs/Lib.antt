@@ -1,0 +1,8 @@
+pub mod TextPlaces
+pub mod Newest
+pub mod Walks
+pub mod Pasts
+pub mod TouchesMean
+pub mod TimestampsMean
+pub mod Meanings
+pub mod Spelled

@@ -1,0 +1,29 @@
+-- Lists of records, and the histories that they spell.
+use Rattle.std.specs.Prelude.{◌≡◌, List, map}
+use Rattle.std.specs.declared.cmp.Ordering.{Ordering}
+use Rattle.std.specs.Ordering.{nat_cmp}
+use Rattle.std.specs.Cmp.Lexicographic.{slice_cmp}
+use Rattle.rd_history.specs.Texts.{Text}
+use Rattle.rd_history.specs.History.{Action as Meant, History, Stamped, all_records, IsHistory}
+use Rattle.rd_vectors.specs.Vectors.{number_at}
+use Rattle.rd_kinds.specs.declared.operation.Op.{Op}
+use Rattle.rd_meaning.specs.declared.record.Action.{Action}
+use Rattle.rd_meaning.specs.declared.record.Action.TheVariants.{Operation, Prune}
+use Rattle.rd_meaning.specs.declared.record.Record.{Record}
+
+abbrev pub action_of : Action → Meant Op
+action_of (Operation op) = Meant.Operation op
+action_of (Prune removed) = Meant.Prune removed
+
+-- the order of bytes
+abbrev pub text_order : Text → Text → Ordering
+text_order = slice_cmp nat_cmp
+
+-- a record as histories have it
+abbrev pub stamped : Record → Stamped Op
+stamped r = record { origin = r.origin; number = r.number; action = action_of r.action; past = number_at r.past }
+
+-- the list is every record of a history, by origin and then by number
+pub record AreRecordsOf (records : List Record) (H : History Op) : Type 0 where
+  pub history : IsHistory H
+  pub listed : map stamped records ≡ all_records H

@@ -1,0 +1,51 @@
+ghost use Rattle.std.specs.Prelude.{◌≡◌, IfOk, pos, neg_ℤ, ◌+ℤ◌};
+ghost use Rattle.rd_history.specs.History.{History};
+ghost use Rattle.rd_kinds.specs.SixKinds as kinds;
+ghost use Rattle.rd_kinds.specs.declared.shown.Shown.TheVariants.{Signed};
+ghost use Rattle.rd_meaning.specs.Records.{AreRecordsOf};
+
+use crate::counts::{decrements, increments};
+use crate::elements::{added_elements, live_elements};
+use crate::record::Record;
+use crate::switches::is_on;
+use crate::timestamps::winning_text;
+use rd_bytes::{Items, Memory};
+use rd_kinds::{Kind, Op, Shown};
+use std::alloc::Global;
+
+/// A sum as a signed number. Memory has no room for so many records that it isn't one.
+fn signed(sum: u128) -> Result<i128, Memory>
+    ensures { IfOk result (λ number. number ≡ pos sum) }
+{
+    match i128::try_from(sum) {
+        Ok(number) => Ok(number),
+        Err(_) => Err(Memory),
+    }
+}
+
+/// What a sum comes to where another is taken from it.
+fn difference(added: u128, taken: u128) -> Result<Shown, Memory>
+    ensures { IfOk result (λ shown. shown ≡ Signed (pos added +ℤ neg_ℤ (pos taken))) }
+{
+    Ok(Shown::Signed(signed(added)? - signed(taken)?))
+}
+
+/// What a history of a kind shows. The records are those of the history, by origin and then by number.
+pub fn meaning(alloc: Global, kind: Kind, records: &[Record]) -> Result<Shown, Memory>
+    ensures { (H : History Op) → AreRecordsOf records.now H → IfOk result (λ shown. shown ≡ kinds.shown kind H) }
+{
+    match kind {
+        Kind::GCounter => Ok(Shown::Count(increments(records))),
+        Kind::PnCounter => difference(increments(records), decrements(records)),
+        Kind::GSet => {
+            let elements = added_elements(alloc, records)?;
+            Ok(Shown::Elements(Items::from_vec(elements)))
+        }
+        Kind::OrSet => {
+            let elements = live_elements(alloc, records)?;
+            Ok(Shown::Elements(Items::from_vec(elements)))
+        }
+        Kind::Flag => Ok(Shown::Switch(is_on(records))),
+        Kind::LwwRegister => Ok(Shown::Written(winning_text(alloc, records)?)),
+    }
+}

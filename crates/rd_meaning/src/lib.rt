@@ -1,0 +1,17 @@
+//! What a history means, computed from the definitions alone: slow, and without a word of the data types that members hold.
+#![tactic(auto)]
+
+mod by_kind;
+mod counts;
+mod elements;
+mod laws;
+mod record;
+mod switches;
+#[cfg(test)]
+mod tests;
+mod timestamps;
+mod touches;
+
+pub use by_kind::meaning;
+pub use laws::histories_are_lists;
+pub use record::{Action, Record};
