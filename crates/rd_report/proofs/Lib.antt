@@ -1,4 +1,5 @@
 pub mod FinalBlocks
+pub mod NamedKinds
 pub mod Orders
 pub mod Stages
 pub mod Told

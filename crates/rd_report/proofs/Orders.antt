@@ -10,6 +10,7 @@ use Rattle.std.proofs.lemmas.Cmp.{same_from_slice_cmp}
 use Rattle.rd_history.specs.Texts.{Text, text_lt}
 use Rattle.std.proofs.lemmas.List.{take_more}
 use Rattle.rd_model.specs.Node as model
+use Rattle.rd_kinds.specs.declared.kind.Kind.{Kind}
 use Rattle.rd_script.specs.declared.script.ScriptKey.{ScriptKey}
 use Rattle.rd_node.specs.declared.key.KeyDecl.{KeyDecl}
 use Rattle.rd_node.specs.Members.{AreDistinct, declared}
@@ -84,7 +85,7 @@ distinct_cons x ys fresh apart zero (suc j) n e f = absurd (fresh j (f ∙ sym e
 distinct_cons x ys fresh apart (suc i) zero n e f = absurd (fresh i (e ∙ sym f))
 distinct_cons x ys fresh apart (suc i) (suc j) n e f = ap suc (apart i j n e f)
 
-distinct_tail : (x : Text) (ys : List Text) → AreDistinct (x ∷ ys) → AreDistinct ys
+pub distinct_tail : (x : Text) (ys : List Text) → AreDistinct (x ∷ ys) → AreDistinct ys
 distinct_tail x ys apart i j n e f = let s = apart (suc i) (suc j) n e f in omega (arith, s)
 
 distinct_head : (x : Text) (ys : List Text) → AreDistinct (x ∷ ys) → IsFresh x ys
@@ -141,13 +142,13 @@ pub ordered_more : {X : Type 0} (name : X → Text) (xs : List X) (i : ℕ) (x :
 ordered_more name xs i x here is = ap (ordered name) (take_more xs i x here) ∙ fold_more name [] (take i xs) (get_or xs i x) ∙ ap (placed name (ordered name (take i xs))) (sym is)
 
 module _ {T Op Delta : Type 0} where
-  pub one_more : (keys : List ScriptKey) (i : ℕ) (key : ScriptKey) (old new : List (KeyDecl T (Unit {0}) Op Delta)) (decl : KeyDecl T (Unit {0}) Op Delta) (place : ℕ) → i < length keys → key ≡ get_or keys i key → decl.key ≡ key.key
-      → place ≡ place_in (map (λ (d : KeyDecl T (Unit {0}) Op Delta). d.key) old) key.key → new ≡ insert old place decl → map declared old ≡ map plain_of (in_order (take i keys)) → map declared new ≡ map plain_of (in_order (take (i + 1) keys))
-  one_more keys i key old new decl place here is same at grown before =
-      let by_key = λ (d : KeyDecl T (Unit {0}) Op Delta). d.key in
-      let name = λ (d : model.KeyDecl (Unit {0})). d.name in
+  pub one_more : (keys : List ScriptKey) (i : ℕ) (key : ScriptKey) (old new : List (KeyDecl T Kind Op Delta)) (decl : KeyDecl T Kind Op Delta) (place : ℕ) → i < length keys → key ≡ get_or keys i key → decl.key ≡ key.key → decl.kind ≡ key.kind
+      → place ≡ place_in (map (λ (d : KeyDecl T Kind Op Delta). d.key) old) key.key → new ≡ insert old place decl → map declared old ≡ map plain_of (in_order (take i keys)) → map declared new ≡ map plain_of (in_order (take (i + 1) keys))
+  one_more keys i key old new decl place here is same kind at grown before =
+      let by_key = λ (d : KeyDecl T Kind Op Delta). d.key in
+      let name = λ (d : model.KeyDecl Kind). d.name in
       let place_is : place ≡ place_in (map by_key old) decl.key = at ∙ ap (place_in (map by_key old)) (sym same) in
-      let decl_is : declared decl ≡ plain_of key = ap (λ n. record { name = n; kind = tt; durable = false }) same in
+      let decl_is : declared decl ≡ plain_of key = ap₂ (λ n k. record { name = n; kind = k; durable = false }) same kind in
       ap (map declared) (grown ∙ ap (λ p. insert old p decl) place_is ∙ sym (placed_insert by_key old decl)) ∙ map_placed declared by_key name (λ d. refl) old decl
       ∙ ap₂ (placed name) before decl_is ∙ sym (map_placed plain_of (λ (k : ScriptKey). k.key) name (λ k. refl) (in_order (take i keys)) key)
       ∙ ap (map plain_of) (sym (ordered_more (λ (k : ScriptKey). k.key) keys i key here is))
@@ -175,20 +176,20 @@ apart_names keys apart i j name e f =
 all_plain : (keys : List ScriptKey) → All (λ (k : ScriptKey). k.durable ≡ false) keys → map plain_of keys ≡ map decl_of keys
 all_plain [] plain = refl
 all_plain (k ∷ ks) plain =
-    ap₂ (λ (d : model.KeyDecl (Unit {0})) ds. d ∷ ds) (ap (λ durable. record { name = k.key; kind = tt; durable = durable }) (sym (plain zero k (omega arith)))) (all_plain ks (λ i d less. plain (suc i) d (omega (arith, less))))
+    ap₂ (λ (d : model.KeyDecl Kind) ds. d ∷ ds) (ap (λ durable. record { name = k.key; kind = k.kind; durable = durable }) (sym (plain zero k (omega arith)))) (all_plain ks (λ i d less. plain (suc i) d (omega (arith, less))))
 
-module _ {T Op Delta : Type 0} (keys : List ScriptKey) (decls : List (KeyDecl T (Unit {0}) Op Delta)) (made : map declared decls ≡ map plain_of (in_order keys)) where
-  pub distinct_keys : AllPairs (λ (a b : ScriptKey). a.key ≢ b.key) keys → AreDistinct (map (λ (d : KeyDecl T (Unit {0}) Op Delta). d.key) decls)
+module _ {T Op Delta : Type 0} (keys : List ScriptKey) (decls : List (KeyDecl T Kind Op Delta)) (made : map declared decls ≡ map plain_of (in_order keys)) where
+  pub distinct_keys : AllPairs (λ (a b : ScriptKey). a.key ≢ b.key) keys → AreDistinct (map (λ (d : KeyDecl T Kind Op Delta). d.key) decls)
   distinct_keys apart =
-      let by_name = λ (d : model.KeyDecl (Unit {0})). d.name in
+      let by_name = λ (d : model.KeyDecl Kind). d.name in
       let by_key = λ (k : ScriptKey). k.key in
-      let names : map (λ (d : KeyDecl T (Unit {0}) Op Delta). d.key) decls ≡ ordered itself (map by_key keys) =
-      sym (map_after declared by_name (λ (d : KeyDecl T (Unit {0}) Op Delta). d.key) (λ d. refl) decls) ∙ ap (map by_name) made ∙ map_after plain_of by_name by_key (λ k. refl) (in_order keys)
+      let names : map (λ (d : KeyDecl T Kind Op Delta). d.key) decls ≡ ordered itself (map by_key keys) =
+      sym (map_after declared by_name (λ (d : KeyDecl T Kind Op Delta). d.key) (λ d. refl) decls) ∙ ap (map by_name) made ∙ map_after plain_of by_name by_key (λ k. refl) (in_order keys)
       ∙ map_ordered by_key by_key itself (λ k. refl) keys in
       subst AreDistinct (sym names) (distinct_ordered (map by_key keys) (apart_names keys apart))
 
   pub declared_keys : All (λ (k : ScriptKey). k.durable ≡ false) keys → map declared decls ≡ map decl_of (in_order keys)
   declared_keys plain =
-      let by_name = λ (d : model.KeyDecl (Unit {0})). d.name in
+      let by_name = λ (d : model.KeyDecl Kind). d.name in
       let by_key = λ (k : ScriptKey). k.key in
       made ∙ map_ordered plain_of by_key by_name (λ k. refl) keys ∙ ap (ordered by_name) (all_plain keys plain) ∙ sym (map_ordered decl_of by_key by_name (λ k. refl) keys)

@@ -1,4 +1,4 @@
-pub mod Counters
 pub mod Finals
 pub mod Lines
+pub mod Plays
 pub mod Run

@@ -2,23 +2,19 @@
 use Rattle.std.specs.Prelude.{◌≡◌, ℕ, suc, false, List, [], ◌∷◌, map, fold, if◌then◌else◌}
 use Rattle.rd_history.specs.Texts.{Text, text_lt}
 use Rattle.rd_model.specs.Entry.{Entry}
-use Rattle.rd_model.specs.DataType.{Replication}
+use Rattle.rd_model.specs.DataType.{DataType}
 use Rattle.rd_model.specs.Node.{KeyDecl, Level}
 use Rattle.rd_model.specs.Script.{ScriptStep}
 use Rattle.rd_model.specs.Report.{report}
-use Rattle.rd_kinds.specs.SixKinds.{of_kind}
 use Rattle.rd_kinds.specs.ShownText.{shown_text}
-use Rattle.rd_kinds.specs.declared.kind.Kind.TheVariants.{GCounter}
+use Rattle.rd_kinds.specs.declared.kind.Kind.{Kind}
 use Rattle.rd_kinds.specs.declared.operation.Op.{Op}
 use Rattle.rd_kinds.specs.declared.shown.Shown.{Shown}
+use Rattle.rd_node.specs.Members.{whole_entries}
 use Rattle.rd_script.specs.declared.script.Script.{Script}
 use Rattle.rd_script.specs.declared.script.ScriptKey.{ScriptKey}
 use Rattle.rd_script.specs.declared.script.Step.{Step}
 use Rattle.rd_script.specs.declared.script.Step.TheVariants.{Update, Get, Flush, Deliver, Lose, Round}
-
--- growing counters, whose whole entries are sent
-abbrev pub counters : (Unit {0} → Entry Op → List ℕ) → Replication (Unit {0}) Op Shown
-counters digest = record { data_type = of_kind GCounter; digest = digest; log_length = 0 }
 
 abbrev pub step_of : Step → ScriptStep Op
 step_of (Update at key op) = ScriptStep.Update at key op Level.Local
@@ -28,12 +24,12 @@ step_of (Deliver from to index) = ScriptStep.Deliver from to index
 step_of (Lose from to) = ScriptStep.Lose from to
 step_of Round = ScriptStep.Round
 
-abbrev pub decl_of : ScriptKey → KeyDecl (Unit {0})
-decl_of key = record { name = key.key; kind = tt; durable = key.durable }
+abbrev pub decl_of : ScriptKey → KeyDecl Kind
+decl_of key = record { name = key.key; kind = key.kind; durable = key.durable }
 
 -- the same key, not durable
-abbrev pub plain_of : ScriptKey → KeyDecl (Unit {0})
-plain_of key = record { name = key.key; kind = tt; durable = false }
+abbrev pub plain_of : ScriptKey → KeyDecl Kind
+plain_of key = record { name = key.key; kind = key.kind; durable = false }
 
 -- where a name stands among others: before the first that is greater
 abbrev pub place_in : List Text → Text → ℕ
@@ -52,7 +48,7 @@ ordered name xs = fold (placed name) [] xs
 abbrev pub in_order : List ScriptKey → List ScriptKey
 in_order keys = ordered (λ key. key.key) keys
 
--- whatever the digests of entries are, this is the report of the script's run
-abbrev pub IsReport : Script → List ℕ → Type 0
-IsReport script text =
-    (digest : Unit {0} → Entry Op → List ℕ) → text ≡ report (counters digest) shown_text (λ place. []) script.members (map decl_of (in_order script.keys)) (map step_of script.steps)
+-- whatever the digests of entries are, this is the report of the script's run over values of the data type
+abbrev pub IsReport : DataType Kind Op Shown → Script → List ℕ → Type 0
+IsReport data_type script text =
+    (digest : Kind → Entry Op → List ℕ) → text ≡ report (whole_entries data_type digest) shown_text (λ place. []) script.members (map decl_of (in_order script.keys)) (map step_of script.steps)

@@ -4,6 +4,7 @@ ghost use Rattle.rd_model.specs.DataType.{DataType, Replication};
 ghost use Rattle.rd_model.specs.Script.{Told};
 ghost use Rattle.rd_model.specs.Report.{words, reply_text, answer_text, told_text};
 ghost use Rattle.rd_kinds.specs.ShownText.{shown_text};
+ghost use Rattle.rd_kinds.specs.declared.kind.Kind.{Kind};
 ghost use Rattle.rd_kinds.specs.declared.operation.Op.{Op};
 ghost use Rattle.rd_kinds.specs.declared.shown.Shown.{Shown};
 ghost use Rattle.rd_node.specs.Members.{meant};
@@ -136,7 +137,7 @@ pub(crate) fn push_lines(
     number: usize,
     events: &[Event],
 ) -> Result<(), Memory>
-    ensures { (D : Replication (Unit {0}) Op Shown) (told : List (Told Op Shown)) → AllZip IsLine events.now told
+    ensures { (D : Replication Kind Op Shown) (told : List (Told Op Shown)) → AllZip IsLine events.now told
         → OnOk result (string_bytes text.new ≡ string_bytes text.old ++ flat_map (told_text D shown_text number) told) }
 {
     for event in events {

@@ -3,13 +3,14 @@ ghost use Rattle.rd_report.specs.Run.{place_in, plain_of, in_order};
 ghost use Rattle.rd_node.specs.Members.{declared};
 
 use rd_bytes::Memory;
-use rd_counters::GCounter;
+use rd_kinds::{Kind, Op};
+use rd_lattice::Replica;
 use rd_node::KeyDecl;
 use rd_script::ScriptKey;
 use std::alloc::Global;
 
 /// Where a key with this name is to be put: before the first with a greater name.
-fn place_of(decls: &[KeyDecl<GCounter>], name: &str) -> usize
+fn place_of<T: Replica<Kind = Kind, Op = Op>>(decls: &[KeyDecl<T>], name: &str) -> usize
     ensures within { result ≤ length decls.now }
     ensures place { result ≡ place_in (map (λ decl. decl.key) decls.now) name.now }
 {
@@ -22,14 +23,17 @@ fn place_of(decls: &[KeyDecl<GCounter>], name: &str) -> usize
 }
 
 /// The keys of a script in the byte order of their names.
-pub(crate) fn in_order(alloc: Global, keys: &[ScriptKey]) -> Result<Vec<KeyDecl<GCounter>>, Memory>
+pub(crate) fn in_order<T: Replica<Kind = Kind, Op = Op>>(
+    alloc: Global,
+    keys: &[ScriptKey],
+) -> Result<Vec<KeyDecl<T>>, Memory>
     ensures { IfOk result (λ decls. map declared decls.items ≡ map plain_of (in_order keys.now)) }
 {
-    let mut decls: Vec<KeyDecl<GCounter>> = Vec::new(alloc);
+    let mut decls: Vec<KeyDecl<T>> = Vec::new(alloc);
     for key in keys {
         let decl = KeyDecl {
             key: key.key.copy(alloc)?,
-            kind: (),
+            kind: key.kind,
         };
         let place = place_of(decls.as_slice(), key.key.as_str());
         if decls.insert(place, decl).is_err() {

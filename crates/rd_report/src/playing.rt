@@ -4,18 +4,20 @@ ghost use Rattle.rd_history.specs.History.{History};
 ghost use Rattle.rd_model.specs.Entry.{Entry};
 ghost use Rattle.rd_model.specs.World.{World as Modelled};
 ghost use Rattle.rd_model.specs.Script.{Playing, IsRun, played};
-ghost use Rattle.rd_kinds.specs.declared.operation.Op.{Op};
 ghost use Rattle.rd_kinds.specs.declared.shown.Shown.{Shown};
+ghost use Rattle.rd_node.specs.Members.{whole_entries};
 ghost use Rattle.rd_script.specs.WellFormed.{IsWellFormed};
+ghost use Rattle.rd_world.specs.Standing.{StandsForWorld};
 ghost use Rattle.rd_world.specs.Ways.{Throughout};
-ghost use Rattle.rd_report.specs.Run.{counters, step_of, IsReport};
-ghost use Rattle.rd_report.specs.Counters.{StandsFor, Plays};
+ghost use Rattle.rd_report.specs.Run.{step_of, IsReport};
+ghost use Rattle.rd_report.specs.Plays.{Plays};
 
 use crate::lines::push_lines;
 use crate::members::push_final_block;
 use crate::order::in_order;
 use rd_bytes::{Items, Memory};
-use rd_counters::GCounter;
+use rd_kinds::{Kind, Op};
+use rd_lattice::Replica;
 use rd_script::{Script, Step};
 use rd_world::{Event, Events, World};
 use std::alloc::Global;
@@ -30,10 +32,15 @@ fn alone(alloc: Global, event: Event) -> Result<Events, Memory>
 }
 
 /// Plays a step of a script.
-fn play(alloc: Global, world: &mut World<GCounter>, step: &Step) -> Result<Events, Memory>
-    ensures { (digest : Unit {0} → Entry Op → List ℕ) (logs : Name → History Op) (first : Modelled (Unit {0}) Op Shown) (before : Playing (Unit {0}) Op Shown)
-        → let D = counters digest in let after = played D before (step_of step.now) in
-        IsRun D first before.events before.world → Throughout D logs first after → StandsFor logs world.old before.world → IfOk result (Plays logs before after world.new) }
+fn play<T: Replica<Kind = Kind, Op = Op>>(
+    alloc: Global,
+    world: &mut World<T>,
+    step: &Step,
+) -> Result<Events, Memory>
+    ensures { (digest : Kind → Entry Op → List ℕ) (kinds : Name → Kind) (logs : Name → History Op) (first : Modelled Kind Op Shown) (before : Playing Kind Op Shown)
+        → let D = whole_entries T.data_type digest in let after = played D before (step_of step.now) in
+        IsRun D first before.events before.world → Throughout D logs first after → StandsForWorld T.kind_of T.IsDataOf kinds logs world.old before.world
+        → IfOk result (Plays T.kind_of T.IsDataOf kinds logs before after world.new) }
 {
     match step {
         Step::Update { at, key, op } => alone(alloc, world.update(*at, key, op)?),
@@ -45,19 +52,22 @@ fn play(alloc: Global, world: &mut World<GCounter>, step: &Step) -> Result<Event
     }
 }
 
-/// The report of a script's run.
+/// The report of a script's run over values of the data type `T`.
 ///
 /// It has a line for each event of each step, and then for each member a block with what it holds of each key.
 ///
 /// # Errors
 ///
 /// Memory was refused.
-pub fn report(alloc: Global, script: &Script) -> Result<String, Memory>
+pub fn report<T: Replica<Kind = Kind, Op = Op>>(
+    alloc: Global,
+    script: &Script,
+) -> Result<String, Memory>
     requires { IsWellFormed script.now }
-    ensures { IfOk result (λ text. IsReport script.now (string_bytes text)) }
+    ensures { IfOk result (λ text. IsReport T.data_type script.now (string_bytes text)) }
 {
-    let keys = in_order(alloc, script.keys.as_slice())?;
-    let mut world = World::start(alloc, script.members, &keys)?;
+    let keys = in_order::<T>(alloc, script.keys.as_slice())?;
+    let mut world: World<T> = World::start(alloc, script.members, &keys)?;
     let mut text = String::new(alloc);
     for (i, step) in script.steps.as_slice().iter().enumerate() {
         let events = play(alloc, &mut world, step)?;

@@ -51,10 +51,18 @@ if_given reader (Some d) = reader (Some d) >>= (λ x. Ok (Some x))
 abbrev pub amount_of : ℕ → Option Data → Result ℕ Rule
 amount_of step = whole_of (rule step 10) 1 (2 ^ 63 - 1)
 
+-- where a writer's clock stands
+abbrev pub moment_of : ℕ → Option Data → Result ℕ Rule
+moment_of step = whole_of (rule step 10) 0 (2 ^ 63 - 1)
+
 -- ---- texts
 
 abbrev pub text_of : Rule → Option Data → Result (List ℕ) Rule
 text_of rule field = required rule (option_and_then as_str field)
+
+-- an element of a set, or the text of a register
+abbrev pub if_short : Rule → List ℕ → Result (List ℕ) Rule
+if_short rule text = if nat_le (length text) 64 then Ok text else Err rule
 
 -- a to z, 0 to 9, _ and -
 abbrev pub is_key_byte : ℕ → Bool

@@ -6,7 +6,7 @@ use Rattle.serde_json.specs.Data.{Data, Items, no_items, item}
 use Rattle.serde_json.specs.Find.{get}
 use Rattle.serde_json.specs.Read.{read}
 use Rattle.rd_kinds.specs.declared.kind.Kind.{Kind}
-use Rattle.rd_kinds.specs.declared.kind.Kind.TheVariants.{GCounter}
+use Rattle.rd_kinds.specs.declared.kind.Kind.TheVariants.{GCounter, PnCounter, GSet, Flag, LwwRegister, OrSet}
 use Rattle.rd_script.specs.declared.fault.Rule.{Rule}
 use Rattle.rd_script.specs.declared.script.Script.{Script}
 use Rattle.rd_script.specs.declared.script.ScriptKey.{ScriptKey}
@@ -87,8 +87,13 @@ steps_after before (item d ds) = do
 -- the kind of a name
 abbrev pub kind_named : List ℕ → Option Kind
 kind_named name =
-    if bytes_eq name (codes "gcounter") then Some GCounter else
-    None
+    if bytes_eq name (codes "gcounter") then Some GCounter else (
+    if bytes_eq name (codes "pncounter") then Some PnCounter else (
+    if bytes_eq name (codes "gset") then Some GSet else (
+    if bytes_eq name (codes "flag") then Some Flag else (
+    if bytes_eq name (codes "lwwregister") then Some LwwRegister else (
+    if bytes_eq name (codes "orset") then Some OrSet else
+    None)))))
 
 abbrev pub kind_of : Option Data → Result Kind Rule
 kind_of field = text_of (rule 0 3) field >>= (λ name. required (rule 0 3) (kind_named name))

@@ -1,5 +1,5 @@
 -- The bounds that every script keeps.
-use Rattle.std.specs.Prelude.{◌≡◌, ◌≢◌, ℕ, ◌-◌, ◌^◌, ◌<◌, ◌≤◌, length, false, All, AllPairs, ⊤}
+use Rattle.std.specs.Prelude.{◌≡◌, ◌≢◌, ℕ, ◌-◌, ◌^◌, ◌<◌, ◌≤◌, List, length, false, All, AllPairs, ⊤}
 use Rattle.rd_kinds.specs.declared.operation.Op.{Op}
 use Rattle.rd_kinds.specs.declared.operation.Op.TheVariants.{Increment, Decrement, Add, Remove, Enable, Assign}
 use Rattle.rd_script.specs.declared.script.Script.{Script}
@@ -10,13 +10,21 @@ use Rattle.rd_script.specs.declared.script.Step.TheVariants.{Update, Get, Flush,
 abbrev pub IsAmount : ℕ → Type 0
 IsAmount n = (1 ≤ n) × (n ≤ 2 ^ 63 - 1)
 
+-- an element, or the text of a register
+abbrev pub IsShort : List ℕ → Type 0
+IsShort text = length text ≤ 64
+
+-- where a writer's clock stands
+abbrev pub IsMoment : ℕ → Type 0
+IsMoment now = now ≤ 2 ^ 63 - 1
+
 abbrev pub IsOperation : Op → Type 0
 IsOperation (Increment by) = IsAmount by
 IsOperation (Decrement by) = IsAmount by
-IsOperation (Add element) = ⊤
-IsOperation (Remove element) = ⊤
+IsOperation (Add element) = IsShort element
+IsOperation (Remove element) = IsShort element
 IsOperation Enable = ⊤
-IsOperation (Assign text now) = ⊤
+IsOperation (Assign text now) = IsShort text × IsMoment now
 
 -- there are 64 identities
 abbrev pub IsIdentity : ℕ → Type 0

@@ -3,16 +3,20 @@ ghost use Rattle.std.specs.List.{list_all, count_by};
 ghost use Rattle.serde_json.specs.Find.{get, as_object};
 ghost use Rattle.serde_json.specs.Events.{items_len};
 ghost use Rattle.serde_json.specs.View.{view, items_view};
-ghost use Rattle.rd_script.specs.Fields.{Finds, Gives, whole_of, identity_of, amount_of, text_of, array_of, list_of, key_of, is_key_byte, is_key_name, are_objects, is_given, if_given, index_of, has_names, names_of, name_count};
-ghost use Rattle.rd_script.specs.WellFormed.{IsIdentity, IsAmount};
+ghost use Rattle.rd_script.specs.Fields.{Finds, Gives, whole_of, identity_of, amount_of, moment_of, text_of, if_short, array_of, list_of, key_of, is_key_byte, is_key_name, are_objects, is_given, if_given, index_of, has_names, names_of, name_count};
+ghost use Rattle.rd_script.specs.WellFormed.{IsIdentity, IsAmount, IsMoment, IsShort};
 
 use crate::fault::{Fault, Rule};
-use rd_bytes::Text;
+use rd_bytes::{Text, TextError};
+use rd_kinds::Moment;
 use serde_json::Value;
 use std::alloc::Global;
 
 /// The greatest amount that is added or taken at once.
 const MOST_ADDED: u64 = 0x7fff_ffff_ffff_ffff;
+
+/// The greatest moment of a writer's clock.
+const LAST_MOMENT: u64 = 0x7fff_ffff_ffff_ffff;
 
 /// The greatest identity.
 const LAST_IDENTITY: u64 = 63;
@@ -60,6 +64,18 @@ pub fn amount(value: &Value, name: &str, step: u32) -> Result<u64, Rule>
     whole(value, name, 1, MOST_ADDED, Rule { step, number: 10 })
 }
 
+/// The moment under a name of a step.
+pub fn moment(value: &Value, name: &str, step: u32) -> Result<Moment, Rule>
+    ensures value { result ≡ moment_of step (get name.now (view value.now)) }
+    ensures bounds { IfOk result IsMoment }
+{
+    let rule = Rule { step, number: 10 };
+    match Moment::new(whole(value, name, 0, LAST_MOMENT, rule)?) {
+        Some(moment) => Ok(moment),
+        None => Err(rule),
+    }
+}
+
 /// The text under a name.
 pub fn text<'v>(value: &'v Value, name: &str, rule: Rule) -> Result<&'v str, Rule>
     ensures { Finds (λ text. text.now) result (text_of rule (get name.now (view value.now))) }
@@ -67,6 +83,18 @@ pub fn text<'v>(value: &'v Value, name: &str, rule: Rule) -> Result<&'v str, Rul
     match value.get(name).and_then(Value::as_str) {
         Some(text) => Ok(text),
         None => Err(rule),
+    }
+}
+
+/// The text itself, if it is short enough for an element.
+pub fn short(alloc: Global, text: &str, rule: Rule) -> Result<Text, Fault>
+    ensures value { Gives (λ t. t) result (if_short rule text.now) }
+    ensures bounds { IfOk result IsShort }
+{
+    match Text::new(alloc, text) {
+        Ok(short) => Ok(short),
+        Err(TextError::TooLong) => Err(Fault::Breaks(rule)),
+        Err(TextError::Memory) => Err(Fault::Memory),
     }
 }
 

@@ -21,6 +21,11 @@ fn kind_named(name: &str) -> Option<Kind>
 {
     match name {
         "gcounter" => Some(Kind::GCounter),
+        "pncounter" => Some(Kind::PnCounter),
+        "gset" => Some(Kind::GSet),
+        "flag" => Some(Kind::Flag),
+        "lwwregister" => Some(Kind::LwwRegister),
+        "orset" => Some(Kind::OrSet),
         _ => None,
     }
 }

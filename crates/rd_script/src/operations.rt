@@ -1,18 +1,25 @@
 ghost use Rattle.std.specs.Prelude.{◌≡◌, [], IfOk};
 ghost use Rattle.serde_json.specs.View.{view};
-ghost use Rattle.rd_script.specs.Fields.{names_of};
-ghost use Rattle.rd_script.specs.Operations.{op_named, update_names, increment_of, op_of};
-ghost use Rattle.rd_script.specs.WellFormed.{IsOperation};
+ghost use Rattle.rd_script.specs.Fields.{names_of, Gives};
+ghost use Rattle.rd_script.specs.Operations.{op_named, update_names, element_of, assign_of, op_of};
+ghost use Rattle.rd_script.specs.WellFormed.{IsOperation, IsShort};
 
-use crate::fault::Rule;
-use crate::fields::{amount, step_names};
+use crate::fault::{Fault, Rule};
+use crate::fields::{amount, moment, short, step_names, text};
+use rd_bytes::Text;
 use rd_kinds::Op;
 use serde_json::Value;
+use std::alloc::Global;
 
 /// The name of an operation.
 #[derive(Clone, Copy, Debug, PartialEq, Eq)]
 pub enum OpName {
     Increment,
+    Decrement,
+    Add,
+    Remove,
+    Enable,
+    Assign,
 }
 
 /// The operation of a name.
@@ -21,6 +28,11 @@ pub fn op_named(name: &str) -> Option<OpName>
 {
     match name {
         "increment" => Some(OpName::Increment),
+        "decrement" => Some(OpName::Decrement),
+        "add" => Some(OpName::Add),
+        "remove" => Some(OpName::Remove),
+        "enable" => Some(OpName::Enable),
+        "assign" => Some(OpName::Assign),
         _ => None,
     }
 }
@@ -30,24 +42,53 @@ pub fn update_names(value: &Value, form: OpName, step: u32) -> Result<(), Rule>
     ensures { result ≡ names_of step (update_names form) [] (view value.now) }
 {
     match form {
-        OpName::Increment => step_names(value, &["at", "by", "do", "key", "op"], &[], step),
+        OpName::Increment | OpName::Decrement => {
+            step_names(value, &["at", "by", "do", "key", "op"], &[], step)
+        }
+        OpName::Add | OpName::Remove => {
+            step_names(value, &["at", "do", "element", "key", "op"], &[], step)
+        }
+        OpName::Enable => step_names(value, &["at", "do", "key", "op"], &[], step),
+        OpName::Assign => {
+            step_names(value, &["at", "do", "key", "now", "op", "text"], &[], step)
+        }
     }
 }
 
-#[tactic(auto, unfolding(crate::specs::Operations::increment_of))]
-fn increment(step: u32, value: &Value) -> Result<Op, Rule>
-    ensures value { result ≡ increment_of step (view value.now) }
+/// The element of an update.
+#[tactic(auto, unfolding(crate::specs::Operations::element_of))]
+fn element(alloc: Global, step: u32, value: &Value) -> Result<Text, Fault>
+    ensures value { Gives (λ e. e) result (element_of step (view value.now)) }
+    ensures bounds { IfOk result IsShort }
+{
+    let text = text(value, "element", Rule { step, number: 9 })?;
+    short(alloc, text, Rule { step, number: 11 })
+}
+
+/// The text of a register and the clock of its writer.
+#[tactic(auto, unfolding(crate::specs::Operations::assign_of))]
+fn assign(alloc: Global, step: u32, value: &Value) -> Result<Op, Fault>
+    ensures value { Gives (λ op. op) result (assign_of step (view value.now)) }
     ensures bounds { IfOk result IsOperation }
 {
-    Ok(Op::Increment(amount(value, "by", step)?))
+    let text = text(value, "text", Rule { step, number: 9 })?;
+    let now = moment(value, "now", step)?;
+    let text = short(alloc, text, Rule { step, number: 11 })?;
+    Ok(Op::Assign { text, now })
 }
 
 /// The operation of an update.
-pub fn operation(step: u32, form: OpName, value: &Value) -> Result<Op, Rule>
-    ensures value { result ≡ op_of step form (view value.now) }
+#[tactic(auto, unfolding(crate::specs::Operations::op_of))]
+pub fn operation(alloc: Global, step: u32, form: OpName, value: &Value) -> Result<Op, Fault>
+    ensures value { Gives (λ op. op) result (op_of step form (view value.now)) }
     ensures bounds { IfOk result IsOperation }
 {
     match form {
-        OpName::Increment => increment(step, value),
+        OpName::Increment => Ok(Op::Increment(amount(value, "by", step)?)),
+        OpName::Decrement => Ok(Op::Decrement(amount(value, "by", step)?)),
+        OpName::Add => Ok(Op::Add(element(alloc, step, value)?)),
+        OpName::Remove => Ok(Op::Remove(element(alloc, step, value)?)),
+        OpName::Enable => Ok(Op::Enable),
+        OpName::Assign => assign(alloc, step, value),
     }
 }

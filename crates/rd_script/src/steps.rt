@@ -27,7 +27,7 @@ fn update(alloc: Global, step: u32, value: &Value) -> Result<Step, Fault>
     update_names(value, form, step)?;
     let at = identity(value, "at", step)?;
     let key = key(alloc, value, "key", Rule { step, number: 8 })?;
-    let op = operation(step, form, value)?;
+    let op = operation(alloc, step, form, value)?;
     Ok(Step::Update { at, key, op })
 }
 

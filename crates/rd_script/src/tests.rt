@@ -17,11 +17,13 @@ step 0 rule 3: {"members":1,"keys":[],"steps":7}
 step 0 rule 3: {"members":1,"keys":[{"key":"","kind":"gcounter"}],"steps":[]}
 step 0 rule 3: {"members":1,"keys":[{"key":"A","kind":"gcounter"}],"steps":[]}
 step 0 rule 3: {"members":1,"keys":[{"key":"a","kind":"counter"}],"steps":[]}
+step 0 rule 3: {"members":1,"keys":[{"key":"a","kind":"GSet"}],"steps":[]}
 step 0 rule 3: {"members":1,"keys":[{"key":"a","kind":"gcounter","durable":false}],"steps":[]}
 step 0 rule 3: {"members":1,"keys":[{"key":"a","kind":"gcounter"},{"key":"a","kind":"gcounter"}],"steps":[]}
 step 0 rule 4: {"members":1,"keys":[{"key":"a","kind":"gcounter"}],"steps":{}}
 step 0 rule 4: {"members":1,"keys":[{"key":"a","kind":"gcounter"}],"steps":[{},7]}
-1 2 0: {"members":1,"keys":[{"key":"a-b_9","kind":"gcounter"},{"key":"b","kind":"gcounter"}],"steps":[]}
+1 2 0: {"members":1,"keys":[{"key":"a-b_9","kind":"gcounter"},{"key":"b","kind":"pncounter"}],"steps":[]}
+3 4 0: {"members":3,"keys":[{"key":"a","kind":"gset"},{"key":"b","kind":"flag"},{"key":"c","kind":"lwwregister"},{"key":"d","kind":"orset"}],"steps":[]}
 8 1 0: {"members":9,"members":8,"keys":[{"key":"a","kind":"gcounter"}],"steps":[]}"#;
 
 // What is said of a script with these steps, before the steps.
@@ -30,11 +32,16 @@ step 1 rule 5: {"do":7}
 step 1 rule 5: {"do":"settle"}
 step 1 rule 5: {"do":"update","at":64}
 step 1 rule 5: {"do":"update","op":"set"}
-step 1 rule 5: {"do":"update","op":"enable"}
+step 1 rule 5: {"do":"update","op":["add"],"element":7}
+step 1 rule 5: {"do":"tick","at":0}
 step 2 rule 6: {"do":"round"},{"do":"round","at":0}
 step 1 rule 6: {"do":"get","at":64}
 step 1 rule 6: {"do":"get","at":0,"key":"n","level":"local"}
 step 1 rule 6: {"do":"lose","from":0,"to":1,"index":0}
+step 1 rule 6: {"do":"update","op":"enable","at":0,"key":"n","by":1}
+step 1 rule 6: {"do":"update","op":"decrement","at":0,"key":"n","element":"a"}
+step 1 rule 6: {"do":"update","op":"assign","at":64,"key":"n","text":7}
+step 1 rule 6: {"do":"update","op":"add","at":0,"key":"n","element":"a","level":"all"}
 step 1 rule 7: {"do":"get","at":64,"key":""},{}
 step 1 rule 7: {"do":"flush","at":-1}
 step 1 rule 7: {"do":"flush","at":1.0}
@@ -46,15 +53,32 @@ step 1 rule 7: {"do":"lose","from":0,"to":64}
 step 1 rule 8: {"do":"get","at":0,"key":"N"}
 step 1 rule 8: {"do":"get","at":0,"key":"abcdefghijklmnopqrstuvwxyz0123456"}
 step 1 rule 8: {"do":"update","op":"increment","at":0,"key":"","by":0}
+step 1 rule 8: {"do":"update","op":"remove","at":0,"key":"","element":7}
+step 1 rule 9: {"do":"update","op":"add","at":0,"key":"n","element":7}
+step 1 rule 9: {"do":"update","op":"remove","at":0,"key":"n","element":null}
+step 1 rule 9: {"do":"update","op":"assign","at":0,"key":"n","text":{},"now":-1}
 step 1 rule 10: {"do":"update","op":"increment","at":0,"key":"n","by":0}
+step 1 rule 10: {"do":"update","op":"decrement","at":0,"key":"n","by":0}
 step 1 rule 10: {"do":"update","op":"increment","at":0,"key":"n","by":9223372036854775808}
 step 1 rule 10: {"do":"update","op":"increment","at":0,"key":"n","by":99999999999999999999}
+step 1 rule 10: {"do":"update","op":"assign","at":0,"key":"n","text":"0123456789abcdef0123456789abcdef0123456789abcdef0123456789abcdefx","now":9223372036854775808}
+step 1 rule 10: {"do":"update","op":"assign","at":0,"key":"n","text":"a","now":-1}
+step 1 rule 11: {"do":"update","op":"assign","at":0,"key":"n","text":"0123456789abcdef0123456789abcdef0123456789abcdef0123456789abcdefx","now":0}
+step 1 rule 11: {"do":"update","op":"add","at":0,"key":"n","element":"0123456789abcdef0123456789abcdef0123456789abcdef0123456789abcdefx"}
+step 1 rule 11: {"do":"update","op":"remove","at":0,"key":"n","element":"0123456789abcdef0123456789abcdef0123456789abcdef0123456789abcdefx"}
+step 1 rule 11: {"do":"update","op":"remove","at":0,"key":"n","element":"ééééééééééééééééééééééééééééééééé"}
 8 1 1: {"do":"get","at":0,"key":"not-declared"}
 8 1 0: "#;
 
 // A step as it is read, before the step.
 const FORMS: &str =
     r#"update 63 n increment 9223372036854775807: {"at":63,"by":9223372036854775807,"do":"update","key":"n","op":"increment"}
+update 0 n decrement 1: {"at":0,"by":1,"do":"update","key":"n","op":"decrement"}
+update 0 n add 0123456789abcdef0123456789abcdef0123456789abcdef0123456789abcdef: {"at":0,"do":"update","element":"0123456789abcdef0123456789abcdef0123456789abcdef0123456789abcdef","key":"n","op":"add"}
+update 0 n remove é "x": {"at":0,"do":"update","element":"\u00e9 \"x\"","key":"n","op":"remove"}
+update 0 n enable: {"at":0,"do":"update","key":"n","op":"enable"}
+update 0 n assign a now 9223372036854775807: {"at":0,"do":"update","key":"n","now":9223372036854775807,"op":"assign","text":"a"}
+update 0 n assign  now 0: {"at":0,"do":"update","key":"n","now":0,"op":"assign","text":""}
 get 0 zz: {"at":0,"do":"get","key":"zz"}
 flush 1: {"at":1,"do":"flush"}
 deliver 1 2: {"do":"deliver","from":1,"to":2}
@@ -81,7 +105,14 @@ fn told(alloc: Global, text: &str) -> Result<String, Fail> {
 fn operation_line(alloc: Global, op: &Op) -> Result<String, Fail> {
     let line = match op {
         Op::Increment(by) => format!(in alloc; "increment {by}")?,
-        _ => String::from_str(alloc, "another operation")?,
+        Op::Decrement(by) => format!(in alloc; "decrement {by}")?,
+        Op::Add(element) => format!(in alloc; "add {}", element.as_str())?,
+        Op::Remove(element) => format!(in alloc; "remove {}", element.as_str())?,
+        Op::Enable => String::from_str(alloc, "enable")?,
+        Op::Assign { text, now } => {
+            let now = now.number();
+            format!(in alloc; "assign {} now {now}", text.as_str())?
+        }
     };
     Ok(line)
 }

@@ -1,6 +1,7 @@
 -- What is due for the words and the bytes of the source.
 use Rattle.std.specs.Prelude.{◌≡◌, ℕ, ◌+◌, ◌<◌, ◌≤◌, List, [], ◌∷◌, ◌++◌, length, map, codes, String, string_bytes, Option, Some, ◌⊎◌}
 use Rattle.std.specs.declared.alloc.Global.{Global}
+use Rattle.rd_kinds.specs.SixKinds.{six_kinds}
 use Rattle.rd_outside.specs.Transfers.{ReadsToEnd, ReadsCount}
 use Rattle.rd_script.specs.declared.script.Script.{Script}
 use Rattle.rd_script.specs.declared.fault.Rule.{Rule}
@@ -31,14 +32,14 @@ pub record Reports (old new : Option (List ℕ)) (text : List ℕ) : Type 0 wher
   pub script : Script
   pub read : ReadsScript old new bytes
   pub spelled : Spells bytes script
-  pub reported : IsReport script text
+  pub reported : IsReport six_kinds script text
 
 -- Told bytes were all read and spell a script, and the report of the script's run stands behind what was written before.
 pub record IsReported (bytes before : List ℕ) (left written : Option (List ℕ)) : Type 0 where
   pub script : Script
   pub text : List ℕ
   pub spelled : Spells bytes script
-  pub reported : IsReport script text
+  pub reported : IsReport six_kinds script text
   pub all_read : left ≡ Some []
   pub all_written : written ≡ Some (before ++ text)
 

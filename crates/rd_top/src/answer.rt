@@ -7,6 +7,7 @@ use crate::words::is_plain;
 use rd_outside::{ReadAllError, Source, read_all};
 use rd_report::report;
 use rd_script::{ScriptError, read_script};
+use rd_value::Data;
 use std::alloc::Global;
 
 /// The most bytes of a script.
@@ -33,7 +34,7 @@ pub fn due<S: Source>(alloc: Global, words: &[String], source: &mut S) -> Due
         Err(ScriptError::NotAScript { step: _, rule: _ }) => return Due::NotAScript,
         Err(ScriptError::Memory) => return Due::Memory,
     };
-    match report(alloc, &script) {
+    match report::<Data>(alloc, &script) {
         Ok(text) => Due::Report(text),
         Err(_) => Due::Memory,
     }

@@ -34,6 +34,42 @@ const THREE_MEMBERS: &str =
     {\"do\":\"get\",\"at\":2,\"key\":\"n\"},\
     {\"do\":\"round\"}]}";
 
+const OTHER_KINDS: &str = r#"{"members":1,"keys":[{"key":"c","kind":"pncounter"},
+    {"key":"f","kind":"flag"},{"key":"g","kind":"gset"}],"steps":[
+    {"do":"update","at":0,"key":"c","op":"increment","by":3},
+    {"do":"update","at":0,"key":"c","op":"decrement","by":5},
+    {"do":"get","at":0,"key":"c"},
+    {"do":"update","at":0,"key":"f","op":"enable"},
+    {"do":"get","at":0,"key":"f"},
+    {"do":"update","at":0,"key":"g","op":"add","element":"b"},
+    {"do":"update","at":0,"key":"g","op":"add","element":"a"},
+    {"do":"get","at":0,"key":"g"},
+    {"do":"update","at":0,"key":"c","op":"decrement","by":9223372036854775807}]}"#;
+
+const REGISTER_BY_WHOLE_ENTRIES: &str = r#"{"members":2,"keys":[{"key":"r","kind":"lwwregister"}],"steps":[
+    {"do":"update","at":0,"key":"r","op":"assign","text":"a","now":100},
+    {"do":"update","at":1,"key":"r","op":"assign","text":"b","now":100},
+    {"do":"flush","at":0},
+    {"do":"flush","at":1},
+    {"do":"round"},
+    {"do":"get","at":1,"key":"r"}]}"#;
+
+const ADD_WINS_BY_WHOLE_ENTRIES: &str = r#"{"members":2,"keys":[{"key":"s","kind":"orset"}],"steps":[
+    {"do":"update","at":0,"key":"s","op":"add","element":"x"},
+    {"do":"flush","at":0},
+    {"do":"deliver","from":0,"to":1},
+    {"do":"update","at":0,"key":"s","op":"remove","element":"x"},
+    {"do":"update","at":1,"key":"s","op":"add","element":"x"},
+    {"do":"flush","at":0},
+    {"do":"flush","at":1},
+    {"do":"round"}]}"#;
+
+const REFUSED: &str = r#"{"members":1,"keys":[{"key":"r","kind":"lwwregister"},{"key":"n","kind":"gcounter"}],"steps":[
+    {"do":"update","at":0,"key":"n","op":"add","element":"x"},
+    {"do":"get","at":0,"key":"n"},
+    {"do":"update","at":0,"key":"r","op":"assign","text":"d","now":9223372036854775807},
+    {"do":"update","at":0,"key":"r","op":"assign","text":"e","now":5}]}"#;
+
 const EMPTY_REPORT: &str = "final view 0\nmember 0 place 0 view 0\nn - known - marks -\n";
 
 const ONE_MEMBER_REPORT: &str = "1 update 0 n done\n\
@@ -76,12 +112,105 @@ const THREE_MEMBERS_REPORT: &str = "1 update 0 n done\n\
     member 2 place 2 view 0\n\
     n 2 known 1:1 marks -\n";
 
+const OTHER_KINDS_REPORT: &str = r#"1 update 0 c done
+2 update 0 c done
+3 get 0 c value -2
+4 update 0 f done
+5 get 0 f value true
+6 update 0 g done
+7 update 0 g done
+8 get 0 g value {"a","b"}
+9 update 0 c overflow 5 9223372036854775807
+final view 0
+member 0 place 0 view 0
+c -2 known 0:2 marks -
+f true known 0:1 marks -
+g {"a","b"} known 0:2 marks -
+"#;
+
+const REGISTER_BY_WHOLE_ENTRIES_REPORT: &str = r#"1 update 0 r done
+2 update 1 r done
+3 flush 0 done sent 1:deltas/0/1
+4 flush 1 done sent 0:deltas/0/1
+5 deliver 0>1 0 deltas/0/1 taken
+5 deliver 1>0 0 deltas/0/1 taken
+6 get 1 r value "a"
+final view 0
+member 0 place 0 view 0
+r "a" known 0:1 1:1 marks -
+member 1 place 1 view 0
+r "a" known 0:1 1:1 marks -
+"#;
+
+const ADD_WINS_BY_WHOLE_ENTRIES_REPORT: &str = r#"1 update 0 s done
+2 flush 0 done sent 1:deltas/0/1
+3 deliver 0>1 0 deltas/0/1 taken
+4 update 0 s done
+5 update 1 s done
+6 flush 0 done sent 1:deltas/0/1
+7 flush 1 done sent 0:deltas/0/1
+8 deliver 0>1 1 deltas/0/1 taken
+8 deliver 1>0 0 deltas/0/1 taken
+final view 0
+member 0 place 0 view 0
+s {"x"} known 0:2 1:1 marks -
+member 1 place 1 view 0
+s {"x"} known 0:2 1:1 marks -
+"#;
+
+const REFUSED_REPORT: &str = r#"1 update 0 n wrong kind
+2 get 0 n not found
+3 update 0 r done
+4 update 0 r clock spent
+final view 0
+member 0 place 0 view 0
+n - known - marks -
+r "d" known 0:1 marks -
+"#;
+
 fn words(alloc: Global, line: &str) -> Result<Vec<String>, Fail> {
     let mut words = Vec::new(alloc);
     for word in line.split(' ') {
         words.push(String::from_str(alloc, word)?)?;
     }
     Ok(words)
+}
+
+// What a script gives, read from and written to memory whose calls of these numbers fail.
+fn answer(
+    alloc: Global,
+    line: &str,
+    script: &str,
+    read_failing: &[u64],
+    write_failing: &[u64],
+) -> Result<(u8, MemorySink), Fail> {
+    let words = words(alloc, line)?;
+    let bytes = Vec::from_slice(alloc, script.as_bytes())?;
+    let mut source = MemorySource::new(alloc, bytes, 7, Vec::from_slice(alloc, read_failing)?);
+    let mut sink = MemorySink::new(alloc, 8, Vec::from_slice(alloc, write_failing)?);
+    let code = replicate_plain(alloc, &words, &mut source, &mut sink);
+    Ok((code, sink))
+}
+
+#[test]
+fn prints_the_report(rt: HostRuntime) -> Result<(), Fail> {
+    let alloc = rt.alloc();
+    let rows = [
+        (EMPTY, EMPTY_REPORT),
+        (ONE_MEMBER, ONE_MEMBER_REPORT),
+        (TWO_MEMBERS, TWO_MEMBERS_REPORT),
+        (THREE_MEMBERS, THREE_MEMBERS_REPORT),
+        (OTHER_KINDS, OTHER_KINDS_REPORT),
+        (REGISTER_BY_WHOLE_ENTRIES, REGISTER_BY_WHOLE_ENTRIES_REPORT),
+        (ADD_WINS_BY_WHOLE_ENTRIES, ADD_WINS_BY_WHOLE_ENTRIES_REPORT),
+        (REFUSED, REFUSED_REPORT),
+    ];
+    for (script, report) in rows {
+        let (code, sink) = answer(alloc, "plain", script, &[], &[])?;
+        assert_eq!(rt; code, u8::from(Status::Done), "at {script}");
+        assert_eq!(rt; sink.bytes(), report.as_bytes(), "at {script}");
+    }
+    Ok(())
 }
 
 #[test]
@@ -91,31 +220,6 @@ fn answers_by_cause(rt: HostRuntime) -> Result<(), Fail> {
     let first: &[u64] = &[0];
     let second: &[u64] = &[1];
     let rows = [
-        ("plain", EMPTY, none, none, Status::Done, EMPTY_REPORT),
-        (
-            "plain",
-            ONE_MEMBER,
-            none,
-            none,
-            Status::Done,
-            ONE_MEMBER_REPORT,
-        ),
-        (
-            "plain",
-            TWO_MEMBERS,
-            none,
-            none,
-            Status::Done,
-            TWO_MEMBERS_REPORT,
-        ),
-        (
-            "plain",
-            THREE_MEMBERS,
-            none,
-            none,
-            Status::Done,
-            THREE_MEMBERS_REPORT,
-        ),
         (
             "plain",
             "{\"members\":1",
@@ -145,11 +249,7 @@ fn answers_by_cause(rt: HostRuntime) -> Result<(), Fail> {
         ("plain", EMPTY, first, none, Status::ReadFailed, ""),
     ];
     for (line, script, read_failing, write_failing, status, written) in rows {
-        let words = words(alloc, line)?;
-        let bytes = Vec::from_slice(alloc, script.as_bytes())?;
-        let mut source = MemorySource::new(alloc, bytes, 7, Vec::from_slice(alloc, read_failing)?);
-        let mut sink = MemorySink::new(alloc, 8, Vec::from_slice(alloc, write_failing)?);
-        let code = replicate_plain(alloc, &words, &mut source, &mut sink);
+        let (code, sink) = answer(alloc, line, script, read_failing, write_failing)?;
         assert_eq!(rt; code, u8::from(status), "at {line} {script}");
         assert_eq!(rt; sink.bytes(), written.as_bytes(), "at {line} {script}");
     }

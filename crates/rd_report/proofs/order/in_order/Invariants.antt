@@ -4,4 +4,4 @@ use Rattle.rd_report.specs.Run.{plain_of, in_order}
 use Rattle.rd_report.proofs.order.in_order.Given as goal
 
 abbrev pub invariant-loop-key : goal.invariant-loop-key
-invariant-loop-key l = map declared l.decls.items ≡ map plain_of (in_order (take l.key-index l.keys))
+invariant-loop-key g l = map declared l.decls.items ≡ map plain_of (in_order (take l.key-index l.keys))

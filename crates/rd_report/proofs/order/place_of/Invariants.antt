@@ -3,4 +3,4 @@ use Rattle.rd_report.specs.Run.{place_in}
 use Rattle.rd_report.proofs.order.place_of.Given as goal
 
 abbrev pub invariant-loop-i : goal.invariant-loop-i
-invariant-loop-i l = l.i + place_in (map (λ decl. decl.key) (drop l.i l.decls)) l.name ≡ place_in (map (λ decl. decl.key) l.decls) l.name
+invariant-loop-i g l = l.i + place_in (map (λ decl. decl.key) (drop l.i l.decls)) l.name ≡ place_in (map (λ decl. decl.key) l.decls) l.name
