@@ -103,10 +103,9 @@ fn had_live(
 pub(crate) fn has_live(records: &[Record], touching: &[bool], element: &Text) -> bool
     ensures { result ≡ has_live (zip records.now touching.now) element.now }
 {
-    records
-        .iter()
-        .zip(touching)
-        .any(|(record, touches)| is_live(records, touching, None, element, record, *touches))
+    records.iter().zip(touching).any(|(record, touches)| is_live(
+        records, touching, None, element, record, *touches,
+    ))
 }
 
 /// Whether a record touches the element: it adds or removes it, or prunes an identity that has a live adding record of it in the prune's past.

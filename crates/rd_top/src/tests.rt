@@ -46,7 +46,8 @@ const OTHER_KINDS: &str = r#"{"members":1,"keys":[{"key":"c","kind":"pncounter"}
     {"do":"get","at":0,"key":"g"},
     {"do":"update","at":0,"key":"c","op":"decrement","by":9223372036854775807}]}"#;
 
-const REGISTER_BY_WHOLE_ENTRIES: &str = r#"{"members":2,"keys":[{"key":"r","kind":"lwwregister"}],"steps":[
+const REGISTER_BY_WHOLE_ENTRIES: &str =
+    r#"{"members":2,"keys":[{"key":"r","kind":"lwwregister"}],"steps":[
     {"do":"update","at":0,"key":"r","op":"assign","text":"a","now":100},
     {"do":"update","at":1,"key":"r","op":"assign","text":"b","now":100},
     {"do":"flush","at":0},
@@ -54,7 +55,8 @@ const REGISTER_BY_WHOLE_ENTRIES: &str = r#"{"members":2,"keys":[{"key":"r","kind
     {"do":"round"},
     {"do":"get","at":1,"key":"r"}]}"#;
 
-const ADD_WINS_BY_WHOLE_ENTRIES: &str = r#"{"members":2,"keys":[{"key":"s","kind":"orset"}],"steps":[
+const ADD_WINS_BY_WHOLE_ENTRIES: &str =
+    r#"{"members":2,"keys":[{"key":"s","kind":"orset"}],"steps":[
     {"do":"update","at":0,"key":"s","op":"add","element":"x"},
     {"do":"flush","at":0},
     {"do":"deliver","from":0,"to":1},
@@ -64,7 +66,8 @@ const ADD_WINS_BY_WHOLE_ENTRIES: &str = r#"{"members":2,"keys":[{"key":"s","kind
     {"do":"flush","at":1},
     {"do":"round"}]}"#;
 
-const REFUSED: &str = r#"{"members":1,"keys":[{"key":"r","kind":"lwwregister"},{"key":"n","kind":"gcounter"}],"steps":[
+const REFUSED: &str =
+    r#"{"members":1,"keys":[{"key":"r","kind":"lwwregister"},{"key":"n","kind":"gcounter"}],"steps":[
     {"do":"update","at":0,"key":"n","op":"add","element":"x"},
     {"do":"get","at":0,"key":"n"},
     {"do":"update","at":0,"key":"r","op":"assign","text":"d","now":9223372036854775807},
