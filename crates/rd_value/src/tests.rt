@@ -126,6 +126,7 @@ fn a_flag_is_on_where_one_of_two_is(rt: HostRuntime) -> Result<(), Fail> {
     assert_eq!(rt; one.fits(&Op::Enable), true);
     assert_eq!(rt; one.fits(&Op::Increment(1)), false);
     let other: Data = after_one(rt.alloc(), &Kind::Flag, &Op::Enable, dot)?;
+    assert_eq!(rt; one.same_kind(&other), true);
     let Shown::Switch(on) = shown_by_both(rt.alloc(), &one, &other)? else {
         return Err("no switch".into());
     };

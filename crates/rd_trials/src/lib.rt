@@ -1,0 +1,13 @@
+//! Trials: entries that take updates, merges and prunes at random show what their records mean.
+#![tactic(auto)]
+
+#[cfg(test)]
+mod cluster;
+#[cfg(test)]
+mod operations;
+#[cfg(test)]
+mod random;
+#[cfg(test)]
+mod shown;
+#[cfg(test)]
+mod tests;
