@@ -5,3 +5,4 @@ pub mod Holding
 pub mod Entries
 pub mod Reading
 pub mod Judging
+pub mod Groups

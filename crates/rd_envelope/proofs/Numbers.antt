@@ -6,8 +6,8 @@ use Rattle.rd_history.specs.Vector.{IdentitySet, VersionVector, join, with_membe
 use Rattle.rd_history.specs.Cuts.{without}
 use Rattle.rd_history.proofs.HistoryLaws.{with_at_other}
 use Rattle.rd_history.proofs.CutLaws.{with_at_is, with_member_is, with_member_other}
-use Rattle.rd_vectors.specs.Vectors.{Numbers, number_at, raised, joined, removed}
-use Rattle.rd_vectors.proofs.Laws.{number_at-raised_same, number_at-raised_other, number_at-joined, number_at-numbers_of, number_at-numbers_of_above}
+use Rattle.rd_vectors.specs.Vectors.{Numbers, number_at, raised, joined, removed, IsNormal}
+use Rattle.rd_vectors.proofs.Laws.{number_at-raised_same, number_at-raised_other, number_at-joined, number_at-numbers_of, number_at-numbers_of_above, number_at_above}
 
 nothing_without : (gone : IdentitySet) (held : VersionVector) (i : ℕ) → held i ≡ 0 → without gone held i ≡ 0
 nothing_without gone held i e = ⊎_elim (λ (g : gone i ≡ true). ap (λ b. cond b 0 (held i)) g) (λ (g : gone i ≡ false). ap (λ b. cond b 0 (held i)) g ∙ e) (cases_Bool (gone i))
@@ -23,6 +23,12 @@ raised_numbers m n held gone id to few member stays is more e i = ap (λ x. numb
     ∙ sym (kept gone (with_at held id to) i (ap gone same ∙ stays) ∙ with_at_is held id to i same))
     (λ (ne : i ≢ id). number_at-raised_other m id to i l ne ∙ is i ∙ sym (ap (cond (gone i) 0) (with_at_other held id to i ne))) (cases_eq i id))
     (λ (l : identity_limit ≤ i). number_at-numbers_of_above _ i l ∙ sym (nothing_without gone (with_at held id to) i (with_at_other held id to i (λ same. omega arith) ∙ few i l))) (cases_lt i identity_limit)
+
+-- a number that is raised leaves the others
+pub raised_elsewhere : (m : Numbers) (id to : ℕ) → IsNormal m → (i : ℕ) → i ≢ id → number_at (raised m id to) i ≡ number_at m i
+raised_elsewhere m id to normal i other = ⊎_elim
+    (λ (l : i < identity_limit). number_at-raised_other m id to i l other)
+    (λ (l : identity_limit ≤ i). number_at-numbers_of_above _ i l ∙ sym (number_at_above m normal i l)) (cases_lt i identity_limit)
 
 pub removed_numbers : (m n : Numbers) (held : VersionVector) (gone : IdentitySet) (id : ℕ) → ((i : ℕ) → identity_limit ≤ i → held i ≡ 0) → ((i : ℕ) → number_at m i ≡ without gone held i) → n ≡ removed m id
     → (i : ℕ) → number_at n i ≡ without (with_member gone id) held i

@@ -296,6 +296,8 @@ impl<T: Replica> Envelope<T> {
         ensures image { (log : History T.Op) (entry : Entry T.Op) (records : model.Group T.Op) → StandsFor T.IsDataOf (parts_of self.old) log entry → StandsForGroup T.IsDeltaOf (group_parts group.now) log records
             → judged entry records ≡ Wanted → OnOk result (StandsFor T.IsDataOf (parts_of self.new) log (with_group entry records)) }
         ensures kind { T.kind_of self.new.value ≡ T.kind_of self.old.value }
+        ensures others { (i : ℕ) → (i ≡ group.now.origin → ⊥) → number_at self.new.versions i ≡ number_at self.old.versions i }
+        ensures markers { self.new.markers ≡ self.old.markers }
         ensures err { OnErr result (self.new ≡ self.old) }
     {
         let mut versions = self.versions.copy(self.alloc)?;

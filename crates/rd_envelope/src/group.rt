@@ -1,7 +1,8 @@
 ghost use Rattle.std.specs.Prelude.{◌<◌, ◌≤◌, ◌^◌};
 
 use rd_lattice::Replica;
-use rd_vectors::{Id, Seq, VersionVector};
+use rd_vectors::{Id, Memory, Seq, VersionVector};
+use std::alloc::Global;
 
 /// An origin's records after a number up to another, as one delta.
 #[derive(Drop)]
@@ -13,4 +14,23 @@ pub struct Group<T: Replica> {
     /// The records that a taker has to have.
     pub needs: VersionVector,
     pub delta: T::Delta,
+}
+
+impl<T: Replica> Group<T> {
+    ghost use Rattle.std.specs.Prelude.{◌≡◌, IfOk};
+
+    /// An equal group.
+    pub fn copy(&self, alloc: Global) -> Result<Group<T>, Memory>
+        ensures { IfOk result (λ copy. copy ≡ self.now) }
+    {
+        let needs = self.needs.copy(alloc)?;
+        let delta = T::copy_delta(alloc, &self.delta)?;
+        Ok(Group {
+            origin: self.origin,
+            after: self.after,
+            upto: self.upto,
+            needs,
+            delta,
+        })
+    }
 }

@@ -29,7 +29,8 @@ use Rattle.rd_node.specs.Keys.{declared_by}
 use Rattle.rd_node.specs.Replies.{whole_entries}
 use Rattle.rd_node.specs.Sending.{own_number, is_behind, keyed_of, entries_for, post_to, posts_of, peers_of, flushed_to}
 use Rattle.rd_node.specs.Changes.{changed, IsFlush}
-use Rattle.rd_node.specs.Members.{StandsForKey, StandsForNode, StandsForKeyed, StandsForPost, StandsForPosts}
+use Rattle.rd_messages.specs.Standing.{StandsForKeyed, StandsForPost, StandsForPosts}
+use Rattle.rd_node.specs.Members.{StandsForKey, StandsForNode}
 
 -- LISTS
 
@@ -103,19 +104,22 @@ module _ {T Kind Op Delta : Type 0} {ghosts : Ghosts T Kind Op Delta} (kind_of :
       (is_behind code.id peer) (steps.is_behind (whole_entries data_type digest) (one_step_later node) peer) code.keys.items
       (λ k d within. (behind_is peer k d within, record { same = refl; held = (s.entries k d within).held })))
 
-  message_stands : (peer : ℕ) → StandsForPost kind_of IsDataOf kinds logs (post_to code.id code.keys.items peer) (record { to = peer; message = deltas_for (whole_entries data_type digest) (one_step_later node) peer })
-  message_stands peer = record { to = refl; message = (_, deltas_for-whole (whole_entries data_type digest) (one_step_later node) peer refl, entries_stand peer) }
+  message_stands : (peer : ℕ) → StandsForPost {ghosts = ghosts} kind_of IsDataOf kinds logs (post_to {ghosts = ghosts} code.id code.keys.items peer) (record { to = peer; message = deltas_for (whole_entries data_type digest) (one_step_later node) peer })
+  message_stands peer = record {
+    to = refl;
+    message = record { sent_groups = []; sent_entries = _; is = deltas_for-whole (whole_entries data_type digest) (one_step_later node) peer refl; groups_stand = tt; entries_stand = entries_stand peer };
+  }
 
   peers_are : others (one_step_later node).view (one_step_later node).identity ≡ peers_of code.id code.members.items
   peers_are = λ i. filter (λ j. not (j == s.identity i)) (s.members i)
 
   -- the posts of a flush stand for the model's
-  pub posts_stand : StandsForPosts kind_of IsDataOf kinds logs (posts_of code.id code.keys.items code.members.items) (steps.flushed (whole_entries data_type digest) (one_step_later node)).output.posts
+  pub posts_stand : StandsForPosts {ghosts = ghosts} kind_of IsDataOf kinds logs (posts_of {ghosts = ghosts} code.id code.keys.items code.members.items) (steps.flushed (whole_entries data_type digest) (one_step_later node)).output.posts
   posts_stand =
-      subst (λ peers. AllZip (StandsForPost kind_of IsDataOf kinds logs) (posts_of code.id code.keys.items code.members.items)
+      subst (λ peers. AllZip (StandsForPost {ghosts = ghosts} kind_of IsDataOf kinds logs) (posts_of {ghosts = ghosts} code.id code.keys.items code.members.items)
       (map (λ peer. record { to = peer; message = deltas_for (whole_entries data_type digest) (one_step_later node) peer }) (filter (λ peer. list_any (steps.is_behind (whole_entries data_type digest) (one_step_later node) peer) (key_states (one_step_later node))) peers)))
       (sym peers_are)
-      (zip_posts (StandsForPost kind_of IsDataOf kinds logs) (post_to code.id code.keys.items) (λ peer. record { to = peer; message = deltas_for (whole_entries data_type digest) (one_step_later node) peer }) code.id
+      (zip_posts (StandsForPost {ghosts = ghosts} kind_of IsDataOf kinds logs) (post_to {ghosts = ghosts} code.id code.keys.items) (λ peer. record { to = peer; message = deltas_for (whole_entries data_type digest) (one_step_later node) peer }) code.id
       (λ peer. list_any (is_behind code.id peer) code.keys.items) (λ peer. list_any (steps.is_behind (whole_entries data_type digest) (one_step_later node) peer) (key_states (one_step_later node))) some_behind message_stands code.members.items)
 
   -- WHAT COUNTS AS SENT

@@ -1,3 +1,4 @@
+pub mod Lists
 pub mod Lookup
 pub mod Numbers
 pub mod Nodes
@@ -7,6 +8,11 @@ pub mod Starting
 pub mod Written
 pub mod Stepping
 pub mod Flushes
+pub mod Strange
+pub mod GroupSteps
+pub mod Working
 pub mod Takings
+pub mod Replying
+pub mod Naming
 pub mod TakingSteps
 pub mod Quiet

@@ -1,162 +1,155 @@
--- Entries that are taken, one after another.
-use Rattle.std.proofs.Common.{◌≡◌, ℕ, ◌+◌, ◌<◌, ◌≤◌, List, [], ◌∷◌, ◌++◌, length, take, get_or, refl, sym, ap, ◌∙◌, subst, arith, Bool, true, false, not, inl, inr}
-use Rattle.std.specs.Prelude.{fold, nat_lt, if◌then◌else◌, ◌||◌}
-use Rattle.std.specs.List.{AllZip}
+-- Groups and entries that a member takes, one after another.
+use Rattle.std.proofs.Common.{◌≡◌, ◌≢◌, ℕ, ◌<◌, List, [], ◌∷◌, ◌++◌, length, get_or, refl, sym, ap, ◌∙◌, subst, true, false, Option, None, Some}
+use Rattle.std.specs.Prelude.{map, find, option_map, if◌then◌else◌}
 use Rattle.std.specs.Str.{bytes_eq}
-use Rattle.std.proofs.lemmas.Bool.{cases_Bool}
-use Rattle.std.proofs.lemmas.List.{take_more}
-use Rattle.std.proofs.lemmas.List.Sums.{fold-append}
 use Rattle.rd_history.specs.Texts.{Text}
 use Rattle.rd_history.specs.Vector.{VersionVector, IdentitySet}
-use Rattle.rd_history.specs.History.{History, at, versions, union, is_pruned, IsExactlyPruned}
-use Rattle.rd_history.specs.Log.{IsTakenFrom}
-use Rattle.rd_history.proofs.PartLaws.{in_whole, taken_union}
+use Rattle.rd_history.specs.History.{History, union, IsExactlyPruned}
 use Rattle.rd_model.specs.Entry as model
-use Rattle.rd_model.specs.Entry.{merged, seen_by, is_unchanged}
+use Rattle.rd_model.specs.Entry.{merged, seen_by}
 use Rattle.rd_model.specs.Message as sending
-use Rattle.rd_model.specs.Step.{is_strange_entry}
+use Rattle.rd_model.specs.Node as nodes
+use Rattle.rd_model.specs.Node.{state_of, HasKey}
+use Rattle.rd_model.specs.Step.{AfterGroups, is_strange_entry, with_taken_entry, take_entry, take_group}
 use Rattle.rd_model.proofs.Steps.{bytes_eq-same, bytes_eq-tells}
-use Rattle.rd_model.proofs.Taking.{taken_entry, is_unchanged-same}
-use Rattle.rd_vectors.specs.Vectors.{number_at}
+use Rattle.rd_model.proofs.Taking.{taken_entry, take_entry-only, take_entry-at}
 use Rattle.rd_markers.specs.Marks.{performed_in}
+use Rattle.rd_kinds.specs.declared.shown.Shown.{Shown}
+use Rattle.rd_lattice.specs.declared.replica.Replica.{Ghosts}
 use Rattle.rd_envelope.specs.declared.envelope.Envelope.{Envelope}
-use Rattle.rd_envelope.specs.Images.{Parts, StandsFor}
-use Rattle.rd_envelope.specs.Words.{parts_of}
-use Rattle.rd_envelope.proofs.Numbers.{kept}
-use Rattle.rd_envelope.proofs.Entries.{pruned_is}
-use Rattle.rd_node.specs.declared.message.Keyed.{Keyed}
-use Rattle.rd_node.specs.Members.{ArePruneFree, StandsForKeyed}
+use Rattle.rd_envelope.specs.declared.group.Group.{Group}
+use Rattle.rd_envelope.specs.Images.{StandsFor, StandsForGroup}
+use Rattle.rd_envelope.specs.Words.{parts_of, group_parts}
+use Rattle.rd_messages.specs.declared.message.Keyed.{Keyed}
+use Rattle.rd_messages.specs.Standing.{StandsForEntry, StandsForKeyed, StandsForKeyedGroup}
 use Rattle.rd_node.specs.declared.key.KeyState.{KeyState}
 use Rattle.rd_node.specs.declared.change.Change.{Change}
-use Rattle.rd_node.specs.declared.change.Change.TheVariants.{Same, Entry, Flushed}
-use Rattle.rd_node.specs.Taking.{TakesEntries, LeadsTo}
-use Rattle.rd_node.proofs.Standing.{apart}
+use Rattle.rd_node.specs.declared.groups.GroupTaken.{GroupTaken}
+use Rattle.rd_node.specs.Keys.{declared_by}
+use Rattle.rd_node.specs.Changes.{AreMade}
+use Rattle.rd_node.specs.Members.{ArePruneFree}
+use Rattle.rd_node.specs.Taking.{current_of, put_at, IsKept, StandsAfter, LeadsTo, AreHeld, IsAtWork, judged_for, entry_after, lacking_in, gap_told, gaps_at}
+use Rattle.rd_node.proofs.Lookup.{IsFound}
+use Rattle.rd_node.proofs.GroupSteps.{Judges, take_group-judges, take_group-undeclared}
+use Rattle.rd_node.proofs.Strange.{exact_free}
+use Rattle.rd_node.proofs.Working.{name_at, made_at, other_name, declared_at, has_key_at, undeclared_in, stands_current, leads_put}
 
--- LISTS
+-- where a key stands, and what is held of it in the course of a step
+record IsPlace {T Kind Op Delta : Type 0} (kind_of : T → Kind) (IsDataOf : T → History Op → VersionVector → IdentitySet → Type 0) (kinds : Text → Kind) (logs : Text → History Op) (id : ℕ) (keys : List (KeyState T Kind Op Delta)) (key : Text)
+    (now : Text → model.Entry Op) (index : ℕ) (at : KeyState T Kind Op Delta) (mine : Envelope T Kind Op Delta) : Type 0 where
+  named : at.name ≡ key
+  here : name_at keys index at ≡ at.name
+  kind : kind_of mine.value ≡ kinds key
+  unpruned : performed_in (parts_of mine).marks id ≡ false
+  current : StandsFor IsDataOf (parts_of mine) (logs at.name) (now at.name)
 
--- the last of two lists
-record HasLast {A B : Type 0} (R : A → B → Type 0) (xs : List A) (x : A) (zs : List B) : Type 0 where
-  before : List B
-  last : B
-  is : zs ≡ before ++ last ∷ []
-  zipped : AllZip R xs before
-  related : R x last
-
-zip_last : {A B : Type 0} (R : A → B → Type 0) (xs : List A) (x : A) (zs : List B) → AllZip R (xs ++ x ∷ []) zs → HasLast R xs x zs
-zip_last R [] x [] z = absurd z
-zip_last R [] x (y ∷ []) z = record { before = []; last = y; is = refl; zipped = tt; related = z.0 }
-zip_last R [] x (y ∷ y' ∷ ys) z = absurd z.1
-zip_last R (w ∷ ws) x [] z = absurd z
-zip_last R (w ∷ ws) x (y ∷ ys) z =
-    let rest = zip_last R ws x ys z.1 in
-    record { before = y ∷ rest.before; last = rest.last; is = ap (λ vs. y ∷ vs) rest.is; zipped = (z.0, rest.zipped); related = rest.related }
-
-either_true : (b : Bool) → (b || true) ≡ true
-either_true true = refl
-either_true false = refl
-
-either_false : (b : Bool) → (b || false) ≡ b
-either_false true = refl
-either_false false = refl
-
--- ENTRIES
-
-module _ {State Op : Type 0} (D : State → History Op → VersionVector → IdentitySet → Type 0) where
-  -- an entry is strange where the envelopes say so
-  pub strange_is : (one two : Parts State) (log : History Op) (before other : model.Entry Op) (id : ℕ) → performed_in one.marks id ≡ false → StandsFor D one log before → StandsFor D two log other
-      → (performed_in two.marks id || nat_lt (number_at one.versions id) (number_at two.versions id)) ≡ is_strange_entry id before other
-  strange_is one two log before other id unpruned s t =
-      let pruned : performed_in two.marks id ≡ is_pruned other.history id = pruned_is D two log other.history t.histories t.taken t.holds id in
-      let mine : number_at one.versions id ≡ at before.history id = s.holds.numbers id ∙ kept (performed_in one.marks) (versions before.history) id unpruned in
-      elim (cases_Bool (performed_in two.marks id)) [
-        | inl gone ↦
-            ap (λ b. b || nat_lt (number_at one.versions id) (number_at two.versions id)) gone
-            ∙ sym (ap (λ b. nat_lt (at before.history id) (at other.history id) || b) (sym pruned ∙ gone) ∙ either_true (nat_lt (at before.history id) (at other.history id)))
-        | inr stays ↦
-            let theirs : number_at two.versions id ≡ at other.history id = t.holds.numbers id ∙ kept (performed_in two.marks) (versions other.history) id stays in
-            ap (λ b. b || nat_lt (number_at one.versions id) (number_at two.versions id)) stays
-            ∙ (λ i. nat_lt (mine i) (theirs i))
-            ∙ sym (ap (λ b. nat_lt (at before.history id) (at other.history id) || b) (sym pruned ∙ stays) ∙ either_false (nat_lt (at before.history id) (at other.history id)))
-      ]
-
-  -- histories without prunes, together
-  pub exact_free : (logs : Text → History Op) (key : Text) (H J : History Op) → ArePruneFree logs → IsTakenFrom (logs key) H → IsTakenFrom (logs key) J → IsExactlyPruned (union H J)
-  exact_free logs key H J free h j =
-      let part = (taken_union H J (logs key) h j).part in
+module _ {T Kind Op Delta : Type 0} (kind_of : T → Kind) (IsDataOf : T → History Op → VersionVector → IdentitySet → Type 0) (kinds : Text → Kind) (logs : Text → History Op) (id : ℕ) (keys : List (KeyState T Kind Op Delta)) (view : ℕ)
+    (entries : Text → model.Entry Op) (held : AreHeld kind_of IsDataOf kinds logs id keys entries) (changes : List (Change T Kind Op Delta)) (kept : AreMade (IsKept kind_of id) keys changes) where
+  place : (node : nodes.Node Kind Op Shown) → IsAtWork kind_of IsDataOf kinds logs id keys view entries changes node → (key : Text) (index : ℕ) (at : KeyState T Kind Op Delta) (change : Change T Kind Op Delta)
+      → IsFound (λ (state : KeyState T Kind Op Delta). bytes_eq state.name key) keys index → at ≡ get_or keys index at → change ≡ get_or changes index change → (mine : Envelope T Kind Op Delta) → mine ≡ current_of at change
+      → IsPlace kind_of IsDataOf kinds logs id keys key node.entries index at mine
+  place node work key index at change found is is' mine same =
+      let here : name_at keys index at ≡ at.name = ap (λ (state : KeyState T Kind Op Delta). state.name) (sym is) in
+      let named : at.name ≡ key = sym here ∙ bytes_eq-tells (name_at keys index at) key (found.passes at) in
+      let own = made_at (IsKept kind_of id) keys changes index at change found.within is is' kept in
+      let first = subst (λ (state : KeyState T Kind Op Delta). StandsForEntry kind_of IsDataOf kinds logs state.name state.entry (entries state.name)) (sym is) (held.held index at found.within) in
       record {
-        once = λ i k j' m x y r has has' prune prune'. absurd (free key i k x r (in_whole (union H J) (logs key) part i k x has) prune);
-        nothing_more = λ i k x r has prune. absurd (free key i k x r (in_whole (union H J) (logs key) part i k x has) prune);
+        named = named;
+        here = here;
+        kind = ap (λ (e : Envelope T Kind Op Delta). kind_of e.value) same ∙ own.kind ∙ first.kind ∙ ap kinds named;
+        unpruned = ap (λ (e : Envelope T Kind Op Delta). performed_in (parts_of e).marks id) same ∙ own.unpruned (subst (λ (state : KeyState T Kind Op Delta). performed_in (parts_of state.entry).marks id ≡ false) (sym is) (held.unpruned index at found.within));
+        current = subst (λ (e : Envelope T Kind Op Delta). StandsFor IsDataOf (parts_of e) (logs at.name) (node.entries at.name)) (sym same)
+            (stands_current IsDataOf logs entries node.entries at change (made_at (LeadsTo IsDataOf logs entries node.entries) keys changes index at change found.within is is' work.leads) first.image);
       }
 
-module _ {T Kind Op Delta : Type 0} (kind_of : T → Kind) (IsDataOf : T → History Op → VersionVector → IdentitySet → Type 0) (id view : ℕ) (name : Text) where
-  -- none was taken
-  pub takes_nothing : (old new : Envelope T Kind Op Delta) → new ≡ old → TakesEntries kind_of IsDataOf id view name [] old new
-  takes_nothing old new same = subst (λ (e : Envelope T Kind Op Delta). TakesEntries kind_of IsDataOf id view name [] old e) (sym same) (record {
-    value = refl;
-    own = omega arith;
-    unpruned = λ before. before;
-    image = λ kinds logs mine sent free before held zipped. nothing_sent kinds logs mine sent held.image zipped;
-  })
-    where
-      nothing_sent : (kinds : Text → Kind) (logs : Text → History Op) (mine : model.Entry Op) (sent : List (sending.Keyed (model.Entry Op))) → StandsFor IsDataOf (parts_of old) (logs name) mine → AllZip (StandsForKeyed {Delta = Delta} kind_of IsDataOf kinds logs) [] sent
-          → StandsFor IsDataOf (parts_of old) (logs name) (fold (taken_entry id view name) mine sent)
-      nothing_sent kinds logs mine [] held zipped = held
-      nothing_sent kinds logs mine (x ∷ xs) held zipped = absurd zipped
+  -- the key's entry is another, the others stay
+  moved : (node next : nodes.Node Kind Op Shown) → IsAtWork kind_of IsDataOf kinds logs id keys view entries changes node → next ≡ record node { entries = next.entries }
+      → (index : ℕ) (at : KeyState T Kind Op Delta) → index < length keys → at ≡ get_or keys index at
+      → ((k : ℕ) (d : KeyState T Kind Op Delta) → k < length keys → bytes_eq (name_at keys k d) at.name ≡ false → next.entries (name_at keys k d) ≡ node.entries (name_at keys k d))
+      → (taken : Option (Envelope T Kind Op Delta)) → StandsAfter IsDataOf (logs at.name) taken (node.entries at.name) (next.entries at.name)
+      → IsAtWork kind_of IsDataOf kinds logs id keys view entries (put_at changes index taken) next
+  moved node next work only index at within is others taken after =
+      let mine = subst (λ (state : KeyState T Kind Op Delta). StandsForEntry kind_of IsDataOf kinds logs state.name state.entry (entries state.name)) (sym is) (held.held index at within) in
+      let here : name_at keys index at ≡ at.name = ap (λ (state : KeyState T Kind Op Delta). state.name) (sym is) in
+      record {
+        identity = ap (λ (n : nodes.Node Kind Op Shown). n.identity) only ∙ work.identity;
+        viewed = ap (λ (n : nodes.Node Kind Op Shown). n.view.number) only ∙ work.viewed;
+        declares = ap (λ (n : nodes.Node Kind Op Shown). n.keys) only ∙ work.declares;
+        leads = leads_put IsDataOf logs entries node.entries next.entries keys changes index at within is
+            (λ k d inside other. others k d inside (ap (bytes_eq (name_at keys k d)) (sym here) ∙ other_name keys held.distinct k index d at inside within other)) mine.image taken after work.leads;
+      }
 
-  module _ (entries : List (Keyed (Envelope T Kind Op Delta))) (i : ℕ) (keyed : Keyed (Envelope T Kind Op Delta)) (within : i < length entries) (is : keyed ≡ get_or entries i keyed) (old now : Envelope T Kind Op Delta)
-      (so_far : TakesEntries kind_of IsDataOf id view name (take i entries) old now) where
-    one_more : take (i + 1) entries ≡ take i entries ++ keyed ∷ []
-    one_more = take_more entries i keyed within ∙ ap (λ x. take i entries ++ x ∷ []) (sym is)
+  -- A GROUP
 
-    -- an entry of another key
-    pub takes_other : bytes_eq keyed.key name ≡ false → TakesEntries kind_of IsDataOf id view name (take (i + 1) entries) old now
-    takes_other other = record {
-      value = so_far.value;
-      own = so_far.own;
-      unpruned = so_far.unpruned;
-      image = λ kinds logs mine sent free before held zipped.
-          let l = zip_last (StandsForKeyed kind_of IsDataOf kinds logs) (take i entries) keyed sent (subst (λ xs. AllZip (StandsForKeyed kind_of IsDataOf kinds logs) xs sent) one_more zipped) in
-          let f = taken_entry id view name in
-          let else_key : bytes_eq name l.last.key ≡ false = apart name l.last.key (λ same. let e = sym other ∙ ap (λ key. bytes_eq key name) (sym l.related.same ∙ sym same) ∙ bytes_eq-same name in cc e) in
-          let unmoved : fold f mine sent ≡ fold f mine l.before =
-          ap (fold f mine) l.is ∙ fold-append f mine l.before (l.last ∷ [])
-          ∙ ap (λ b. if b then (if is_strange_entry id (fold f mine l.before) l.last.item then fold f mine l.before else seen_by id view (merged (fold f mine l.before) l.last.item)) else fold f mine l.before) else_key in
-          subst (λ (e : model.Entry Op). StandsFor IsDataOf (parts_of now) (logs name) e) (sym unmoved) (so_far.image kinds logs mine l.before free before held l.zipped);
-    }
+  module _ {ghosts : Ghosts T Kind Op Delta} (so_far : AfterGroups Kind Op Shown) (work : IsAtWork kind_of IsDataOf kinds logs id keys view entries changes so_far.node) (keyed : Keyed (Group T Kind Op Delta ghosts)) (sent : sending.Keyed (model.Group Op))
+      (s : StandsForKeyedGroup kinds logs keyed sent) where
+    -- of no declared key
+    pub group_passed : find (λ (state : KeyState T Kind Op Delta). bytes_eq state.name keyed.key) keys ≡ None → take_group so_far sent ≡ so_far
+    group_passed none = take_group-undeclared so_far sent (undeclared_in so_far.node keys sent.key work.declares (ap (λ key. find (λ (state : KeyState T Kind Op Delta). bytes_eq state.name key) keys) s.same ∙ none))
 
-    -- an entry of the key
-    pub takes_key : bytes_eq keyed.key name ≡ true → (new : Envelope T Kind Op Delta) → kind_of new.value ≡ kind_of now.value → number_at (parts_of new).versions id ≤ number_at (parts_of now).versions id
-        → (performed_in (parts_of now).marks id ≡ false → performed_in (parts_of new).marks id ≡ false)
-        → ((log : History Op) (before other : model.Entry Op) → performed_in (parts_of now).marks id ≡ false → kind_of now.value ≡ kind_of keyed.item.value → StandsFor IsDataOf (parts_of now) log before → StandsFor IsDataOf (parts_of keyed.item) log other
-        → IsExactlyPruned (union before.history other.history) → StandsFor IsDataOf (parts_of new) log (if is_strange_entry id before other then before else seen_by id view (merged before other)))
-        → TakesEntries kind_of IsDataOf id view name (take (i + 1) entries) old new
-    takes_key equal new value own unpruned image = record {
-      value = value ∙ so_far.value;
-      own = (let before = so_far.own in omega (arith, own));
-      unpruned = λ before. unpruned (so_far.unpruned before);
-      image = λ kinds logs mine sent free before held zipped.
-          let l = zip_last (StandsForKeyed kind_of IsDataOf kinds logs) (take i entries) keyed sent (subst (λ xs. AllZip (StandsForKeyed kind_of IsDataOf kinds logs) xs sent) one_more zipped) in
-          let f = taken_entry id view name in
-          let key : keyed.key ≡ name = bytes_eq-tells keyed.key name equal in
-          let this_key : bytes_eq name l.last.key ≡ true = ap (bytes_eq name) (l.related.same ∙ key) ∙ bytes_eq-same name in
-          let stands = so_far.image kinds logs mine l.before free before held l.zipped in
-          let theirs = subst (λ (k : Text). StandsFor IsDataOf (parts_of keyed.item) (logs k) l.last.item) key l.related.held.image in
-          let kind = so_far.value ∙ held.kind ∙ sym (l.related.held.kind ∙ ap kinds key) in
-          let moved : fold f mine sent ≡ (if is_strange_entry id (fold f mine l.before) l.last.item then fold f mine l.before else seen_by id view (merged (fold f mine l.before) l.last.item)) =
-          ap (fold f mine) l.is ∙ fold-append f mine l.before (l.last ∷ [])
-          ∙ ap (λ b. if b then (if is_strange_entry id (fold f mine l.before) l.last.item then fold f mine l.before else seen_by id view (merged (fold f mine l.before) l.last.item)) else fold f mine l.before) this_key in
-          subst (λ (e : model.Entry Op). StandsFor IsDataOf (parts_of new) (logs name) e) (sym moved)
-          (image (logs name) (fold f mine l.before) l.last.item (so_far.unpruned before) kind stands theirs (exact_free IsDataOf logs name (fold f mine l.before).history l.last.item.history free stands.taken theirs.taken));
-    }
+    module _ (index : ℕ) (at : KeyState T Kind Op Delta) (change : Change T Kind Op Delta) (found : IsFound (λ (state : KeyState T Kind Op Delta). bytes_eq state.name keyed.key) keys index) (is : at ≡ get_or keys index at) (is' : change ≡ get_or changes index change)
+        (mine : Envelope T Kind Op Delta) (same : mine ≡ current_of at change) (taken : GroupTaken T Kind Op Delta)
+        (image : (log : History Op) (before : model.Entry Op) (theirs : model.Group Op) → ghosts.delta_fits_kind (kind_of mine.value) keyed.item.delta ≡ true → StandsFor IsDataOf (parts_of mine) log before
+        → StandsForGroup ghosts.IsDeltaOf (group_parts keyed.item) log theirs
+        → StandsAfter IsDataOf log taken.entry before (entry_after before theirs (judged_for id before theirs)) × (taken.lacking ≡ lacking_in (judged_for id before theirs))) where
+      p : IsPlace kind_of IsDataOf kinds logs id keys keyed.key so_far.node.entries index at mine
+      p = place so_far.node work keyed.key index at change found is is' mine same
 
--- WHAT CHANGED
+      outcome : StandsAfter IsDataOf (logs at.name) taken.entry (so_far.node.entries at.name) (entry_after (so_far.node.entries at.name) sent.item (judged_for id (so_far.node.entries at.name) sent.item))
+          × (taken.lacking ≡ lacking_in (judged_for id (so_far.node.entries at.name) sent.item))
+      outcome =
+          image (logs at.name) (so_far.node.entries at.name) sent.item (ap (λ kind. ghosts.delta_fits_kind kind keyed.item.delta) p.kind ∙ s.fits) p.current
+          (subst (λ key. StandsForGroup ghosts.IsDeltaOf (group_parts keyed.item) (logs key) sent.item) (sym p.named) s.image)
 
-module _ {T Kind Op Delta : Type 0} (IsDataOf : T → History Op → VersionVector → IdentitySet → Type 0) (logs : Text → History Op) (old new : Text → model.Entry Op) where
-  -- where nothing was taken, nothing changed
-  pub unchanged_same : (state : KeyState T Kind Op Delta) → LeadsTo IsDataOf logs old new state Same → false ≡ not (is_unchanged (old state.name) (new state.name))
-  unchanged_same state same = sym (ap not (ap (is_unchanged (old state.name)) same ∙ is_unchanged-same (old state.name)))
+      judges : Judges so_far (state_of so_far.node (declared_by at)) sent.item (judged_for id (so_far.node.entries at.name) sent.item) (take_group so_far sent)
+      judges =
+          subst (λ i. Judges so_far (state_of so_far.node (declared_by at)) sent.item (judged_for i (so_far.node.entries at.name) sent.item) (take_group so_far sent)) work.identity
+          (take_group-judges so_far (declared_by at) sent
+          (ap (λ key. find (λ (decl : nodes.KeyDecl Kind). bytes_eq decl.name key) so_far.node.keys) (s.same ∙ sym p.named ∙ sym p.here) ∙ declared_at so_far.node keys work.declares held.distinct index at found.within ∙ ap (λ (state : KeyState T Kind Op Delta). Some (declared_by state)) (sym is)))
 
-  pub changed_to : (state : KeyState T Kind Op Delta) (change : Change T Kind Op Delta) → LeadsTo IsDataOf logs old new state change → ((entry : Envelope T Kind Op Delta) → change ≡ Entry entry → ⊥) → false ≡ not (is_unchanged (old state.name) (new state.name))
-  changed_to state Same leads no_entry = unchanged_same state leads
-  changed_to state (Entry entry) leads no_entry = absurd (no_entry entry refl)
-  changed_to state (Flushed flushed) leads no_entry = absurd leads
+      pub group_taken : IsAtWork kind_of IsDataOf kinds logs id keys view entries (put_at changes index taken.entry) (take_group so_far sent).node
+      group_taken =
+          moved so_far.node (take_group so_far sent).node work judges.only index at found.within is (λ k d inside other. judges.elsewhere (name_at keys k d) other) taken.entry
+          (subst (StandsAfter IsDataOf (logs at.name) taken.entry (so_far.node.entries at.name)) (sym judges.here) outcome.0)
+
+      pub group_gaps : map gap_told (take_group so_far sent).gaps ≡ map gap_told so_far.gaps ++ gaps_at keyed.key taken.lacking
+      group_gaps = judges.gapped ∙ (λ i. map gap_told so_far.gaps ++ gaps_at (p.named i) (sym outcome.1 i))
+
+  -- AN ENTRY
+
+  module _ (node : nodes.Node Kind Op Shown) (work : IsAtWork kind_of IsDataOf kinds logs id keys view entries changes node) (keyed : Keyed (Envelope T Kind Op Delta)) (sent : sending.Keyed (model.Entry Op)) (s : StandsForKeyed kind_of IsDataOf kinds logs keyed sent) where
+    -- of no declared key
+    pub entry_passed : find (λ (state : KeyState T Kind Op Delta). bytes_eq state.name keyed.key) keys ≡ None → take_entry node sent ≡ node
+    entry_passed none =
+        ap (λ o. with_taken_entry node (option_map (state_of node) o) sent.item) (undeclared_in node keys sent.key work.declares (ap (λ key. find (λ (state : KeyState T Kind Op Delta). bytes_eq state.name key) keys) s.same ∙ none))
+
+    module _ (free : ArePruneFree logs) (index : ℕ) (at : KeyState T Kind Op Delta) (change : Change T Kind Op Delta) (found : IsFound (λ (state : KeyState T Kind Op Delta). bytes_eq state.name keyed.key) keys index) (is : at ≡ get_or keys index at)
+        (is' : change ≡ get_or changes index change) (mine : Envelope T Kind Op Delta) (same : mine ≡ current_of at change) (taken : Option (Envelope T Kind Op Delta))
+        (image : (log : History Op) (before other : model.Entry Op) → performed_in (parts_of mine).marks id ≡ false → kind_of mine.value ≡ kind_of keyed.item.value → StandsFor IsDataOf (parts_of mine) log before
+        → StandsFor IsDataOf (parts_of keyed.item) log other → IsExactlyPruned (union before.history other.history)
+        → StandsAfter IsDataOf log taken before (if is_strange_entry id before other then before else seen_by id view (merged before other))) where
+      here_is : (take_entry node sent).entries at.name ≡ (if is_strange_entry id (node.entries at.name) sent.item then node.entries at.name else seen_by id view (merged (node.entries at.name) sent.item))
+      here_is =
+          let p = place node work keyed.key index at change found is is' mine same in
+          let has : HasKey node at.name at.kind = subst (λ (state : KeyState T Kind Op Delta). HasKey node state.name state.kind) (sym is) (has_key_at node keys work.declares held.distinct index at found.within) in
+          let alike : bytes_eq at.name sent.key ≡ true = ap (bytes_eq at.name) (s.same ∙ sym p.named) ∙ bytes_eq-same at.name in
+          take_entry-at node at.name at.kind has sent
+          ∙ ap (λ b. if b then (if is_strange_entry node.identity (node.entries at.name) sent.item then node.entries at.name else seen_by node.identity node.view.number (merged (node.entries at.name) sent.item)) else node.entries at.name) alike
+          ∙ (λ i. if is_strange_entry (work.identity i) (node.entries at.name) sent.item then node.entries at.name else seen_by (work.identity i) (work.viewed i) (merged (node.entries at.name) sent.item))
+
+      elsewhere_is : (k : ℕ) (d : KeyState T Kind Op Delta) → k < length keys → bytes_eq (name_at keys k d) at.name ≡ false → (take_entry node sent).entries (name_at keys k d) ≡ node.entries (name_at keys k d)
+      elsewhere_is k d inside other =
+          let p = place node work keyed.key index at change found is is' mine same in
+          let name = name_at keys k d in
+          let apart : bytes_eq (name_at keys k d) sent.key ≡ false = ap (bytes_eq (name_at keys k d)) (s.same ∙ sym p.named) ∙ other in
+          take_entry-at node name (get_or keys k d).kind (has_key_at node keys work.declares held.distinct k d inside) sent
+          ∙ ap (λ b. if b then (if is_strange_entry node.identity (node.entries (name_at keys k d)) sent.item then node.entries (name_at keys k d) else seen_by node.identity node.view.number (merged (node.entries (name_at keys k d)) sent.item)) else node.entries (name_at keys k d)) apart
+
+      pub entry_taken : IsAtWork kind_of IsDataOf kinds logs id keys view entries (put_at changes index taken) (take_entry node sent)
+      entry_taken =
+          let p = place node work keyed.key index at change found is is' mine same in
+          let theirs : StandsFor IsDataOf (parts_of keyed.item) (logs at.name) sent.item = subst (λ key. StandsFor IsDataOf (parts_of keyed.item) (logs key) sent.item) (sym p.named) s.held.image in
+          let exact = exact_free IsDataOf logs at.name (node.entries at.name).history sent.item.history free p.current.taken theirs.taken in
+          moved node (take_entry node sent) work (take_entry-only node sent) index at found.within is elsewhere_is taken
+          (subst (StandsAfter IsDataOf (logs at.name) taken (node.entries at.name)) (sym here_is)
+          (image (logs at.name) (node.entries at.name) sent.item p.unpruned (p.kind ∙ sym s.held.kind) p.current theirs exact))

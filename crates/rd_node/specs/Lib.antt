@@ -1,4 +1,3 @@
-pub mod Sketches
 pub mod Own
 pub mod Replies
 pub mod Fresh
@@ -7,3 +6,4 @@ pub mod Members
 pub mod Sending
 pub mod Changes
 pub mod Taking
+pub mod Answers

@@ -1,8 +1,6 @@
--- What members and messages of the program stand for in the model.
+-- What members of the program stand for in the model.
 --     StandsForNode        a member's fields are those of the model's member, and its envelopes stand for the entries
---     StandsForMessage, StandsForPosts        each entry that is sent stands for the model's
-use Rattle.std.specs.Prelude.{◌≡◌, ℕ, List, [], map, All}
-use Rattle.std.specs.List.{AllZip}
+use Rattle.std.specs.Prelude.{◌≡◌, ℕ, map, All}
 use Rattle.rd_history.specs.Texts.{Text}
 use Rattle.rd_history.specs.Vector.{VersionVector, IdentitySet}
 use Rattle.rd_history.specs.History.{Record, History, HasRecord}
@@ -10,22 +8,15 @@ use Rattle.rd_history.specs.History.Action.{Prune}
 use Rattle.rd_history.specs.Log.{IsTakenFrom}
 use Rattle.rd_model.specs.View.{identities_of}
 use Rattle.rd_model.specs.Entry.{Entry}
-use Rattle.rd_model.specs.Message as model
-use Rattle.rd_model.specs.Message.{Message as Sent}
 use Rattle.rd_model.specs.Node as nodes
 use Rattle.rd_kinds.specs.declared.shown.Shown.{Shown}
 use Rattle.rd_vectors.specs.Vectors.{number_at}
 use Rattle.rd_lattice.specs.declared.replica.Replica.{Ghosts}
-use Rattle.rd_envelope.specs.declared.envelope.Envelope.{Envelope}
-use Rattle.rd_envelope.specs.Images.{StandsFor}
-use Rattle.rd_envelope.specs.Words.{parts_of}
+use Rattle.rd_messages.specs.Standing.{StandsForEntry}
 use Rattle.rd_node.specs.declared.key.KeyState.{KeyState}
-use Rattle.rd_node.specs.declared.message.Keyed.{Keyed}
-use Rattle.rd_node.specs.declared.message.Message.{Message}
-use Rattle.rd_node.specs.declared.message.Message.TheVariants.{Deltas}
-use Rattle.rd_node.specs.declared.message.Post.{Post}
 use Rattle.rd_node.specs.declared.node.Node.{Node}
 pub use Rattle.rd_node.specs.Keys.{AreDistinct, AreOfKinds, declared, declared_by}
+pub use Rattle.rd_messages.specs.Standing.{StandsForEntry, StandsForKeyed, StandsForKeyedGroup, StandsForMessage, StandsForPost, StandsForPosts}
 pub use Rattle.rd_node.specs.Replies.{whole_entries, meant}
 
 -- WHAT LOGS HAVE
@@ -41,15 +32,10 @@ ArePruneFree {Op} logs = (key : Text) (origin before : ℕ) (r : Record Op) (rem
 module _ {T Kind Op Delta : Type 0} (kind_of : T → Kind) (IsDataOf : T → History Op → VersionVector → IdentitySet → Type 0) (kinds : Text → Kind) (logs : Text → History Op) where
   -- MEMBERS
 
-  -- an envelope of a key stands for an entry
-  pub record StandsForEntry (key : Text) (envelope : Envelope T Kind Op Delta) (entry : Entry Op) : Type 0 where
-    pub kind : kind_of envelope.value ≡ kinds key
-    pub image : StandsFor IsDataOf (parts_of envelope) (logs key) entry
-
   -- what is held of a key: the entry, and the own number flushed to each peer
   pub record StandsForKey (state : KeyState T Kind Op Delta) (entry : Entry Op) (flushed : VersionVector) : Type 0 where
     pub kind : kinds state.name ≡ state.kind
-    pub held : StandsForEntry state.name state.entry entry
+    pub held : StandsForEntry kind_of IsDataOf kinds logs state.name state.entry entry
     pub sent : (i : ℕ) → number_at state.flushed i ≡ flushed i
 
   pub record StandsForNode {ghosts : Ghosts T Kind Op Delta} (code : Node T Kind Op Delta ghosts) (node : nodes.Node Kind Op Shown) : Type 0 where
@@ -60,21 +46,3 @@ module _ {T Kind Op Delta : Type 0} (kind_of : T → Kind) (IsDataOf : T → His
     pub distinct : AreDistinct (map (λ (state : KeyState T Kind Op Delta). state.name) code.keys.items)
     pub entries : All (λ state. StandsForKey state (node.entries state.name) (node.flushed state.name)) code.keys.items
     pub steps : node.steps ≡ code.steps
-
-  -- MESSAGES
-
-  pub record StandsForKeyed (keyed : Keyed (Envelope T Kind Op Delta)) (entry : model.Keyed (Entry Op)) : Type 0 where
-    pub same : entry.key ≡ keyed.key
-    pub held : StandsForEntry keyed.key keyed.item entry.item
-
-  abbrev pub StandsForMessage : Message T Kind Op Delta → Sent Op → Type 0
-  StandsForMessage (Deltas entries) message =
-      (sent : List (model.Keyed (Entry Op))) × (message ≡ Sent.Deltas [] sent) × AllZip StandsForKeyed entries sent
-
-  pub record StandsForPost (post : Post T Kind Op Delta) (sent : model.Post Op) : Type 0 where
-    pub to : sent.to ≡ post.to
-    pub message : StandsForMessage post.message sent.message
-
-  -- message by message
-  abbrev pub StandsForPosts : List (Post T Kind Op Delta) → List (model.Post Op) → Type 0
-  StandsForPosts posts sent = AllZip StandsForPost posts sent

@@ -23,4 +23,5 @@ meant reply.ClockSpent = Meant.Refused Refusal.ClockSpent
 meant reply.SetFull = Meant.Refused Refusal.SetFull
 meant reply.Taken = Meant.Taken
 meant reply.Already = Meant.Already
+meant (reply.Gap i) = Meant.Gap i
 meant reply.NotFromMember = Meant.NotFromMember

@@ -1,13 +1,14 @@
 -- What a flush sends, by the fields of a member.
-use Rattle.std.specs.Prelude.{ℕ, List, Bool, not, nat_lt, ◌==◌, if◌then◌else◌, ◌&&◌, Option, Some, None, map, filter}
+use Rattle.std.specs.Prelude.{ℕ, List, [], Bool, not, nat_lt, ◌==◌, if◌then◌else◌, ◌&&◌, Option, Some, None, map, filter}
 use Rattle.std.specs.List.{list_any, filter_map}
 use Rattle.rd_vectors.specs.Vectors.{number_at}
 use Rattle.rd_envelope.specs.declared.envelope.Envelope.{Envelope}
 use Rattle.rd_envelope.specs.Words.{parts_of}
 use Rattle.rd_node.specs.declared.key.KeyState.{KeyState}
-use Rattle.rd_node.specs.declared.message.Keyed.{Keyed}
-use Rattle.rd_node.specs.declared.message.Message.TheVariants.{Deltas}
-use Rattle.rd_node.specs.declared.message.Post.{Post}
+use Rattle.rd_lattice.specs.declared.replica.Replica.{Ghosts}
+use Rattle.rd_messages.specs.declared.message.Keyed.{Keyed}
+use Rattle.rd_messages.specs.declared.message.Message.TheVariants.{Deltas}
+use Rattle.rd_messages.specs.declared.message.Post.{Post}
 
 -- the others among the members
 abbrev pub peers_of : ℕ → List ℕ → List ℕ
@@ -29,14 +30,15 @@ module _ {T Kind Op Delta : Type 0} where
   abbrev pub entries_for : ℕ → ℕ → List (KeyState T Kind Op Delta) → List (Keyed (Envelope T Kind Op Delta))
   entries_for id peer keys = map keyed_of (filter (is_behind id peer) keys)
 
-  abbrev pub post_to : ℕ → List (KeyState T Kind Op Delta) → ℕ → Post T Kind Op Delta
-  post_to id keys peer = record { to = peer; message = Deltas (entries_for id peer keys) }
+module _ {T Kind Op Delta : Type 0} {ghosts : Ghosts T Kind Op Delta} where
+  abbrev pub post_to : ℕ → List (KeyState T Kind Op Delta) → ℕ → Post T Kind Op Delta ghosts
+  post_to id keys peer = record { to = peer; message = Deltas [] (entries_for id peer keys) }
 
   -- the message to a peer with entries for it
-  abbrev pub post_for : ℕ → List (KeyState T Kind Op Delta) → ℕ → Option (Post T Kind Op Delta)
+  abbrev pub post_for : ℕ → List (KeyState T Kind Op Delta) → ℕ → Option (Post T Kind Op Delta ghosts)
   post_for id keys peer = if not (peer == id) && list_any (is_behind id peer) keys then Some (post_to id keys peer) else None
 
-  abbrev pub posts_of : ℕ → List (KeyState T Kind Op Delta) → List ℕ → List (Post T Kind Op Delta)
+  abbrev pub posts_of : ℕ → List (KeyState T Kind Op Delta) → List ℕ → List (Post T Kind Op Delta ghosts)
   posts_of id keys members = filter_map (post_for id keys) members
 
 -- the number flushed to an identity, once the own number was flushed to these peers

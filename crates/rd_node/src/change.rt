@@ -1,10 +1,14 @@
-ghost use Rattle.std.specs.Prelude.{◌≡◌, length, vec_len};
+ghost use Rattle.std.specs.Prelude.{◌≡◌, ◌<◌, length, map, vec_len, IfOk};
 ghost use Rattle.rd_node.specs.Changes.{changed, AreChanged};
+ghost use Rattle.rd_node.specs.Taking.{current_of, put_at};
+ghost use Rattle.rd_node.specs.declared.change.Change.TheVariants as change;
 
 use crate::key::KeyState;
+use rd_bytes::{Items, Memory};
 use rd_envelope::Envelope;
 use rd_lattice::Replica;
 use rd_vectors::VersionVector;
+use std::alloc::Global;
 
 /// What a step writes at a key, once all memory for it was given.
 #[derive(Drop)]
@@ -35,5 +39,42 @@ pub(crate) fn write_all<T: Replica>(keys: &mut [KeyState<T>], mut changes: Vec<C
     while let Some(change) = changes.pop() {
         let index = changes.len();
         write(&mut keys[index], change);
+    }
+}
+
+/// No change of any key.
+pub(crate) fn unchanged<T: Replica>(
+    alloc: Global,
+    keys: &[KeyState<T>],
+) -> Result<Vec<Change<T>>, Memory>
+    ensures { IfOk result (λ changes. changes.items ≡ map (λ state. change.Same) keys.now) }
+{
+    let mut changes = Items::new(alloc);
+    for _state in keys {
+        changes.push(Change::Same)?;
+    }
+    Ok(changes.into_vec())
+}
+
+/// What a key's entry is once the change is written.
+pub(crate) fn current<'a, T: Replica>(
+    state: &'a KeyState<T>,
+    change: &'a Change<T>,
+) -> &'a Envelope<T>
+    ensures { result.now ≡ current_of state.now change.now }
+{
+    match change {
+        Change::Entry(entry) => entry,
+        _ => &state.entry,
+    }
+}
+
+/// Notes another entry for the key at a place, if there is one.
+pub(crate) fn put<T: Replica>(changes: &mut [Change<T>], index: usize, entry: Option<Envelope<T>>)
+    requires { index < length changes.old }
+    ensures { changes.new ≡ put_at changes.old index entry }
+{
+    if let Some(entry) = entry {
+        changes[index] = Change::Entry(entry);
     }
 }

@@ -1,3 +1,6 @@
+ghost use Rattle.std.specs.Prelude.{◌≡◌, position};
+ghost use Rattle.std.specs.Str.{bytes_eq};
+
 use crate::reply::Reply;
 use rd_bytes::{Items, Memory, Text};
 use rd_envelope::Envelope;
@@ -119,4 +122,12 @@ impl<T: Replica> KeyState<T> {
         let shown = self.entry.show(alloc)?;
         Ok(Reply::Value(shown))
     }
+}
+
+/// Where a key stands.
+pub(crate) fn index_of<T: Replica>(keys: &[KeyState<T>], key: &Text) -> Option<usize>
+    ensures { result ≡ position (λ state. bytes_eq state.name key.now) keys.now }
+{
+    keys.iter()
+        .position(|state| state.name.as_str() == key.as_str())
 }

@@ -2,15 +2,17 @@
 //! Each step is one of the model, which `specs/Members.antt` ties to the fields.
 #![tactic(auto)]
 
+mod answering;
 mod change;
+mod entries;
+mod groups;
 mod key;
-mod message;
 mod node;
 mod reply;
 mod sending;
 mod taking;
 
 pub use key::{KeyDecl, KeyState};
-pub use message::{Entries, Keyed, Message, MessageKind, Post, Posts, Sketch};
 pub use node::{MOST_STEPS, Node};
-pub use reply::{Reply, StepError};
+pub use rd_messages::{Entries, Groups, Keyed, Message, MessageKind, Post, Posts, Sketch, Texts};
+pub use reply::{Output, Reply, StepError};

@@ -3,14 +3,14 @@ ghost use Rattle.std.specs.List.{list_any};
 ghost use Rattle.rd_node.specs.Own.{HasFewOwn, IsUnpruned};
 
 use crate::change::write_all;
-use crate::key::{KeyDecl, KeyState};
-use crate::message::{Message, Posts};
-use crate::reply::{Reply, StepError};
+use crate::key::{KeyDecl, KeyState, index_of};
+use crate::reply::{Output, Reply, StepError};
 use crate::sending::{flushes, posts};
-use crate::taking::{any_changed, takes};
+use crate::taking::{MessageTaken, taken};
 use rd_bytes::{Memory, Text};
 use rd_envelope::Envelope;
 use rd_lattice::Replica;
+use rd_messages::{Message, Posts};
 use rd_vectors::Id;
 use std::alloc::Global;
 
@@ -33,7 +33,7 @@ pub struct Node<T: Replica> {
 }
 
 impl<T: Replica> Node<T> {
-    ghost use Rattle.std.specs.Prelude.{◌+◌, List, [], map, find, position, ◌↔◌, IfOk, OnOk, OnErr, Err, option_copied, option_map};
+    ghost use Rattle.std.specs.Prelude.{◌+◌, List, [], length, map, find, position, ◌↔◌, IfOk, OnOk, OnErr, Err, option_copied, option_map};
     ghost use Rattle.std.specs.Str.{bytes_eq};
     ghost use Rattle.rd_history.specs.History.{History, IsHistory};
     ghost use Rattle.rd_model.specs.Entry.{Entry};
@@ -108,9 +108,7 @@ impl<T: Replica> Node<T> {
     fn position(&self, key: &Text) -> Option<usize>
         ensures { result ≡ position (λ state. bytes_eq state.name key.now) self.now.keys.items }
     {
-        self.keys
-            .iter()
-            .position(|state| state.name.as_str() == key.as_str())
+        index_of(&self.keys, key)
     }
 
     fn has_member(&self, id: Id) -> bool
@@ -171,8 +169,9 @@ impl<T: Replica> Node<T> {
         Ok(reply)
     }
 
-    /// Merges the entries of a message from a member.
-    pub fn take(&mut self, from: Id, message: &Message<T>) -> Result<Reply, StepError>
+    /// Takes a message from a member: its groups, where none of the records that they need is lacking, and its entries. The
+    /// sender is answered which keys have gaps, and the entries that it asked for.
+    pub fn take(&mut self, from: Id, message: &Message<T>) -> Result<Output<T>, StepError>
         ensures stands { (digest : T.Kind → Entry T.Op → List ℕ) (kinds : Text → T.Kind) (logs : Text → History T.Op) (node : Member T.Kind T.Op Shown) (sent : Sent T.Op)
             → StandsForNode T.kind_of T.IsDataOf kinds logs self.old node → ArePruneFree logs → StandsForMessage T.kind_of T.IsDataOf kinds logs message.now sent
             → let next = step (whole_entries T.data_type digest) node (Input.Take from sent) Fate.NoStore in
@@ -180,7 +179,12 @@ impl<T: Replica> Node<T> {
         ensures reply { (digest : T.Kind → Entry T.Op → List ℕ) (kinds : Text → T.Kind) (logs : Text → History T.Op) (node : Member T.Kind T.Op Shown) (sent : Sent T.Op)
             → StandsForNode T.kind_of T.IsDataOf kinds logs self.old node → ArePruneFree logs → StandsForMessage T.kind_of T.IsDataOf kinds logs message.now sent
             → let next = step (whole_entries T.data_type digest) node (Input.Take from sent) Fate.NoStore in
-            AreTakenFrom logs next.node → IfOk result (λ reply. meant reply ≡ next.output.reply) }
+            AreTakenFrom logs next.node → IfOk result (λ output. meant output.reply ≡ next.output.reply) }
+        ensures posts { (digest : T.Kind → Entry T.Op → List ℕ) (kinds : Text → T.Kind) (logs : Text → History T.Op) (node : Member T.Kind T.Op Shown) (sent : Sent T.Op)
+            → StandsForNode T.kind_of T.IsDataOf kinds logs self.old node → ArePruneFree logs → StandsForMessage T.kind_of T.IsDataOf kinds logs message.now sent
+            → let next = step (whole_entries T.data_type digest) node (Input.Take from sent) Fate.NoStore in
+            AreTakenFrom logs next.node → IfOk result (λ output. StandsForPosts T.kind_of T.IsDataOf kinds logs output.posts next.output.posts) }
+        ensures few { IfOk result (λ output. length output.posts ≤ 2) }
         ensures full { result ≡ Err StepError.HistoryFull ↔ (self.old.steps ≡ 16384) }
         ensures err { OnErr result (self.new ≡ self.old) }
         ensures counts { OnOk result (self.new.steps ≡ self.old.steps + 1) }
@@ -190,19 +194,13 @@ impl<T: Replica> Node<T> {
         }
         if !self.has_member(from) {
             self.steps += 1;
-            return Ok(Reply::NotFromMember);
+            return Ok(Output::told(self.alloc, Reply::NotFromMember));
         }
-        let changes = takes(
-            self.alloc,
-            &self.keys,
-            self.id,
-            self.view,
-            message.entries(),
-        )?;
-        let changed = any_changed(&self.keys, &changes);
+        let taken = taken(self.alloc, &self.keys, self.id, self.view, from, message)?;
+        let MessageTaken { changes, output } = taken;
         write_all(self.keys.as_mut_slice(), changes);
         self.steps += 1;
-        Ok(Reply::of_take(changed))
+        Ok(output)
     }
 
     /// What to send to the other members: to each the entries with own records that it was not sent. It then counts as

@@ -1,5 +1,9 @@
-use rd_bytes::Memory;
+use rd_bytes::{Items, Memory};
 use rd_kinds::Shown;
+use rd_lattice::Replica;
+use rd_messages::Posts;
+use rd_vectors::Id;
+use std::alloc::Global;
 
 /// What a member replies.
 #[derive(Drop)]
@@ -24,6 +28,8 @@ pub enum Reply {
     Taken,
     /// The message changed nothing.
     Already,
+    /// The member lacks a record of this identity, which a group of the message needs.
+    Gap(Id),
     /// The sender is no member.
     NotFromMember,
 }
@@ -62,5 +68,26 @@ impl From<Memory> for StepError {
 
     fn from(_: Memory) -> StepError {
         StepError::Memory
+    }
+}
+
+/// What a member answers to a message: a reply, and a message to the sender where there is something to tell.
+#[derive(Drop)]
+pub struct Output<T: Replica> {
+    pub reply: Reply,
+    pub posts: Posts<T>,
+}
+
+impl<T: Replica> Output<T> {
+    ghost use Rattle.std.specs.Prelude.{◌≡◌, []};
+
+    /// A reply alone.
+    pub(crate) fn told(alloc: Global, reply: Reply) -> Output<T>
+        ensures { result ≡ record { reply = reply; posts = [] } }
+    {
+        Output {
+            reply,
+            posts: Items::new(alloc),
+        }
     }
 }

@@ -6,9 +6,9 @@ ghost use Rattle.rd_node.specs.Sending.{own_number, is_behind, keyed_of, entries
 
 use crate::change::Change;
 use crate::key::KeyState;
-use crate::message::{Entries, Keyed, Message, Post, Posts};
 use rd_bytes::{Items, Memory};
 use rd_lattice::Replica;
+use rd_messages::{Entries, Keyed, Message, Post, Posts};
 use rd_vectors::{Id, Seq, VersionVector};
 use std::alloc::Global;
 
@@ -76,7 +76,8 @@ fn post<T: Replica>(
         return Ok(None);
     }
     let entries = entries_for(alloc, keys, id, peer)?;
-    let message = Message::Deltas { entries };
+    let groups = Items::new(alloc);
+    let message = Message::Deltas { groups, entries };
     Ok(Some(Post { to: peer, message }))
 }
 

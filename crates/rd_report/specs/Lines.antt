@@ -3,9 +3,9 @@ use Rattle.std.specs.Prelude.{ℕ, List, [], ◌∷◌, ◌++◌, codes, decimal
 use Rattle.rd_history.specs.Texts.{Text}
 use Rattle.rd_model.specs.Report.{words, slashed, link_text, line_of, answer_text}
 use Rattle.rd_kinds.specs.ShownText.{shown_text}
-use Rattle.rd_node.specs.declared.message.MessageKind.{MessageKind}
-use Rattle.rd_node.specs.declared.message.MessageKind.TheVariants.{Deltas, Nack, Status, Gossip, Write, WriteAck, WriteNack, Read, ReadAnswer}
-use Rattle.rd_node.specs.declared.message.Sketch.{Sketch}
+use Rattle.rd_messages.specs.declared.sketch.MessageKind.{MessageKind}
+use Rattle.rd_messages.specs.declared.sketch.MessageKind.TheVariants.{Deltas, Nack, Status, Gossip, Write, WriteAck, WriteNack, Read, ReadAnswer}
+use Rattle.rd_messages.specs.declared.sketch.Sketch.{Sketch}
 use Rattle.rd_world.specs.Lines.{meant_answer}
 use Rattle.rd_world.specs.declared.event.Event.{Event}
 use Rattle.rd_world.specs.declared.event.Head.{Head}

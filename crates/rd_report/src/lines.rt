@@ -81,6 +81,10 @@ fn push_reply(alloc: Global, text: &mut String, reply: &Reply) -> Result<(), Mem
         Reply::SetFull => text.push_str("set full")?,
         Reply::Taken => text.push_str("taken")?,
         Reply::Already => text.push_str("already")?,
+        Reply::Gap(lacking) => {
+            let lacking = lacking.number();
+            write!(text, "gap {lacking}")?;
+        }
         Reply::NotFromMember => text.push_str("not from member")?,
     }
     Ok(())

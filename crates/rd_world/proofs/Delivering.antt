@@ -20,13 +20,13 @@ use Rattle.rd_model.specs.Script as script
 use Rattle.rd_model.specs.Script.{Playing, IsRun, told, deliver, deliver_message, given_to, played}
 use Rattle.rd_kinds.specs.declared.shown.Shown.{Shown}
 use Rattle.rd_lattice.specs.declared.replica.Replica.{Ghosts}
-use Rattle.rd_node.specs.declared.message.Message.{Message}
-use Rattle.rd_node.specs.declared.message.Message.TheVariants.{Deltas}
+use Rattle.rd_messages.specs.declared.message.Message.{Message}
+use Rattle.rd_messages.specs.declared.message.Message.TheVariants.{Deltas, Nack, Gossip}
 use Rattle.rd_node.specs.declared.node.Node.{Node}
 use Rattle.rd_node.specs.declared.reply.Reply.{Reply}
-use Rattle.rd_node.specs.Members.{StandsForNode, StandsForKeyed, StandsForMessage, AreTakenFrom, meant}
-use Rattle.rd_node.specs.Sketches.{sketch_of}
-use Rattle.rd_node.specs.declared.message.MessageKind.TheVariants as kind
+use Rattle.rd_node.specs.Members.{StandsForKeyed, StandsForKeyedGroup, StandsForMessage}
+use Rattle.rd_messages.specs.Sketches.{sketch_of}
+use Rattle.rd_messages.specs.declared.sketch.MessageKind.TheVariants as kind
 use Rattle.rd_world.specs.declared.world.World.{World}
 use Rattle.rd_world.specs.declared.event.Head.TheVariants as head
 use Rattle.rd_world.specs.declared.event.Answer.{Answer}
@@ -35,7 +35,7 @@ use Rattle.rd_world.specs.Channels.{Channel, Channels, channel_at, next_on, coun
 use Rattle.rd_world.specs.Standing.{StandsForParts, StandsForWorld}
 use Rattle.rd_world.specs.Lines.{meant_answer, sketched, IsHead, IsNextLine}
 use Rattle.rd_world.specs.Ways.{Throughout}
-use Rattle.rd_world.proofs.Quiet.{IsQuiet, whole_entries_taken}
+use Rattle.rd_world.proofs.Quiet.{IsPlain, deltas_taken, nack_taken, gossip_taken}
 use Rattle.rd_world.proofs.Pairs.{IsPair, both, neither, zip_length}
 use Rattle.rd_world.proofs.Standings.{IsRunning, running_at, gone_past}
 use Rattle.rd_world.proofs.Steppings.{IsDone}
@@ -53,15 +53,24 @@ sent_within None index message e = absurd (cc e)
 sent_within (Some channel) index message e = slice_get_within channel.messages index message e
 
 module _ {T Kind Op Delta : Type 0} (kind_of : T → Kind) (IsDataOf : T → History Op → VersionVector → IdentitySet → Type 0) (kinds : Text → Kind) (logs : Text → History Op) where
-  -- what members send here is whole entries
-  quiet_message : (message : Message T Kind Op Delta) (sent : Sent Op) (from : ℕ) → StandsForMessage kind_of IsDataOf kinds logs message sent → IsQuiet (Input.Take from sent)
-  quiet_message (Deltas entries) sent from s = subst (λ (m : Sent Op). IsQuiet (Input.Take from m)) (sym s.1) (whole_entries_taken from s.0)
+  -- a member's message changes neither view nor keys
+  pub plain_message : {ghosts : Ghosts T Kind Op Delta} → (message : Message T Kind Op Delta ghosts) (sent : Sent Op) (from : ℕ) → StandsForMessage kind_of IsDataOf kinds logs message sent → IsPlain (Input.Take from sent)
+  plain_message (Deltas groups entries) sent from s = subst (λ (m : Sent Op). IsPlain (Input.Take from m)) (sym s.is) (deltas_taken from s.sent_groups s.sent_entries)
+  plain_message (Nack keys) sent from s = subst (λ (m : Sent Op). IsPlain (Input.Take from m)) (sym s) (nack_taken from keys)
+  plain_message (Gossip entries wants) sent from s = subst (λ (m : Sent Op). IsPlain (Input.Take from m)) (sym s.is) (gossip_taken from s.sent_entries wants)
 
   -- and is printed alike
-  pub same_sketch : (message : Message T Kind Op Delta) (sent : Sent Op) → StandsForMessage kind_of IsDataOf kinds logs message sent → sketch_of message ≡ sketched sent
-  same_sketch (Deltas entries) sent s =
-      let R = StandsForKeyed kind_of IsDataOf kinds logs in
-      ap (λ n. record { kind = kind.Deltas; first = 0; second = n }) (zip_length R entries s.0 s.2) ∙ sym (ap sketched s.1)
+  pub same_sketch : {ghosts : Ghosts T Kind Op Delta} → (message : Message T Kind Op Delta ghosts) (sent : Sent Op) → StandsForMessage kind_of IsDataOf kinds logs message sent → sketch_of message ≡ sketched sent
+  same_sketch (Deltas groups entries) sent s =
+      (λ i. record {
+        kind = kind.Deltas;
+        first = zip_length (StandsForKeyedGroup kinds logs) groups s.sent_groups s.groups_stand i;
+        second = zip_length (StandsForKeyed kind_of IsDataOf kinds logs) entries s.sent_entries s.entries_stand i;
+      })
+      ∙ sym (ap sketched s.is)
+  same_sketch (Nack keys) sent s = sym (ap sketched s)
+  same_sketch (Gossip entries wants) sent s =
+      (λ i. record { kind = kind.Gossip; first = zip_length (StandsForKeyed kind_of IsDataOf kinds logs) entries s.sent_entries s.entries_stand i; second = length wants }) ∙ sym (ap sketched s.is)
 
   module _ (ghosts : Ghosts T Kind Op Delta) (D : Replication Kind Op Shown) (code : World T Kind Op Delta ghosts) (p : Playing Kind Op Shown) (stands : StandsForWorld kind_of IsDataOf kinds logs code p.world) (from to index : ℕ) where
     pub undelivered_gone : length code.nodes.items ≤ to → deliver D p from to index ≡ told p (script.Head.DeliverHead from to index None) script.Answer.Gone
@@ -81,16 +90,16 @@ module _ {T Kind Op Delta : Type 0} (kind_of : T → Kind) (IsDataOf : T → His
     )
 
     -- the model's message
-    pub record IsSent (message : Message T Kind Op Delta) : Type 0 where
+    pub record IsSent (message : Message T Kind Op Delta ghosts) : Type 0 where
       pub sent : Sent Op
       pub is_there : message_at p.world from to index ≡ Some sent
       pub stands_for : StandsForMessage kind_of IsDataOf kinds logs message sent
 
-    pub is_sent : (message : Message T Kind Op Delta) → message_on (channel_at code.links from to) index ≡ Some message → IsSent message
+    pub is_sent : (message : Message T Kind Op Delta ghosts) → message_on (channel_at code.links from to) index ≡ Some message → IsSent message
     is_sent message e = go (message_on (channel_at code.links from to) index) (message_at p.world from to index) refl (link_message kind_of IsDataOf kinds logs (channel_at code.links from to) (p.world.links from to) index (stands.parts.links from to)) e
       where
-        go : (o : Option (Message T Kind Op Delta)) (m : Option (Sent Op)) → message_at p.world from to index ≡ m → IsPair (StandsForMessage kind_of IsDataOf kinds logs) o m → o ≡ Some message → IsSent message
-        go _ _ here (both {y = sent} r) e' = record { sent = sent; is_there = here; stands_for = subst (λ (m : Message T Kind Op Delta). StandsForMessage kind_of IsDataOf kinds logs m sent) (cc e') r }
+        go : (o : Option (Message T Kind Op Delta ghosts)) (m : Option (Sent Op)) → message_at p.world from to index ≡ m → IsPair (StandsForMessage kind_of IsDataOf kinds logs) o m → o ≡ Some message → IsSent message
+        go _ _ here (both {y = sent} r) e' = record { sent = sent; is_there = here; stands_for = subst (λ (m : Message T Kind Op Delta ghosts). StandsForMessage kind_of IsDataOf kinds logs m sent) (cc e') r }
         go _ _ here neither e' = absurd (cc e')
 
     -- no message is of a sender that never was
@@ -100,12 +109,12 @@ module _ {T Kind Op Delta : Type 0} (kind_of : T → Kind) (IsDataOf : T → His
         beyond : nat_lt from (length code.nodes.items) ≡ false
         beyond = let few = stands.parts.few in grind (arith, nat_tests)
 
-        go : (o : Option (Channel (Message T Kind Op Delta))) → is_some o ≡ false → message_on o index ≡ None
+        go : (o : Option (Channel (Message T Kind Op Delta ghosts))) → is_some o ≡ false → message_on o index ≡ None
         go None e = refl
         go (Some channel) e = absurd (cc e)
 
     module _ (within : to < length code.nodes.items) (old : Node T Kind Op Delta ghosts) (is : old ≡ get_or code.nodes.items to old) where
-      running : IsRunning kind_of IsDataOf kinds logs ghosts p.world to old
+      pub running : IsRunning kind_of IsDataOf kinds logs ghosts p.world to old
       running = running_at kind_of IsDataOf kinds logs ghosts code.nodes.items code.links p.world stands.parts to old within is
 
       there : deliver D p from to index ≡ deliver_message D p from to index (message_at p.world from to index)
@@ -115,18 +124,18 @@ module _ {T Kind Op Delta : Type 0} (kind_of : T → Kind) (IsDataOf : T → His
       undelivered_at : message_on (channel_at code.links from to) index ≡ None → deliver D p from to index ≡ told p (script.Head.DeliverHead from to index None) script.Answer.NoSuchMessage
       undelivered_at none = there ∙ ap (deliver_message D p from to index) (unsent (message_on (channel_at code.links from to) index) (message_at p.world from to index) (link_message kind_of IsDataOf kinds logs (channel_at code.links from to) (p.world.links from to) index (stands.parts.links from to)) none)
         where
-          unsent : (o : Option (Message T Kind Op Delta)) (m : Option (Sent Op)) → IsPair (StandsForMessage kind_of IsDataOf kinds logs) o m → o ≡ None → m ≡ None
+          unsent : (o : Option (Message T Kind Op Delta ghosts)) (m : Option (Sent Op)) → IsPair (StandsForMessage kind_of IsDataOf kinds logs) o m → o ≡ None → m ≡ None
           unsent _ _ (both r) e = absurd (cc e)
           unsent _ _ neither e = refl
 
-      module _ (message : Message T Kind Op Delta) (found : IsSent message) where
+      module _ (message : Message T Kind Op Delta ghosts) (found : IsSent message) where
         abbrev pub handed : Playing Kind Op Shown
         handed = given_to D p (script.Head.DeliverHead from to index (Some found.sent)) (Delivery from to index) to (Input.Take from found.sent) (p.world.nodes to)
 
-        is_handed : deliver D p from to index ≡ handed
+        pub is_handed : deliver D p from to index ≡ handed
         is_handed = there ∙ ap (deliver_message D p from to index) found.is_there
 
-        is_head : IsHead (head.Deliver from to index (Some (sketch_of message))) (script.Head.DeliverHead from to index (Some found.sent))
+        pub is_head : IsHead (head.Deliver from to index (Some (sketch_of message))) (script.Head.DeliverHead from to index (Some found.sent))
         is_head = (Some found.sent, refl, ap Some (same_sketch message found.sent found.stands_for))
 
         -- a full receiver
@@ -139,45 +148,6 @@ module _ {T Kind Op Delta : Type 0} (kind_of : T → Kind) (IsDataOf : T → His
         full_told full =
             told_plainly kind_of IsDataOf kinds logs ghosts D code.nodes.items code.links p stands.parts (script.Head.DeliverHead from to index (Some found.sent)) (Delivery from to index) to (Input.Take from found.sent) (deliver D p from to index) (head.Deliver from to index (Some (sketch_of message))) answer.HistoryFull script.Answer.HistoryFull
             (is_handed ∙ full_tells kind_of IsDataOf kinds logs ghosts D code.nodes.items code.links p stands.parts (script.Head.DeliverHead from to index (Some found.sent)) (Delivery from to index) to (Input.Take from found.sent) old old within is full) refl is_head
-
-        -- the receiver took it
-        module _ (new : Node T Kind Op Delta ghosts) (reply : Reply) (sender : ℕ) (from_sender : sender ≡ from) (does : IsDone kind_of IsDataOf kinds logs ghosts D (Input.Take sender found.sent) old new (Ok reply)) (first : worlds.World Kind Op Shown) (run : IsRun D first (deliver D p from to index).events (deliver D p from to index).world) (through : Throughout D logs first (deliver D p from to index))
-            (links : Channels (Message T Kind Op Delta)) (due : index < count_on (channel_at code.links from to)) (changes : ChangesOne (passed index) from to code.links links) where
-          is_before : IsBefore kind_of IsDataOf kinds logs ghosts D code.nodes.items code.links p stands.parts (script.Head.DeliverHead from to index (Some found.sent)) (Delivery from to index) to (Input.Take from found.sent) links (record p.world { links = moved_on p.world.links from to index })
-          is_before =
-              record {
-                stands = stands_moved kind_of IsDataOf kinds logs ghosts code.nodes.items code.links links p.world stands.parts from to index due changes;
-                same_view = refl;
-                happened = λ node runs. ap (λ o. delivered D p.world from to index o NoStore) found.is_there ∙ ap (λ o. stepped_at D (record p.world { links = moved_on p.world.links from to index }) to o (Input.Take from found.sent) NoStore) runs;
-              }
-
-          done : IsDone kind_of IsDataOf kinds logs ghosts D (Input.Take from found.sent) old new (Ok reply)
-          done = subst (λ i. IsDone kind_of IsDataOf kinds logs ghosts D (Input.Take i found.sent) old new (Ok reply)) from_sender does
-
-          run_handed : IsRun D first handed.events handed.world
-          run_handed = subst (λ (q : Playing Kind Op Shown). IsRun D first q.events q.world) is_handed run
-
-          pub taken_stands : (after : World T Kind Op Delta ghosts) → after.members ≡ code.members → after.nodes.items ≡ set code.nodes.items to new → after.links ≡ links → StandsForWorld kind_of IsDataOf kinds logs after (deliver D p from to index).world
-          taken_stands after same_count changed same_links =
-              record {
-                count = ap length changed ∙ length-set code.nodes.items to new ∙ stands.count ∙ sym same_count;
-                parts = subst (λ those. StandsForParts kind_of IsDataOf kinds logs those after.links (deliver D p from to index).world) (sym changed)
-                    (subst (λ channels. StandsForParts kind_of IsDataOf kinds logs (set code.nodes.items to new) channels (deliver D p from to index).world) (sym same_links)
-                    (subst (λ (q : Playing Kind Op Shown). StandsForParts kind_of IsDataOf kinds logs (set code.nodes.items to new) links q.world) (sym is_handed)
-                    (reply_stands kind_of IsDataOf kinds logs ghosts D code.nodes.items code.links p stands.parts (script.Head.DeliverHead from to index (Some found.sent)) (Delivery from to index) to (Input.Take from found.sent) old new within is
-                    (quiet_message message found.sent from found.stands_for) links (record p.world { links = moved_on p.world.links from to index }) is_before first run_handed (subst (Throughout D logs first) is_handed through) reply done)));
-              }
-
-          abbrev pub Says : ℕ → Type 0
-          Says i = (node : nodes.Node Kind Op Shown) → StandsForNode kind_of IsDataOf kinds logs old node → AreTakenFrom logs (step D node (Input.Take i found.sent) NoStore).node → meant reply ≡ (step D node (Input.Take i found.sent) NoStore).output.reply
-
-          pub taken_told : Says sender
-              → IsNextLine (record { head = head.Deliver from to index (Some (sketch_of message)); answer = answer.Reply reply; sent = [] }) p (deliver D p from to index)
-          taken_told says =
-              subst (λ (q : Playing Kind Op Shown). IsNextLine (record { head = head.Deliver from to index (Some (sketch_of message)); answer = answer.Reply reply; sent = [] }) p q) (sym is_handed)
-              (reply_tells kind_of IsDataOf kinds logs ghosts D code.nodes.items code.links p stands.parts (script.Head.DeliverHead from to index (Some found.sent)) (Delivery from to index) to (Input.Take from found.sent) old new within is
-              (quiet_message message found.sent from found.stands_for) links (record p.world { links = moved_on p.world.links from to index }) is_before first run_handed (subst (Throughout D logs first) is_handed through) reply done (subst Says from_sender says)
-              (head.Deliver from to index (Some (sketch_of message))) is_head)
 
     pub undelivered_none : to < length code.nodes.items → message_on (channel_at code.links from to) index ≡ None → deliver D p from to index ≡ told p (script.Head.DeliverHead from to index None) script.Answer.NoSuchMessage
     undelivered_none within none = let here = item_at code.nodes.items to within in undelivered_at within here.0 here.1 none

@@ -15,7 +15,7 @@ use Rattle.rd_model.specs.DataType.{Replication}
 use Rattle.rd_model.specs.Script.{Playing, due_on, due_now}
 use Rattle.rd_kinds.specs.declared.shown.Shown.{Shown}
 use Rattle.rd_lattice.specs.declared.replica.Replica.{Ghosts}
-use Rattle.rd_node.specs.declared.message.Message.{Message}
+use Rattle.rd_messages.specs.declared.message.Message.{Message}
 use Rattle.rd_world.specs.declared.world.World.{World}
 use Rattle.rd_world.specs.Channels.{Channel, channel_at, next_on, count_on}
 use Rattle.rd_world.specs.Dues.{due_between, dues_from, dues_of, meant_due}
@@ -37,7 +37,7 @@ map_flat g f h same [] = refl
 map_flat g f h same (x ∷ xs) = ap (map g) (flat_map-cons f x xs) ∙ map-append g (f x) (flat_map f xs) ∙ ap (λ ys. ys ++ map g (flat_map f xs)) (same x) ∙ ap (λ ys. h x ++ ys) (map_flat g f h same xs) ∙ sym (flat_map-cons h x xs)
 
 module _ {T Kind Op Delta : Type 0} (kind_of : T → Kind) (IsDataOf : T → History Op → VersionVector → IdentitySet → Type 0) (kinds : Text → Kind) (logs : Text → History Op) where
-  due_alike : (from to : ℕ) (o : Option (Channel (Message T Kind Op Delta))) (link : Link Op) → StandsForLink kind_of IsDataOf kinds logs o link → map meant_due (due_between from to o) ≡ due_on from to link
+  due_alike : {ghosts : Ghosts T Kind Op Delta} → (from to : ℕ) (o : Option (Channel (Message T Kind Op Delta ghosts))) (link : Link Op) → StandsForLink kind_of IsDataOf kinds logs o link → map meant_due (due_between from to o) ≡ due_on from to link
   due_alike from to o link s =
       let next = link_next kind_of IsDataOf kinds logs o link s in
       let count = link_count kind_of IsDataOf kinds logs o link s in

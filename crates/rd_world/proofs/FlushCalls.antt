@@ -21,7 +21,7 @@ use Rattle.rd_model.specs.Script as script
 use Rattle.rd_model.specs.Script.{Playing, IsRun, given, told}
 use Rattle.rd_kinds.specs.declared.shown.Shown.{Shown}
 use Rattle.rd_lattice.specs.declared.replica.Replica.{Ghosts}
-use Rattle.rd_node.specs.declared.message.Message.{Message}
+use Rattle.rd_messages.specs.declared.message.Message.{Message}
 use Rattle.rd_node.specs.declared.node.Node.{Node}
 use Rattle.rd_node.specs.declared.reply.Reply.TheVariants as reply
 use Rattle.rd_node.specs.Members.{whole_entries, StandsForNode, StandsForPost, AreTakenFrom}
@@ -29,8 +29,8 @@ use Rattle.rd_world.specs.declared.event.Head.TheVariants as head
 use Rattle.rd_world.specs.declared.event.Answer.TheVariants as answer
 use Rattle.rd_world.specs.declared.event.SentTo.{SentTo}
 use Rattle.rd_world.specs.declared.world.World.{World}
-use Rattle.rd_world.specs.Channels.{Channel, Channels}
-use Rattle.rd_world.specs.Sending.{Sends, IsSentFrom}
+use Rattle.rd_world.specs.Channels.{Channel, Channels, channel_at}
+use Rattle.rd_world.specs.Sending.{Sends, AreFlushed, IsSentFrom}
 use Rattle.rd_world.specs.Standing.{StandsForParts, StandsForWorld}
 use Rattle.rd_world.specs.Lines.{IsNextLine}
 use Rattle.rd_world.specs.Ways.{Throughout}
@@ -56,9 +56,9 @@ module _ {T Kind Op Delta : Type 0} (data_type : DataType Kind Op Shown) (kind_o
   pub flush_full : old.steps ≡ 16384 → flushed ≡ told p (script.Head.FlushHead i) script.Answer.HistoryFull
   flush_full full = gives_full kind_of IsDataOf kinds logs ghosts D code.nodes.items code.links p stands.parts (script.Head.FlushHead i) (InputAt i Input.Flush) i Input.Flush old running full
 
-  module _ (new : Node T Kind Op Delta ghosts) (links : Channels (Message T Kind Op Delta)) (sent : List SentTo) (room : old.steps ≡ 16384 → ⊥)
+  module _ (new : Node T Kind Op Delta ghosts) (links : Channels (Message T Kind Op Delta ghosts)) (sent : List SentTo) (room : old.steps ≡ 16384 → ⊥)
       (becomes : (node : nodes.Node Kind Op Shown) → StandsForNode kind_of IsDataOf kinds logs old node → AreTakenFrom logs (step (whole_entries data_type digest) node Input.Flush NoStore).node → StandsForNode kind_of IsDataOf kinds logs new (step (whole_entries data_type digest) node Input.Flush NoStore).node)
-      (sends : IsSentFrom data_type kind_of IsDataOf old i code.members code.links links sent) (first : worlds.World Kind Op Shown) (run : IsRun (whole_entries data_type digest) first flushed.events flushed.world) (through : Throughout (whole_entries data_type digest) logs first flushed) where
+      (sends : IsSentFrom (AreFlushed data_type kind_of IsDataOf old) i code.members code.links links sent) (first : worlds.World Kind Op Shown) (run : IsRun (whole_entries data_type digest) first flushed.events flushed.world) (through : Throughout (whole_entries data_type digest) logs first flushed) where
     node : nodes.Node Kind Op Shown
     node = running.node
 
@@ -97,8 +97,8 @@ module _ {T Kind Op Delta : Type 0} (data_type : DataType Kind Op Shown) (kind_o
               (sym (world_after kind_of IsDataOf kinds logs ghosts D code.nodes.items code.links p stands.parts (script.Head.FlushHead i) (InputAt i Input.Flush) i Input.Flush old running flush p.world happened room))
               (stands_after kind_of IsDataOf kinds logs ghosts code.nodes.items code.links p.world stands.parts i running.node next new links within
               (record { installed = (same_step D running.node Input.Flush NoStore flush).view ∙ running.member.installed; stands = becomes running.node running.member.stands taken })
-              (still_linked kind_of IsDataOf kinds logs code.links links p.world.links i n sends.0 next.output.posts posts_stand below went within stands.parts.linked stands.parts.links)
-              (links_sent kind_of IsDataOf kinds logs code.links links p.world.links i n sends.0 next.output.posts posts_stand below went within stands.parts.linked stands.parts.links))));
+              (still_linked kind_of IsDataOf kinds logs (channel_at code.links) links p.world.links i n sends.0 next.output.posts posts_stand below went within stands.parts.linked stands.parts.links)
+              (links_sent kind_of IsDataOf kinds logs (channel_at code.links) links p.world.links i n sends.0 next.output.posts posts_stand below went within stands.parts.linked stands.parts.links))));
         }
 
     pub flush_tells : IsNextLine (record { head = head.Flush i; answer = answer.Reply reply.Done; sent = sent }) p flushed
@@ -132,6 +132,6 @@ row_of_member kind_of IsDataOf kinds logs ghosts code world stands i within =
     row_there code.links i (slice_get code.links i) refl (stands.parts.linked i i ∙ ap (λ b. b && b) here)
 
 -- nothing was changed
-pub same_world : {T Kind Op Delta : Type 0} (ghosts : Ghosts T Kind Op Delta) (code : World T Kind Op Delta ghosts) (k : ℕ) (old new : Node T Kind Op Delta ghosts) (links : Channels (Message T Kind Op Delta)) → old ≡ get_or code.nodes.items k old → new ≡ old → links ≡ code.links → record code { nodes = with_item code.nodes k new; links = links } ≡ code
+pub same_world : {T Kind Op Delta : Type 0} (ghosts : Ghosts T Kind Op Delta) (code : World T Kind Op Delta ghosts) (k : ℕ) (old new : Node T Kind Op Delta ghosts) (links : Channels (Message T Kind Op Delta ghosts)) → old ≡ get_or code.nodes.items k old → new ≡ old → links ≡ code.links → record code { nodes = with_item code.nodes k new; links = links } ≡ code
 same_world ghosts code k old new links is same same_links =
     ap (λ v. record code { nodes = v; links = links }) (same_item code.nodes k old new is same) ∙ ap (λ l. record code { links = l }) same_links

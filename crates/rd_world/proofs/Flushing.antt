@@ -17,12 +17,13 @@ use Rattle.rd_model.specs.Step.{step, is_behind, deltas_for}
 use Rattle.rd_model.specs.World as worlds
 use Rattle.rd_model.specs.World.{Link, no_link, with_posts}
 use Rattle.rd_kinds.specs.declared.shown.Shown.{Shown}
-use Rattle.rd_node.specs.declared.message.Message.{Message}
-use Rattle.rd_node.specs.declared.message.Post.{Post}
+use Rattle.rd_lattice.specs.declared.replica.Replica.{Ghosts}
+use Rattle.rd_messages.specs.declared.message.Message.{Message}
+use Rattle.rd_messages.specs.declared.message.Post.{Post}
 use Rattle.rd_node.specs.Members.{StandsForMessage, StandsForPost}
-use Rattle.rd_node.specs.Sketches.{sketch_of}
+use Rattle.rd_messages.specs.Sketches.{sketch_of}
 use Rattle.rd_world.specs.Channels.{Channel, Channels, channel_at}
-use Rattle.rd_world.specs.Sending.{extended, messages_to, told_of, Sends}
+use Rattle.rd_world.specs.Sending.{extended, messages_to, told_of}
 use Rattle.rd_world.specs.Standing.{StandsForLink}
 use Rattle.rd_world.specs.Lines.{sketched_post}
 use Rattle.rd_world.proofs.Pairs.{zip_append}
@@ -94,26 +95,26 @@ none_to (post ∷ posts) n to past all = elim (eqb_tells post.to to) [
   | inr other ↦ ap (λ b. map (λ (p : model.Post _). p.message) (if b then post ∷ filter (λ (p : model.Post _). p.to == to) posts else filter (λ (p : model.Post _). p.to == to) posts)) other.0 ∙ none_to posts n to past all.1
 ]
 
-module _ {T Kind Op Delta : Type 0} (kind_of : T → Kind) (IsDataOf : T → History Op → VersionVector → IdentitySet → Type 0) (kinds : Text → Kind) (logs : Text → History Op) where
-  abbrev ArePosts : List (Post T Kind Op Delta) → List (model.Post Op) → Type 0
+module _ {T Kind Op Delta : Type 0} {ghosts : Ghosts T Kind Op Delta} (kind_of : T → Kind) (IsDataOf : T → History Op → VersionVector → IdentitySet → Type 0) (kinds : Text → Kind) (logs : Text → History Op) where
+  abbrev ArePosts : List (Post T Kind Op Delta ghosts) → List (model.Post Op) → Type 0
   ArePosts posts sent = AllZip (StandsForPost kind_of IsDataOf kinds logs) posts sent
 
   -- message by message to each member
-  messages_stand : (posts : List (Post T Kind Op Delta)) (sent : List (model.Post Op)) (b : ℕ) → ArePosts posts sent → AllZip (StandsForMessage kind_of IsDataOf kinds logs) (messages_to posts b) (sent_to sent b)
+  messages_stand : (posts : List (Post T Kind Op Delta ghosts)) (sent : List (model.Post Op)) (b : ℕ) → ArePosts posts sent → AllZip (StandsForMessage kind_of IsDataOf kinds logs) (messages_to posts b) (sent_to sent b)
   messages_stand [] [] b all = tt
   messages_stand [] (s ∷ sent) b all = absurd all
   messages_stand (p ∷ posts) [] b all = absurd all
   messages_stand (p ∷ posts) (s ∷ sent) b all = go (p.to == b) (s.to == b) (ap (λ i. i == b) (sym all.0.to)) (messages_stand posts sent b all.1)
     where
       go : (x y : Bool) → x ≡ y → AllZip (StandsForMessage kind_of IsDataOf kinds logs) (messages_to posts b) (sent_to sent b)
-          → AllZip (StandsForMessage kind_of IsDataOf kinds logs) (map (λ (q : Post T Kind Op Delta). q.message) (if x then p ∷ filter (λ (q : Post T Kind Op Delta). q.to == b) posts else filter (λ (q : Post T Kind Op Delta). q.to == b) posts))
+          → AllZip (StandsForMessage kind_of IsDataOf kinds logs) (map (λ (q : Post T Kind Op Delta ghosts). q.message) (if x then p ∷ filter (λ (q : Post T Kind Op Delta ghosts). q.to == b) posts else filter (λ (q : Post T Kind Op Delta ghosts). q.to == b) posts))
           (map (λ (q : model.Post Op). q.message) (if y then s ∷ filter (λ (q : model.Post Op). q.to == b) sent else filter (λ (q : model.Post Op). q.to == b) sent))
       go true true e rest = (all.0.message, rest)
       go false false e rest = rest
       go true false e rest = absurd (cc e)
       go false true e rest = absurd (cc e)
 
-  pub told_alike : (posts : List (Post T Kind Op Delta)) (sent : List (model.Post Op)) → ArePosts posts sent → map told_of posts ≡ map sketched_post sent
+  pub told_alike : (posts : List (Post T Kind Op Delta ghosts)) (sent : List (model.Post Op)) → ArePosts posts sent → map told_of posts ≡ map sketched_post sent
   told_alike [] [] all = refl
   told_alike [] (s ∷ sent) all = absurd all
   told_alike (p ∷ posts) [] all = absurd all
@@ -121,14 +122,14 @@ module _ {T Kind Op Delta : Type 0} (kind_of : T → Kind) (IsDataOf : T → His
       ap (λ to. record { to = to; sketch = sketch_of p.message } ∷ map told_of posts) (sym all.0.to) ∙ ap (λ sketch. record { to = s.to; sketch = sketch } ∷ map told_of posts) (same_sketch kind_of IsDataOf kinds logs p.message s.message all.0.message)
       ∙ ap (λ rest. sketched_post s ∷ rest) (told_alike posts sent all.1)
 
-  link_extended : (o : Option (Channel (Message T Kind Op Delta))) (link : Link Op) (messages : List (Message T Kind Op Delta)) (sent : List (model.Message Op)) → (o ≡ None → sent ≡ []) → AllZip (StandsForMessage kind_of IsDataOf kinds logs) messages sent → StandsForLink kind_of IsDataOf kinds logs o link
+  link_extended : (o : Option (Channel (Message T Kind Op Delta ghosts))) (link : Link Op) (messages : List (Message T Kind Op Delta ghosts)) (sent : List (model.Message Op)) → (o ≡ None → sent ≡ []) → AllZip (StandsForMessage kind_of IsDataOf kinds logs) messages sent → StandsForLink kind_of IsDataOf kinds logs o link
       → StandsForLink kind_of IsDataOf kinds logs (option_map (extended messages) o) (record { messages = link.messages ++ sent; next = link.next })
   link_extended None link messages sent none all s = ap (λ (l : Link Op). record { messages = l.messages ++ sent; next = l.next }) s ∙ ap (λ ms. record { messages = ms; next = 0 }) (none refl)
   link_extended (Some channel) link messages sent none all s = record { next = s.next; messages = zip_append (StandsForMessage kind_of IsDataOf kinds logs) channel.messages messages link.messages sent s.messages all }
 
-  module _ (old new : Channels (Message T Kind Op Delta)) (links : worlds.Links Op) (from n : ℕ) (posts : List (Post T Kind Op Delta)) (sent : List (model.Post Op)) (stand : ArePosts posts sent) (below : AllByRecursion (λ (post : model.Post Op). post.to < n) sent) (sends : Sends from posts old new) (within : from < n)
-      (linked : (a b : ℕ) → is_some (channel_at old a b) ≡ (nat_lt a n && nat_lt b n)) (before : (a b : ℕ) → StandsForLink kind_of IsDataOf kinds logs (channel_at old a b) (links a b)) where
-    no_channel : (b : ℕ) → channel_at old from b ≡ None → n ≤ b
+  module _ (was : ℕ → ℕ → Option (Channel (Message T Kind Op Delta ghosts))) (new : Channels (Message T Kind Op Delta ghosts)) (links : worlds.Links Op) (from n : ℕ) (posts : List (Post T Kind Op Delta ghosts)) (sent : List (model.Post Op)) (stand : ArePosts posts sent) (below : AllByRecursion (λ (post : model.Post Op). post.to < n) sent) (sends : (a b : ℕ) → channel_at new a b ≡ (if a == from then option_map (extended (messages_to posts b)) (was a b) else was a b)) (within : from < n)
+      (linked : (a b : ℕ) → is_some (was a b) ≡ (nat_lt a n && nat_lt b n)) (before : (a b : ℕ) → StandsForLink kind_of IsDataOf kinds logs (was a b) (links a b)) where
+    no_channel : (b : ℕ) → was from b ≡ None → n ≤ b
     no_channel b none =
         let missing : nat_lt from n && nat_lt b n ≡ false = sym (linked from b) ∙ ap is_some none in
         let here : nat_lt from n ≡ true = grind (arith, nat_tests) in
@@ -138,21 +139,21 @@ module _ {T Kind Op Delta : Type 0} (kind_of : T → Kind) (IsDataOf : T → His
     pub links_sent : (a b : ℕ) → StandsForLink kind_of IsDataOf kinds logs (channel_at new a b) (with_posts links from sent a b)
     links_sent a b = elim (eqb_tells a from) [
       | inl here ↦
-          let o : channel_at new a b ≡ option_map (extended (messages_to posts b)) (channel_at old from b) =
-          sends a b ∙ ap (λ x. if x then option_map (extended (messages_to posts b)) (channel_at old a b) else channel_at old a b) here.0 ∙ ap (λ i. option_map (extended (messages_to posts b)) (channel_at old i b)) here.1 in
+          let o : channel_at new a b ≡ option_map (extended (messages_to posts b)) (was from b) =
+          sends a b ∙ ap (λ x. if x then option_map (extended (messages_to posts b)) (was a b) else was a b) here.0 ∙ ap (λ i. option_map (extended (messages_to posts b)) (was i b)) here.1 in
           let l : with_posts links from sent a b ≡ record { messages = (links from b).messages ++ sent_to sent b; next = (links from b).next } = ap (λ i. with_posts links from sent i b) here.1 ∙ posts_here sent links from b in
           subst (λ o. StandsForLink kind_of IsDataOf kinds logs o (with_posts links from sent a b)) (sym o)
-          (subst (StandsForLink kind_of IsDataOf kinds logs (option_map (extended (messages_to posts b)) (channel_at old from b))) (sym l)
-          (link_extended (channel_at old from b) (links from b) (messages_to posts b) (sent_to sent b) (λ none. none_to sent n b (no_channel b none) below) (messages_stand posts sent b stand) (before from b)))
+          (subst (StandsForLink kind_of IsDataOf kinds logs (option_map (extended (messages_to posts b)) (was from b))) (sym l)
+          (link_extended (was from b) (links from b) (messages_to posts b) (sent_to sent b) (λ none. none_to sent n b (no_channel b none) below) (messages_stand posts sent b stand) (before from b)))
       | inr other ↦
-          let o : channel_at new a b ≡ channel_at old a b = sends a b ∙ ap (λ x. if x then option_map (extended (messages_to posts b)) (channel_at old a b) else channel_at old a b) other.0 in
-          subst (λ o. StandsForLink kind_of IsDataOf kinds logs o (with_posts links from sent a b)) (sym o) (subst (StandsForLink kind_of IsDataOf kinds logs (channel_at old a b)) (sym (posts_elsewhere sent links from a b other.1)) (before a b))
+          let o : channel_at new a b ≡ was a b = sends a b ∙ ap (λ x. if x then option_map (extended (messages_to posts b)) (was a b) else was a b) other.0 in
+          subst (λ o. StandsForLink kind_of IsDataOf kinds logs o (with_posts links from sent a b)) (sym o) (subst (StandsForLink kind_of IsDataOf kinds logs (was a b)) (sym (posts_elsewhere sent links from a b other.1)) (before a b))
     ]
 
-    pub still_linked : (a b : ℕ) → is_some (channel_at new a b) ≡ is_some (channel_at old a b)
-    still_linked a b = ap is_some (sends a b) ∙ go (a == from) (channel_at old a b)
+    pub still_linked : (a b : ℕ) → is_some (channel_at new a b) ≡ is_some (was a b)
+    still_linked a b = ap is_some (sends a b) ∙ go (a == from) (was a b)
       where
-        go : (x : Bool) (o : Option (Channel (Message T Kind Op Delta))) → is_some (if x then option_map (extended (messages_to posts b)) o else o) ≡ is_some o
+        go : (x : Bool) (o : Option (Channel (Message T Kind Op Delta ghosts))) → is_some (if x then option_map (extended (messages_to posts b)) o else o) ≡ is_some o
         go true None = refl
         go true (Some channel) = refl
         go false o = refl

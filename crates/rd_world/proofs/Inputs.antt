@@ -17,7 +17,7 @@ use Rattle.rd_model.specs.Script as script
 use Rattle.rd_model.specs.Script.{Head, Playing, Told, IsRun, told, given, given_to}
 use Rattle.rd_kinds.specs.declared.shown.Shown.{Shown}
 use Rattle.rd_lattice.specs.declared.replica.Replica.{Ghosts}
-use Rattle.rd_node.specs.declared.message.Message.{Message}
+use Rattle.rd_messages.specs.declared.message.Message.{Message}
 use Rattle.rd_node.specs.declared.node.Node.{Node}
 use Rattle.rd_node.specs.declared.reply.Reply.{Reply}
 use Rattle.rd_node.specs.declared.reply.StepError.{StepError}
@@ -34,7 +34,7 @@ use Rattle.rd_world.proofs.Quiet.{IsQuiet, quiet, silent_step}
 use Rattle.rd_world.proofs.Standings.{Stands, IsRunning, running_at, stands_after}
 use Rattle.rd_world.proofs.Steppings.{IsDone, has_room, gives_full, gives_step, world_after, member_after, stands_then}
 
-module _ {T Kind Op Delta : Type 0} (kind_of : T → Kind) (IsDataOf : T → History Op → VersionVector → IdentitySet → Type 0) (kinds : Text → Kind) (logs : Text → History Op) (ghosts : Ghosts T Kind Op Delta) (D : Replication Kind Op Shown) (members : List (Node T Kind Op Delta ghosts)) (channels : Channels (Message T Kind Op Delta)) (p : Playing Kind Op Shown) (s : Stands kind_of IsDataOf kinds logs ghosts members channels p.world) (head : Head Op) (event : Fate → Event Op) (i : ℕ) (input : Input Op) where
+module _ {T Kind Op Delta : Type 0} (kind_of : T → Kind) (IsDataOf : T → History Op → VersionVector → IdentitySet → Type 0) (kinds : Text → Kind) (logs : Text → History Op) (ghosts : Ghosts T Kind Op Delta) (D : Replication Kind Op Shown) (members : List (Node T Kind Op Delta ghosts)) (channels : Channels (Message T Kind Op Delta ghosts)) (p : Playing Kind Op Shown) (s : Stands kind_of IsDataOf kinds logs ghosts members channels p.world) (head : Head Op) (event : Fate → Event Op) (i : ℕ) (input : Input Op) where
   -- an answer that is no reply
   pub told_plainly : (q : Playing Kind Op Shown) (kept : Kept) (a : Answer) (told_answer : script.Answer Shown) → q ≡ told p head told_answer → told_answer ≡ meant_answer a → IsHead kept head → IsNextLine (record { head = kept; answer = a; sent = [] }) p q
   told_plainly q kept a told_answer e same is_head =
@@ -44,7 +44,7 @@ module _ {T Kind Op Delta : Type 0} (kind_of : T → Kind) (IsDataOf : T → His
   given_now = given_to D p head event i input (p.world.nodes i)
 
   -- the world before the member's own step, which differs at most in the links
-  pub record IsBefore (then_channels : Channels (Message T Kind Op Delta)) (before : World Kind Op Shown) : Type 0 where
+  pub record IsBefore (then_channels : Channels (Message T Kind Op Delta ghosts)) (before : World Kind Op Shown) : Type 0 where
     pub stands : Stands kind_of IsDataOf kinds logs ghosts members then_channels before
     pub same_view : before.view ≡ p.world.view
     pub happened : (node : nodes.Node Kind Op Shown) → p.world.nodes i ≡ Some node → happens D p.world (event NoStore) ≡ after_step before i node NoStore (step D node input NoStore)
@@ -56,7 +56,7 @@ module _ {T Kind Op Delta : Type 0} (kind_of : T → Kind) (IsDataOf : T → His
     pub full_tells : old.steps ≡ 16384 → given_now ≡ told p head script.Answer.HistoryFull
     full_tells full = gives_full kind_of IsDataOf kinds logs ghosts D members channels p s head event i input old at_work full
 
-    module _ (silent : IsQuiet input) (then_channels : Channels (Message T Kind Op Delta)) (before : World Kind Op Shown) (b : IsBefore then_channels before) (first : World Kind Op Shown) (run : IsRun D first given_now.events given_now.world) (through : Throughout D logs first given_now) where
+    module _ (silent : IsQuiet input) (then_channels : Channels (Message T Kind Op Delta ghosts)) (before : World Kind Op Shown) (b : IsBefore then_channels before) (first : World Kind Op Shown) (run : IsRun D first given_now.events given_now.world) (through : Throughout D logs first given_now) where
       module _ (reply : Reply) (does : IsDone kind_of IsDataOf kinds logs ghosts D input old new (Ok reply)) where
         next_taken : AreTakenFrom logs (step D at_work.node input NoStore).node
         next_taken = member_after kind_of IsDataOf kinds logs ghosts D members channels p s head event i input old at_work (quiet silent) before (b.happened at_work.node at_work.runs) (has_room kind_of IsDataOf kinds logs ghosts D reply input old new does) first run through
@@ -109,7 +109,7 @@ module _ {T Kind Op Delta : Type 0} (kind_of : T → Kind) (IsDataOf : T → His
       outcome_tells (Err failed.Memory) a e does says kept is_head = absurd (cc e)
 
 -- an input that is no delivery
-pub at_input : {T Kind Op Delta : Type 0} (kind_of : T → Kind) (IsDataOf : T → History Op → VersionVector → IdentitySet → Type 0) (kinds : Text → Kind) (logs : Text → History Op) (ghosts : Ghosts T Kind Op Delta) (D : Replication Kind Op Shown) (members : List (Node T Kind Op Delta ghosts)) (channels : Channels (Message T Kind Op Delta)) (p : Playing Kind Op Shown)
+pub at_input : {T Kind Op Delta : Type 0} (kind_of : T → Kind) (IsDataOf : T → History Op → VersionVector → IdentitySet → Type 0) (kinds : Text → Kind) (logs : Text → History Op) (ghosts : Ghosts T Kind Op Delta) (D : Replication Kind Op Shown) (members : List (Node T Kind Op Delta ghosts)) (channels : Channels (Message T Kind Op Delta ghosts)) (p : Playing Kind Op Shown)
     (s : Stands kind_of IsDataOf kinds logs ghosts members channels p.world) (head : Head Op) (i : ℕ) (input : Input Op) → IsBefore kind_of IsDataOf kinds logs ghosts D members channels p s head (InputAt i input) i input channels p.world
 at_input kind_of IsDataOf kinds logs ghosts D members channels p s head i input =
     record { stands = s; same_view = refl; happened = λ node runs. ap (λ o. stepped_at D p.world i o input NoStore) runs }

@@ -13,7 +13,7 @@ use Rattle.rd_model.specs.Script as script
 use Rattle.rd_model.specs.Script.{Playing, told, did, lose}
 use Rattle.rd_kinds.specs.declared.shown.Shown.{Shown}
 use Rattle.rd_lattice.specs.declared.replica.Replica.{Ghosts}
-use Rattle.rd_node.specs.declared.message.Message.{Message}
+use Rattle.rd_messages.specs.declared.message.Message.{Message}
 use Rattle.rd_world.specs.declared.world.World.{World}
 use Rattle.rd_world.specs.declared.event.Head.TheVariants as head
 use Rattle.rd_world.specs.declared.event.Answer.TheVariants as answer
@@ -46,7 +46,7 @@ module _ {T Kind Op Delta : Type 0} (kind_of : T → Kind) (IsDataOf : T → His
       let test : nat_lt (p.world.links from to).next (length (p.world.links from to).messages) ≡ false = (let a = at_next in let b = at_count in grind (arith, nat_tests)) in
       ap (λ b. if b then lost else unlost) test
 
-  pub lost_stands : index < count_on (channel_at code.links from to) → (new : Channels (Message T Kind Op Delta)) → ChangesOne (passed index) from to code.links new → StandsForWorld kind_of IsDataOf kinds logs (record code { links = new }) (lose D p from to).world
+  pub lost_stands : index < count_on (channel_at code.links from to) → (new : Channels (Message T Kind Op Delta ghosts)) → ChangesOne (passed index) from to code.links new → StandsForWorld kind_of IsDataOf kinds logs (record code { links = new }) (lose D p from to).world
   lost_stands due new changes =
       record {
         count = stands.count;

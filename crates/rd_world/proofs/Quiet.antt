@@ -1,17 +1,18 @@
--- What a member's local inputs leave as it is: its view and its keys. All but a flush send nothing. With no durable key nothing is to be stored.
+-- What a member's local inputs and messages leave as it is: its view and its keys. Operations and reads send nothing. With no durable key nothing is to be stored.
 use Rattle.std.proofs.Common.{◌≡◌, ℕ, List, [], ◌∷◌, refl, sym, ap, subst, ◌∙◌, Bool, true, false, Option, Some, None, map}
-use Rattle.std.specs.Prelude.{if◌then◌else◌, filter, nat_le, not}
+use Rattle.std.specs.Prelude.{if◌then◌else◌, filter, fold, nat_le, not}
 use Rattle.std.specs.List.{AllByRecursion}
 use Rattle.rd_model.specs.View.{is_member}
-use Rattle.rd_model.specs.Entry.{Entry, is_unchanged}
+use Rattle.rd_model.specs.Entry.{Entry, Group, Judgement, judged, is_unchanged}
+use Rattle.rd_model.specs.Entry.Judgement.{Wanted, Stale, Missing}
 use Rattle.rd_model.specs.DataType.{Replication}
 use Rattle.rd_model.specs.Message.{Keyed}
-use Rattle.rd_model.specs.Message.Message.{Deltas}
+use Rattle.rd_model.specs.Message.Message.{Deltas, Nack, Gossip}
 use Rattle.rd_meanings.specs.Refusal.{Refusal}
 use Rattle.rd_history.specs.Texts.{Text}
 use Rattle.rd_model.specs.Node.{KeyDecl, KeyState, Node, Input, Fate, Level, Stepped, key_state, state_of, one_step_later, needed}
 use Rattle.rd_model.specs.Node.Fate.{Stored}
-use Rattle.rd_model.specs.Step.{step, updated, updated_needing, updated_unless, got, got_needing, has_failed, is_strange_entry, with_taken_entry, take_entry, after_entries, member_count}
+use Rattle.rd_model.specs.Step.{step, updated, updated_needing, updated_unless, got, got_needing, AfterGroups, has_failed, is_strange_entry, is_strange_group, with_taken_entry, take_entry, after_entries, with_judged, with_taken_group, take_group, member_count}
 use Rattle.rd_model.specs.World.{stores}
 use Rattle.rd_runs.proofs.Keeping.{if_holds}
 
@@ -25,16 +26,18 @@ pub record IsSilent {Kind Op Shown : Type 0} (s : Stepped Kind Op Shown) : Type 
   pub posts : s.output.posts ≡ []
   pub ended : s.output.ended ≡ None
 
--- an operation or a read at the local level, or whole entries from a member: such a step sends nothing
+-- an operation or a read at the local level: such a step sends nothing
 pub data IsQuiet {Op : Type 0} : Input Op → Type 0 where
   local_update : (key : Text) (op : Op) → IsQuiet (Input.Update key op Level.Local)
   local_get : (key : Text) → IsQuiet (Input.Get key Level.Local)
-  whole_entries_taken : (from : ℕ) (entries : List (Keyed (Entry Op))) → IsQuiet (Input.Take from (Deltas [] entries))
 
--- or a flush
+-- or a flush, or one of these messages
 pub data IsPlain {Op : Type 0} : Input Op → Type 0 where
   quiet : {input : Input Op} → IsQuiet input → IsPlain input
   flush : IsPlain Input.Flush
+  deltas_taken : (from : ℕ) (groups : List (Keyed (Group Op))) (entries : List (Keyed (Entry Op))) → IsPlain (Input.Take from (Deltas groups entries))
+  nack_taken : (from : ℕ) (keys : List Text) → IsPlain (Input.Take from (Nack keys))
+  gossip_taken : (from : ℕ) (entries : List (Keyed (Entry Op))) (wants : List Text) → IsPlain (Input.Take from (Gossip entries wants))
 
 module _ {Kind Op Shown : Type 0} where
   same : (node : Node Kind Op Shown) → IsSame node node
@@ -50,6 +53,20 @@ module _ {Kind Op Shown : Type 0} where
   same_entries : (entries : List (Keyed (Entry Op))) (node : Node Kind Op Shown) → IsSame node (after_entries node entries)
   same_entries [] node = same node
   same_entries (e ∷ entries) node = same_trans node (take_entry node e) _ (same_taken node (key_state node e.key) e.item) (same_entries entries (take_entry node e))
+
+  same_judged : (so_far : AfterGroups Kind Op Shown) (k : KeyState Kind Op) (group : Group Op) (j : Judgement) → IsSame so_far.node (with_judged so_far k group j).node
+  same_judged so_far k group Wanted = record { view = refl; keys = refl }
+  same_judged so_far k group Stale = same so_far.node
+  same_judged so_far k group (Missing i) = same so_far.node
+
+  same_group : (so_far : AfterGroups Kind Op Shown) (o : Option (KeyState Kind Op)) (group : Group Op) → IsSame so_far.node (with_taken_group so_far o group).node
+  same_group so_far None group = same so_far.node
+  same_group so_far (Some k) group =
+      if_holds (λ (next : AfterGroups Kind Op Shown). IsSame so_far.node next.node) (is_strange_group so_far.node.identity k.entry group) _ _ (same so_far.node) (same_judged so_far k group (judged k.entry group))
+
+  same_groups : (groups : List (Keyed (Group Op))) (so_far : AfterGroups Kind Op Shown) → IsSame so_far.node (fold take_group so_far groups).node
+  same_groups [] so_far = same so_far.node
+  same_groups (g ∷ groups) so_far = same_trans so_far.node (take_group so_far g).node _ (same_group so_far (key_state so_far.node g.key) g.item) (same_groups groups (take_group so_far g))
 
 module _ {Kind Op Shown : Type 0} (D : Replication Kind Op Shown) where
   same_unless : (node : Node Kind Op Shown) (k : KeyState Kind Op) (op : Op) (n : ℕ) (fate : Fate) (o : Option Refusal) → IsSame node (updated_unless D node k op n fate o).node
@@ -82,13 +99,20 @@ module _ {Kind Op Shown : Type 0} (D : Replication Kind Op Shown) where
   same_quiet : (node : Node Kind Op Shown) (input : Input Op) (fate : Fate) → IsQuiet input → IsSame node (step D node input fate).node
   same_quiet node _ fate (local_update key op) = same_trans node (one_step_later node) _ (after_one node) (same_updated (one_step_later node) (key_state (one_step_later node) key) op Level.Local fate)
   same_quiet node _ fate (local_get key) = same_trans node (one_step_later node) _ (after_one node) (same_got (one_step_later node) (key_state (one_step_later node) key) Level.Local)
-  same_quiet node _ fate (whole_entries_taken from entries) =
-      same_trans node (one_step_later node) _ (after_one node)
-      (if_holds (λ (s : Stepped Kind Op Shown). IsSame (one_step_later node) s.node) (is_member node.view from) _ _ (same_entries entries (one_step_later node)) (same (one_step_later node)))
 
   pub same_step : (node : Node Kind Op Shown) (input : Input Op) (fate : Fate) → IsPlain input → IsSame node (step D node input fate).node
   same_step node input fate (quiet q) = same_quiet node input fate q
   same_step node _ fate flush = record { view = refl; keys = refl }
+  same_step node _ fate (deltas_taken from groups entries) =
+      let later = one_step_later node in
+      let mid = (fold take_group (record { node = later; gaps = [] }) groups).node in
+      same_trans node later _ (after_one node)
+      (if_holds (λ (s : Stepped Kind Op Shown). IsSame (one_step_later node) s.node) (is_member node.view from) _ _ (same_trans later mid _ (same_groups groups (record { node = later; gaps = [] })) (same_entries entries mid)) (same later))
+  same_step node _ fate (nack_taken from keys) =
+      same_trans node (one_step_later node) _ (after_one node) (if_holds (λ (s : Stepped Kind Op Shown). IsSame (one_step_later node) s.node) (is_member node.view from) _ _ (same (one_step_later node)) (same (one_step_later node)))
+  same_step node _ fate (gossip_taken from entries wants) =
+      same_trans node (one_step_later node) _ (after_one node)
+      (if_holds (λ (s : Stepped Kind Op Shown). IsSame (one_step_later node) s.node) (is_member node.view from) _ _ (same_entries entries (one_step_later node)) (same (one_step_later node)))
 
   -- WHAT IS SENT
 
@@ -116,8 +140,6 @@ module _ {Kind Op Shown : Type 0} (D : Replication Kind Op Shown) where
   pub silent_step : (node : Node Kind Op Shown) (input : Input Op) (fate : Fate) → IsQuiet input → IsSilent (step D node input fate)
   silent_step node _ fate (local_update key op) = silent_updated (one_step_later node) (key_state (one_step_later node) key) op fate
   silent_step node _ fate (local_get key) = silent_got (one_step_later node) (key_state (one_step_later node) key)
-  silent_step node _ fate (whole_entries_taken from entries) =
-      if_holds IsSilent (is_member node.view from) _ _ (record { posts = refl; ended = refl }) (record { posts = refl; ended = refl })
 
   -- WHAT IS STORED
 

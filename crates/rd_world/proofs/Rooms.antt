@@ -5,8 +5,9 @@ use Rattle.std.proofs.lemmas.Bool.Decides.{eqb_tells}
 use Rattle.std.proofs.lemmas.Option.{slice_get-get_or, slice_get_within}
 use Rattle.std.proofs.lemmas.List.Elements.{filter-append}
 use Rattle.std.proofs.lemmas.List.{map-append}
-use Rattle.rd_node.specs.declared.message.Message.{Message}
-use Rattle.rd_node.specs.declared.message.Post.{Post}
+use Rattle.rd_lattice.specs.declared.replica.Replica.{Ghosts}
+use Rattle.rd_messages.specs.declared.message.Message.{Message}
+use Rattle.rd_messages.specs.declared.message.Post.{Post}
 use Rattle.rd_world.specs.declared.links.Link.{Link}
 use Rattle.rd_world.specs.Channels.{Channel, channel_of, row_of}
 use Rattle.rd_world.specs.Sending.{extended, HasRoom, messages_to}
@@ -42,18 +43,18 @@ module _ {M : Type 0} where
   extended_twice xs ys None = refl
   extended_twice xs ys (Some channel) = ap (λ messages. Some (record channel { messages = messages })) (append_assoc channel.messages xs ys)
 
-module _ {T Kind Op Delta : Type 0} where
-  pub messages_push : (posts : List (Post T Kind Op Delta)) (post : Post T Kind Op Delta) (b : ℕ) → messages_to (posts ++ post ∷ []) b ≡ messages_to posts b ++ (if post.to == b then post.message ∷ [] else [])
+module _ {T Kind Op Delta : Type 0} {ghosts : Ghosts T Kind Op Delta} where
+  pub messages_push : (posts : List (Post T Kind Op Delta ghosts)) (post : Post T Kind Op Delta ghosts) (b : ℕ) → messages_to (posts ++ post ∷ []) b ≡ messages_to posts b ++ (if post.to == b then post.message ∷ [] else [])
   messages_push posts post b =
-      ap (map (λ (p : Post T Kind Op Delta). p.message)) (filter-append (λ (p : Post T Kind Op Delta). p.to == b) posts (post ∷ [])) ∙ map-append (λ (p : Post T Kind Op Delta). p.message) (filter (λ (p : Post T Kind Op Delta). p.to == b) posts) _
+      ap (map (λ (p : Post T Kind Op Delta ghosts). p.message)) (filter-append (λ (p : Post T Kind Op Delta ghosts). p.to == b) posts (post ∷ [])) ∙ map-append (λ (p : Post T Kind Op Delta ghosts). p.message) (filter (λ (p : Post T Kind Op Delta ghosts). p.to == b) posts) _
       ∙ ap (λ xs. messages_to posts b ++ xs) (one (post.to == b))
     where
-      one : (x : Bool) → map (λ (p : Post T Kind Op Delta). p.message) (if x then post ∷ [] else []) ≡ (if x then post.message ∷ [] else [])
+      one : (x : Bool) → map (λ (p : Post T Kind Op Delta ghosts). p.message) (if x then post ∷ [] else []) ≡ (if x then post.message ∷ [] else [])
       one true = refl
       one false = refl
 
   -- the posts so far, and one more
-  pub sends_more : (posts : List (Post T Kind Op Delta)) (post : Post T Kind Op Delta) (start now later : ℕ → Option (Channel (Message T Kind Op Delta))) → ((b : ℕ) → now b ≡ option_map (extended (messages_to posts b)) (start b))
+  pub sends_more : (posts : List (Post T Kind Op Delta ghosts)) (post : Post T Kind Op Delta ghosts) (start now later : ℕ → Option (Channel (Message T Kind Op Delta ghosts))) → ((b : ℕ) → now b ≡ option_map (extended (messages_to posts b)) (start b))
       → ((b : ℕ) → later b ≡ (if b == post.to then option_map (extended (post.message ∷ [])) (now b) else now b)) → (b : ℕ) → later b ≡ option_map (extended (messages_to (posts ++ post ∷ []) b)) (start b)
   sends_more posts post start now later so_far step b = elim (eqb_tells b post.to) [
     | inl here ↦

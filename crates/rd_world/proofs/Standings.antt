@@ -12,17 +12,17 @@ use Rattle.rd_model.specs.View.{first_view}
 use Rattle.rd_model.specs.Node as nodes
 use Rattle.rd_model.specs.Node.{Stepped}
 use Rattle.rd_model.specs.Node.Fate.{NoStore}
-use Rattle.rd_model.specs.World.{World, with_posts, after_step}
+use Rattle.rd_model.specs.World.{World, Links, with_posts, after_step}
 use Rattle.rd_kinds.specs.declared.shown.Shown.{Shown}
 use Rattle.rd_lattice.specs.declared.replica.Replica.{Ghosts}
-use Rattle.rd_node.specs.declared.message.Message.{Message}
+use Rattle.rd_messages.specs.declared.message.Message.{Message}
 use Rattle.rd_node.specs.declared.node.Node.{Node}
 use Rattle.rd_world.specs.Channels.{Channels, channel_at}
 use Rattle.rd_world.specs.Standing.{StandsForLink, StandsForMember, StandsForRunning, StandsForParts}
 use Rattle.rd_world.proofs.Places.{slice_get-set_same, slice_get-set_other}
 
 module _ {T Kind Op Delta : Type 0} (kind_of : T → Kind) (IsDataOf : T → History Op → VersionVector → IdentitySet → Type 0) (kinds : Text → Kind) (logs : Text → History Op) (ghosts : Ghosts T Kind Op Delta) where
-  abbrev pub Stands : List (Node T Kind Op Delta ghosts) → Channels (Message T Kind Op Delta) → World Kind Op Shown → Type 0
+  abbrev pub Stands : List (Node T Kind Op Delta ghosts) → Channels (Message T Kind Op Delta ghosts) → World Kind Op Shown → Type 0
   Stands members channels world = StandsForParts kind_of IsDataOf kinds logs members channels world
 
   -- the model's member that a member stands for
@@ -31,7 +31,7 @@ module _ {T Kind Op Delta : Type 0} (kind_of : T → Kind) (IsDataOf : T → His
     pub runs : world.nodes i ≡ Some node
     pub member : StandsForMember kind_of IsDataOf kinds logs world.view code node
 
-  module _ (members : List (Node T Kind Op Delta ghosts)) (channels : Channels (Message T Kind Op Delta)) (world : World Kind Op Shown) (s : Stands members channels world) (i : ℕ) where
+  module _ (members : List (Node T Kind Op Delta ghosts)) (channels : Channels (Message T Kind Op Delta ghosts)) (world : World Kind Op Shown) (s : Stands members channels world) (i : ℕ) where
     pub running_at : (code : Node T Kind Op Delta ghosts) → i < length members → code ≡ get_or members i code → IsRunning world i code
     running_at code within is =
         let here = subst (λ (o : Option (Node T Kind Op Delta ghosts)). StandsForRunning kind_of IsDataOf kinds logs world.view o (world.nodes i)) (slice_get-get_or members i code within ∙ ap Some (sym is)) (s.running i) in
@@ -40,12 +40,12 @@ module _ {T Kind Op Delta : Type 0} (kind_of : T → Kind) (IsDataOf : T → His
     pub gone_past : length members ≤ i → world.nodes i ≡ None
     gone_past past = subst (λ (o : Option (Node T Kind Op Delta ghosts)). StandsForRunning kind_of IsDataOf kinds logs world.view o (world.nodes i)) (slice_get_past members i past) (s.running i)
 
-    -- after a member's step
-    pub stands_after : (node : nodes.Node Kind Op Shown) (stepped : Stepped Kind Op Shown) (new : Node T Kind Op Delta ghosts) (then_channels : Channels (Message T Kind Op Delta)) → i < length members → StandsForMember kind_of IsDataOf kinds logs world.view new stepped.node
+    -- after a member's step, from other links
+    pub stands_after_links : (before : Links Op) (node : nodes.Node Kind Op Shown) (stepped : Stepped Kind Op Shown) (new : Node T Kind Op Delta ghosts) (then_channels : Channels (Message T Kind Op Delta ghosts)) → i < length members → StandsForMember kind_of IsDataOf kinds logs world.view new stepped.node
         → ((from to : ℕ) → is_some (channel_at then_channels from to) ≡ is_some (channel_at channels from to))
-        → ((from to : ℕ) → StandsForLink kind_of IsDataOf kinds logs (channel_at then_channels from to) (with_posts world.links i stepped.output.posts from to))
-        → Stands (set members i new) then_channels (after_step world i node NoStore stepped)
-    stands_after node stepped new then_channels within member linked links =
+        → ((from to : ℕ) → StandsForLink kind_of IsDataOf kinds logs (channel_at then_channels from to) (with_posts before i stepped.output.posts from to))
+        → Stands (set members i new) then_channels (after_step (record world { links = before }) i node NoStore stepped)
+    stands_after_links before node stepped new then_channels within member linked links =
         let same : length members ≡ length (set members i new) = sym (length-set members i new) in
         record {
           few = subst (λ n. n ≤ identity_limit) same s.few;
@@ -62,3 +62,10 @@ module _ {T Kind Op Delta : Type 0} (kind_of : T → Kind) (IsDataOf : T → His
           linked = λ from to. linked from to ∙ s.linked from to ∙ ap (λ n. nat_lt from n && nat_lt to n) same;
           links = links;
         }
+
+    -- from the links that there were
+    pub stands_after : (node : nodes.Node Kind Op Shown) (stepped : Stepped Kind Op Shown) (new : Node T Kind Op Delta ghosts) (then_channels : Channels (Message T Kind Op Delta ghosts)) → i < length members → StandsForMember kind_of IsDataOf kinds logs world.view new stepped.node
+        → ((from to : ℕ) → is_some (channel_at then_channels from to) ≡ is_some (channel_at channels from to))
+        → ((from to : ℕ) → StandsForLink kind_of IsDataOf kinds logs (channel_at then_channels from to) (with_posts world.links i stepped.output.posts from to))
+        → Stands (set members i new) then_channels (after_step world i node NoStore stepped)
+    stands_after node stepped new then_channels within member linked links = stands_after_links world.links node stepped new then_channels within member linked links

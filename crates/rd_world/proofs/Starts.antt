@@ -12,7 +12,7 @@ use Rattle.rd_model.specs.View.{Member, first_view, identities_of}
 use Rattle.rd_model.specs.World.{start, no_link, loaded_node}
 use Rattle.rd_lattice.specs.declared.replica.Replica.{Ghosts}
 use Rattle.rd_node.specs.declared.key.KeyDecl.{KeyDecl}
-use Rattle.rd_node.specs.declared.message.Message.{Message}
+use Rattle.rd_messages.specs.declared.message.Message.{Message}
 use Rattle.rd_node.specs.declared.node.Node.{Node}
 use Rattle.rd_node.specs.Members.{declared}
 use Rattle.rd_world.specs.Channels.{Channel, Channels, channel_at, no_messages}
@@ -49,15 +49,15 @@ module _ {T Kind Op Delta : Type 0} (kind_of : T → Kind) (IsDataOf : T → His
   one_running None true k pair = elim pair [ ]
   one_running (Some code) false k pair = elim pair [ ]
 
-  one_link : (b : Bool) → StandsForLink {Delta = Delta} kind_of IsDataOf kinds logs (if b then Some no_messages else None) no_link
+  one_link : (b : Bool) → StandsForLink kind_of IsDataOf kinds logs {ghosts = ghosts} (if b then Some no_messages else None) no_link
   one_link true = record { next = refl; messages = tt }
   one_link false = refl
 
-  some_there : (b : Bool) → is_some {T = Channel (Message T Kind Op Delta)} (if b then Some no_messages else None) ≡ b
+  some_there : (b : Bool) → is_some {T = Channel (Message T Kind Op Delta ghosts)} (if b then Some no_messages else None) ≡ b
   some_there true = refl
   some_there false = refl
 
-  pub stands_at_start : (members : List (Node T Kind Op Delta ghosts)) (channels : Channels (Message T Kind Op Delta)) → n ≤ identity_limit → AllZip (IsNewMember kind_of IsDataOf kinds logs keys (first_view n)) members (range_with_len 0 n)
+  pub stands_at_start : (members : List (Node T Kind Op Delta ghosts)) (channels : Channels (Message T Kind Op Delta ghosts)) → n ≤ identity_limit → AllZip (IsNewMember kind_of IsDataOf kinds logs keys (first_view n)) members (range_with_len 0 n)
       → ((from to : ℕ) → channel_at channels from to ≡ (if nat_lt from n && nat_lt to n then Some no_messages else None)) → StandsForParts kind_of IsDataOf kinds logs members channels (start n (map declared keys))
   stands_at_start members channels few all links =
       let count : length members ≡ n = zip_length _ members (range_with_len 0 n) all ∙ length-range_with_len 0 n in
@@ -66,6 +66,6 @@ module _ {T Kind Op Delta : Type 0} (kind_of : T → Kind) (IsDataOf : T → His
         view = ap first_view (sym count);
         earlier = refl;
         running = λ i. one_running (slice_get members i) (nat_lt i n) i (subst (IsPair (IsNewMember kind_of IsDataOf kinds logs keys (first_view n)) (slice_get members i)) (identity_at n i) (zip_at _ members (range_with_len 0 n) i all));
-        linked = λ from to. ap is_some (links from to) ∙ some_there (nat_lt from n && nat_lt to n) ∙ ap (λ m. nat_lt from m && nat_lt to m) (sym count);
-        links = λ from to. subst (λ o. StandsForLink kind_of IsDataOf kinds logs o no_link) (sym (links from to)) (one_link (nat_lt from n && nat_lt to n));
+        linked = λ from to. ap (is_some {T = Channel (Message T Kind Op Delta ghosts)}) (links from to) ∙ some_there (nat_lt from n && nat_lt to n) ∙ ap (λ m. nat_lt from m && nat_lt to m) (sym count);
+        links = λ from to. subst (λ o. StandsForLink kind_of IsDataOf kinds logs {ghosts = ghosts} o no_link) (sym (links from to)) (one_link (nat_lt from n && nat_lt to n));
       }

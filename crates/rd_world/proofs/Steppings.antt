@@ -17,7 +17,7 @@ use Rattle.rd_model.specs.Script.{Head, Playing, IsRun, told, given_to}
 use Rattle.rd_model.specs.Script.Answer.{Gone, HistoryFull}
 use Rattle.rd_kinds.specs.declared.shown.Shown.{Shown}
 use Rattle.rd_lattice.specs.declared.replica.Replica.{Ghosts}
-use Rattle.rd_node.specs.declared.message.Message.{Message}
+use Rattle.rd_messages.specs.declared.message.Message.{Message}
 use Rattle.rd_node.specs.declared.key.KeyState.{KeyState}
 use Rattle.rd_node.specs.declared.node.Node.{Node}
 use Rattle.rd_node.specs.declared.reply.StepError.{StepError}
@@ -46,7 +46,7 @@ module _ {T Kind Op Delta : Type 0} (kind_of : T → Kind) (IsDataOf : T → His
     pub stands : (node : nodes.Node Kind Op Shown) → StandsForNode kind_of IsDataOf kinds logs old node → AreTakenFrom logs (step D node input NoStore).node → OnOk outcome (StandsForNode kind_of IsDataOf kinds logs new (step D node input NoStore).node)
     pub full : outcome ≡ Err failed.HistoryFull ↔ (old.steps ≡ 16384)
 
-  module _ (members : List (Node T Kind Op Delta ghosts)) (channels : Channels (Message T Kind Op Delta)) (p : Playing Kind Op Shown) (s : Stands kind_of IsDataOf kinds logs ghosts members channels p.world) (head : Head Op) (event : Fate → Event Op) (i : ℕ) (input : Input Op) where
+  module _ (members : List (Node T Kind Op Delta ghosts)) (channels : Channels (Message T Kind Op Delta ghosts)) (p : Playing Kind Op Shown) (s : Stands kind_of IsDataOf kinds logs ghosts members channels p.world) (head : Head Op) (event : Fate → Event Op) (i : ℕ) (input : Input Op) where
     pub gives_gone : length members ≤ i → given_to D p head event i input (p.world.nodes i) ≡ told p head Gone
     gives_gone past = ap (given_to D p head event i input) (gone_past kind_of IsDataOf kinds logs ghosts members channels p.world s i past)
 

@@ -10,8 +10,8 @@ use Rattle.rd_bytes.specs.declared.memory.Memory.{Memory}
 use Rattle.rd_node.specs.declared.reply.Reply.{Reply}
 use Rattle.rd_node.specs.declared.reply.StepError.{StepError}
 use Rattle.rd_node.specs.declared.reply.StepError.TheVariants as failed
-use Rattle.rd_node.specs.declared.message.MessageKind.TheVariants as kind
-use Rattle.rd_node.specs.declared.message.Sketch.{Sketch}
+use Rattle.rd_messages.specs.declared.sketch.MessageKind.TheVariants as kind
+use Rattle.rd_messages.specs.declared.sketch.Sketch.{Sketch}
 use Rattle.rd_world.specs.declared.event.Head.{Head}
 use Rattle.rd_world.specs.declared.event.Head.TheVariants as head
 use Rattle.rd_world.specs.declared.event.Answer.{Answer}

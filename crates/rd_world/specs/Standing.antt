@@ -14,19 +14,19 @@ use Rattle.rd_model.specs.World.{Link, no_link}
 use Rattle.rd_kinds.specs.declared.shown.Shown.{Shown}
 use Rattle.rd_lattice.specs.declared.replica.Replica.{Ghosts}
 use Rattle.rd_node.specs.declared.key.KeyDecl.{KeyDecl}
-use Rattle.rd_node.specs.declared.message.Message.{Message}
+use Rattle.rd_messages.specs.declared.message.Message.{Message}
 use Rattle.rd_node.specs.declared.node.Node.{Node}
 use Rattle.rd_node.specs.Members.{declared, StandsForNode, StandsForMessage}
 use Rattle.rd_world.specs.declared.world.World.{World}
 use Rattle.rd_world.specs.Channels.{Channel, Channels, channel_at}
 
 module _ {T Kind Op Delta : Type 0} (kind_of : T → Kind) (IsDataOf : T → History Op → VersionVector → IdentitySet → Type 0) (kinds : Text → Kind) (logs : Text → History Op) where
-  pub record StandsForChannel (channel : Channel (Message T Kind Op Delta)) (link : Link Op) : Type 0 where
+  pub record StandsForChannel {ghosts : Ghosts T Kind Op Delta} (channel : Channel (Message T Kind Op Delta ghosts)) (link : Link Op) : Type 0 where
     pub next : link.next ≡ channel.next
     pub messages : AllZip (StandsForMessage kind_of IsDataOf kinds logs) channel.messages link.messages
 
   -- where there is no channel, no message was ever sent
-  abbrev pub StandsForLink : Option (Channel (Message T Kind Op Delta)) → Link Op → Type 0
+  abbrev pub StandsForLink : {ghosts : Ghosts T Kind Op Delta} → Option (Channel (Message T Kind Op Delta ghosts)) → Link Op → Type 0
   StandsForLink None link = link ≡ no_link
   StandsForLink (Some channel) link = StandsForChannel channel link
 
@@ -45,7 +45,7 @@ module _ {T Kind Op Delta : Type 0} (kind_of : T → Kind) (IsDataOf : T → His
   StandsForRunning view (Some code) running = (node : nodes.Node Kind Op Shown) × (running ≡ Some node) × StandsForMember view code node
 
   -- members by their identities, and the channels between them
-  pub record StandsForParts {ghosts : Ghosts T Kind Op Delta} (members : List (Node T Kind Op Delta ghosts)) (channels : Channels (Message T Kind Op Delta)) (world : worlds.World Kind Op Shown) : Type 0 where
+  pub record StandsForParts {ghosts : Ghosts T Kind Op Delta} (members : List (Node T Kind Op Delta ghosts)) (channels : Channels (Message T Kind Op Delta ghosts)) (world : worlds.World Kind Op Shown) : Type 0 where
     pub few : length members ≤ identity_limit
     pub view : world.view ≡ first_view (length members)
     pub earlier : world.earlier ≡ []

@@ -6,15 +6,17 @@ ghost use Rattle.rd_model.specs.Node.{Node as Member, Input, Fate};
 ghost use Rattle.rd_model.specs.Step.{step};
 ghost use Rattle.rd_kinds.specs.declared.shown.Shown.{Shown};
 ghost use Rattle.rd_node.specs.declared.reply.StepError.TheVariants as failed;
-ghost use Rattle.rd_node.specs.Members.{whole_entries, AreTakenFrom, StandsForNode};
+ghost use Rattle.rd_model.specs.Message.{Message as Sent};
+ghost use Rattle.rd_node.specs.Members.{whole_entries, meant, AreTakenFrom, ArePruneFree, StandsForNode, StandsForMessage};
 ghost use Rattle.rd_world.specs.Channels.{row_of};
-ghost use Rattle.rd_world.specs.Sending.{extended, HasRoom, messages_to, told_of, IsSentOnRow, IsSentFrom};
+ghost use Rattle.rd_world.specs.Sending.{extended, HasRoom, messages_to, told_of, AreFlushed, AreAnswers, IsSentOnRow, IsSentFrom};
 
 use crate::event::{SentTo, Sketches};
 use crate::links::{Link, Links};
 use rd_bytes::{Items, Memory};
 use rd_lattice::Replica;
-use rd_node::{Message, Node, Post, StepError};
+use rd_node::{Message, Node, Output, Post, Reply, StepError};
+use rd_vectors::Id;
 use std::alloc::Global;
 
 /// Makes room for so many more messages on each link of a member.
@@ -65,7 +67,7 @@ fn flush_row<T: Replica>(
     ensures stands { (digest : T.Kind → Entry T.Op → List ℕ) (kinds : Text → T.Kind) (logs : Text → History T.Op) (member : Member T.Kind T.Op Shown) → StandsForNode T.kind_of T.IsDataOf kinds logs node.old member
         → let next = step (whole_entries T.data_type digest) member Input.Flush Fate.NoStore in
         AreTakenFrom logs next.node → OnOk result (StandsForNode T.kind_of T.IsDataOf kinds logs node.new next.node) }
-    ensures sends { IfOk result (IsSentOnRow T.data_type T.kind_of T.IsDataOf node.old room (row_of row.old) (row_of row.new)) }
+    ensures sends { IfOk result (IsSentOnRow (AreFlushed T.data_type T.kind_of T.IsDataOf node.old) room (row_of row.old) (row_of row.new)) }
     ensures full { result ≡ Err failed.HistoryFull → node.old.steps ≡ 16384 }
     ensures room { OnOk result (node.old.steps ≡ 16384 → ⊥) }
     ensures err { OnErr result ((node.new ≡ node.old) × (row_of row.new ≡ row_of row.old)) }
@@ -91,7 +93,7 @@ pub(crate) fn flush<T: Replica>(
     ensures stands { (digest : T.Kind → Entry T.Op → List ℕ) (kinds : Text → T.Kind) (logs : Text → History T.Op) (member : Member T.Kind T.Op Shown) → from < length links.old → StandsForNode T.kind_of T.IsDataOf kinds logs node.old member
         → let next = step (whole_entries T.data_type digest) member Input.Flush Fate.NoStore in
         AreTakenFrom logs next.node → OnOk result (StandsForNode T.kind_of T.IsDataOf kinds logs node.new next.node) }
-    ensures sends { from < length links.old → IfOk result (IsSentFrom T.data_type T.kind_of T.IsDataOf node.old from members links.old links.new) }
+    ensures sends { from < length links.old → IfOk result (IsSentFrom (AreFlushed T.data_type T.kind_of T.IsDataOf node.old) from members links.old links.new) }
     ensures full { result ≡ Err failed.HistoryFull → node.old.steps ≡ 16384 }
     ensures room { from < length links.old → OnOk result (node.old.steps ≡ 16384 → ⊥) }
     ensures err { OnErr result ((node.new ≡ node.old) × (links.new ≡ links.old)) }
@@ -101,4 +103,80 @@ pub(crate) fn flush<T: Replica>(
         return Ok(Items::new(alloc));
     }
     flush_row(alloc, node, &mut links.rows[sender], usize::from(members))
+}
+
+/// What a member answered to a message: its reply, and what it sent.
+#[derive(Drop)]
+pub(crate) struct Answered {
+    pub(crate) reply: Reply,
+    pub(crate) sent: Sketches,
+}
+
+/// A member answers a message with so many messages at most.
+const MOST_ANSWERS: usize = 2;
+
+/// A member takes a message: its answers go to the ends of its links, and are told.
+fn take_row<T: Replica>(
+    alloc: Global,
+    node: &mut Node<T>,
+    row: &mut Vec<Link<Message<T>>>,
+    from: Id,
+    message: &Message<T>,
+) -> Result<Answered, StepError>
+    ensures stands { (digest : T.Kind → Entry T.Op → List ℕ) (kinds : Text → T.Kind) (logs : Text → History T.Op) (member : Member T.Kind T.Op Shown) (given : Sent T.Op)
+        → StandsForNode T.kind_of T.IsDataOf kinds logs node.old member → ArePruneFree logs → StandsForMessage T.kind_of T.IsDataOf kinds logs message.now given
+        → let next = step (whole_entries T.data_type digest) member (Input.Take from given) Fate.NoStore in
+        AreTakenFrom logs next.node → OnOk result (StandsForNode T.kind_of T.IsDataOf kinds logs node.new next.node) }
+    ensures reply { (digest : T.Kind → Entry T.Op → List ℕ) (kinds : Text → T.Kind) (logs : Text → History T.Op) (member : Member T.Kind T.Op Shown) (given : Sent T.Op)
+        → StandsForNode T.kind_of T.IsDataOf kinds logs node.old member → ArePruneFree logs → StandsForMessage T.kind_of T.IsDataOf kinds logs message.now given
+        → let next = step (whole_entries T.data_type digest) member (Input.Take from given) Fate.NoStore in
+        AreTakenFrom logs next.node → IfOk result (λ answered. meant answered.reply ≡ next.output.reply) }
+    ensures sends { IfOk result (λ answered. IsSentOnRow (AreAnswers T.data_type T.kind_of T.IsDataOf node.old from message.now) 2 (row_of row.old) (row_of row.new) answered.sent) }
+    ensures full { result ≡ Err failed.HistoryFull → node.old.steps ≡ 16384 }
+    ensures room { OnOk result (node.old.steps ≡ 16384 → ⊥) }
+    ensures err { OnErr result ((node.new ≡ node.old) × (row_of row.new ≡ row_of row.old)) }
+{
+    let mut sent = match Vec::with_capacity(alloc, MOST_ANSWERS) {
+        Ok(sent) => sent,
+        Err(_) => return Err(StepError::Memory),
+    };
+    reserve(row, MOST_ANSWERS)?;
+    let output = node.take(from, message)?;
+    let Output { reply, posts } = output;
+    send(row, posts.into_vec(), &mut sent);
+    let sent = Items::from_vec(sent);
+    Ok(Answered { reply, sent })
+}
+
+/// A member of links takes a message: its answers go to the ends of its links, and are told.
+pub(crate) fn take<T: Replica>(
+    alloc: Global,
+    node: &mut Node<T>,
+    links: &mut Links<Message<T>>,
+    at: u8,
+    from: Id,
+    message: &Message<T>,
+) -> Result<Answered, StepError>
+    ensures stands { (digest : T.Kind → Entry T.Op → List ℕ) (kinds : Text → T.Kind) (logs : Text → History T.Op) (member : Member T.Kind T.Op Shown) (given : Sent T.Op) → at < length links.old
+        → StandsForNode T.kind_of T.IsDataOf kinds logs node.old member → ArePruneFree logs → StandsForMessage T.kind_of T.IsDataOf kinds logs message.now given
+        → let next = step (whole_entries T.data_type digest) member (Input.Take from given) Fate.NoStore in
+        AreTakenFrom logs next.node → OnOk result (StandsForNode T.kind_of T.IsDataOf kinds logs node.new next.node) }
+    ensures reply { (digest : T.Kind → Entry T.Op → List ℕ) (kinds : Text → T.Kind) (logs : Text → History T.Op) (member : Member T.Kind T.Op Shown) (given : Sent T.Op) → at < length links.old
+        → StandsForNode T.kind_of T.IsDataOf kinds logs node.old member → ArePruneFree logs → StandsForMessage T.kind_of T.IsDataOf kinds logs message.now given
+        → let next = step (whole_entries T.data_type digest) member (Input.Take from given) Fate.NoStore in
+        AreTakenFrom logs next.node → IfOk result (λ answered. meant answered.reply ≡ next.output.reply) }
+    ensures sends { at < length links.old → IfOk result (λ answered. IsSentFrom (AreAnswers T.data_type T.kind_of T.IsDataOf node.old from message.now) at 2 links.old links.new answered.sent) }
+    ensures full { result ≡ Err failed.HistoryFull → node.old.steps ≡ 16384 }
+    ensures room { at < length links.old → OnOk result (node.old.steps ≡ 16384 → ⊥) }
+    ensures err { OnErr result ((node.new ≡ node.old) × (links.new ≡ links.old)) }
+    ensures gone { length links.old ≤ at → links.new ≡ links.old }
+{
+    let receiver = usize::from(at);
+    if receiver >= links.rows.len() {
+        return Ok(Answered {
+            reply: Reply::NotFromMember,
+            sent: Items::new(alloc),
+        });
+    }
+    take_row(alloc, node, &mut links.rows[receiver], from, message)
 }

@@ -12,7 +12,7 @@ ghost use Rattle.rd_node.specs.Members.{AreDistinct, AreOfKinds, declared, whole
 
 use crate::event::{Answer, Event, Head, Sketches};
 use crate::links::Links;
-use crate::sending::flush;
+use crate::sending::{Answered, flush, take};
 use crate::start::{identities, new_nodes};
 use rd_bytes::{Items, Memory, Text};
 use rd_lattice::Replica;
@@ -200,10 +200,23 @@ impl<T: Replica> World<T> {
             index,
             sketch,
         };
-        match self.nodes[receiver].take(sender, message) {
-            Ok(reply) => {
+        let message = message.copy(self.alloc)?;
+        match take(
+            self.alloc,
+            &mut self.nodes[receiver],
+            &mut self.links,
+            to,
+            sender,
+            &message,
+        ) {
+            Ok(answered) => {
+                let Answered { reply, sent } = answered;
                 self.links.pass(from, to, index);
-                Ok(line(self.alloc, head, Answer::Reply(reply)))
+                Ok(Event {
+                    head,
+                    answer: Answer::Reply(reply),
+                    sent,
+                })
             }
             Err(StepError::HistoryFull) => Ok(line(self.alloc, head, Answer::HistoryFull)),
             Err(StepError::Memory) => Err(Memory),

@@ -1,7 +1,7 @@
 use Rattle.std.proofs.Common.{◌∙◌, subst, arith, ℕ, map, set}
-use Rattle.rd_node.specs.declared.message.Message.{Message}
+use Rattle.rd_messages.specs.declared.message.Message.{Message}
 use Rattle.rd_world.specs.Channels.{Channels, row_of}
-use Rattle.rd_world.specs.Sending.{IsSentOnRow, IsSentFrom, Sends}
+use Rattle.rd_world.specs.Sending.{AreFlushed, IsSentOnRow, IsSentFrom, Sends}
 use Rattle.rd_world.proofs.Sendings.{weaker_ok, weaker_err, row_sends, same_rows}
 use Rattle.rd_world.proofs.sending.flush.Goals as goal
 
@@ -14,14 +14,14 @@ returns-clause-sends g c = λ within.
     let old = c.index_mut.result.now in
     let new = c.flush_row.new.row in
     let after = map row_of (set rows.items c.from-sender.result new) in
-    weaker_ok c.flush_row.result (IsSentOnRow g.T.Replica.data_type g.T.Replica.kind_of g.T.Replica.IsDataOf c.args.node.now c.from.result (row_of old) (row_of new))
-    (IsSentFrom g.T.Replica.data_type g.T.Replica.kind_of g.T.Replica.IsDataOf c.args.node.now c.args.from c.args.members c.args.links.now after)
+    weaker_ok c.flush_row.result (IsSentOnRow (AreFlushed g.T.Replica.data_type g.T.Replica.kind_of g.T.Replica.IsDataOf c.args.node.now) c.from.result (row_of old) (row_of new))
+    (IsSentFrom (AreFlushed g.T.Replica.data_type g.T.Replica.kind_of g.T.Replica.IsDataOf c.args.node.now) c.args.from c.args.members c.args.links.now after)
     (λ sent s. (
       s.0,
       s.1,
       λ few.
           let these = s.2 (let e = c.from.ensures in omega arith) in (
-            subst (λ (links : Channels (Message g.row.T.Denot g.row.T-Kind.Denot g.row.T-Op.Denot g.row.T-Delta.Denot)). Sends c.args.from s.0 links after) c.links.view_is
+            subst (λ (links : Channels (Message g.row.T.Denot g.row.T-Kind.Denot g.row.T-Op.Denot g.row.T-Delta.Denot g.T.Replica)). Sends c.args.from s.0 links after) c.links.view_is
                 (subst (λ (from : ℕ). Sends from s.0 (map row_of rows.items) after) c.from-sender.ensures (row_sends rows.items c.from-sender.result old new s.0 (omega (arith, rows.ok.0)) c.index_mut.ensures.value these.0)),
             these.1,
           ),

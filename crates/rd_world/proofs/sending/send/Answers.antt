@@ -2,7 +2,7 @@ use Rattle.std.proofs.Common.{◌≡◌, ◌∙◌, sym, ap, subst, refl, arith,
 use Rattle.std.specs.Prelude.{is_ok, slice_get, option_map}
 use Rattle.std.proofs.lemmas.Iterator.Adapters.{YieldsList-from_vec}
 use Rattle.std.proofs.lemmas.Iterator.Consumers.{YieldsList-end}
-use Rattle.rd_node.specs.declared.message.Post.{Post}
+use Rattle.rd_messages.specs.declared.message.Post.{Post}
 use Rattle.rd_world.specs.Channels.{row_of}
 use Rattle.rd_world.specs.Sending.{extended, messages_to, told_of}
 use Rattle.rd_world.proofs.Rooms.{less_room}
@@ -34,7 +34,7 @@ returns-clause-row g c = λ room has within.
     let whole : c.loop-post.yielded ≡ posts = all_yielded c.loop-post.yielded posts ends.0 in
     let count : length c.loop-post.yielded ≡ length posts = ap length whole in
     λ b.
-    subst (λ (these : List (Post g.row.T.Denot g.row.T-Kind.Denot g.row.T-Op.Denot g.row.T-Delta.Denot)). slice_get (row_of c.loop-post.row) b ≡ option_map (extended (messages_to these b)) (slice_get (row_of c.args.row.now) b)) whole
+    subst (λ (these : List (Post g.row.T.Denot g.row.T-Kind.Denot g.row.T-Op.Denot g.row.T-Delta.Denot g.T.Replica)). slice_get (row_of c.loop-post.row) b ≡ option_map (extended (messages_to these b)) (slice_get (row_of c.args.row.now) b)) whole
     (c.loop-post.invariant.row.sent (room - length posts) (less_room c.args.row.now room (room - length posts + length c.loop-post.yielded) (omega arith) has) b)
 
 pub returns-clause-told : goal.returns-clause-told
@@ -43,4 +43,4 @@ returns-clause-told g c = λ has.
     let ends = YieldsList-end (YieldsList-from_vec posts c.into_iter-post-iterator.ensures.into_iter_gives.0 (c.into_iter-post-iterator.ensures.into_iter_gives.1 ∙ c.args.posts.ok.0)) c.loop-post.yielded c.loop-post.post-iterator c.loop-post.yielded_by c.next.result c.next.new.self c.in-None.is c.next.ensures.steps in
     let whole : c.loop-post.yielded ≡ posts = all_yielded c.loop-post.yielded posts ends.0 in
     let count : length c.loop-post.yielded ≡ length posts = ap length whole in
-    c.loop-post.invariant.told.told (omega arith) ∙ ap (λ (these : List (Post g.row.T.Denot g.row.T-Kind.Denot g.row.T-Op.Denot g.row.T-Delta.Denot)). c.args.sent.now.items ++ map told_of these) whole
+    c.loop-post.invariant.told.told (omega arith) ∙ ap (λ (these : List (Post g.row.T.Denot g.row.T-Kind.Denot g.row.T-Op.Denot g.row.T-Delta.Denot g.T.Replica)). c.args.sent.now.items ++ map told_of these) whole

@@ -1,10 +1,12 @@
-use Rattle.std.proofs.Common.{◌∙◌, sym, ap, subst, arith, refl, get_or, set, None, Some, Vec, Global, Ok, Err, [], ◌∷◌, ◌<◌, length}
+use Rattle.std.proofs.Common.{◌∙◌, sym, ap, subst, arith, refl, get_or, set, ◌≡◌, None, Some, Err, [], ◌∷◌, ◌<◌, length}
 use Rattle.std.specs.Prelude.{option_copied}
-use Rattle.rd_model.specs.Node.{Input}
+use Rattle.rd_model.specs.Node.{Node as Member, Input}
+use Rattle.rd_model.specs.Node.Fate.{NoStore}
+use Rattle.rd_model.specs.Step.{step}
 use Rattle.rd_model.specs.Script as script
 use Rattle.rd_model.specs.Script.{ScriptStep, Playing, deliver}
-use Rattle.rd_node.specs.Members.{whole_entries}
-use Rattle.rd_node.specs.declared.node.Node.{Node}
+use Rattle.rd_kinds.specs.declared.shown.Shown.{Shown}
+use Rattle.rd_node.specs.Members.{whole_entries, meant, StandsForNode, StandsForMessage, AreTakenFrom}
 use Rattle.rd_runs.proofs.Playing.{played_is_run}
 use Rattle.rd_world.specs.declared.event.Event.{Event}
 use Rattle.rd_world.specs.declared.event.Answer.TheVariants as answer
@@ -12,9 +14,10 @@ use Rattle.rd_world.specs.declared.world.World.{World}
 use Rattle.rd_world.specs.Standing.{StandsForWorld}
 use Rattle.rd_world.specs.Lines.{IsNextLine}
 use Rattle.rd_world.specs.declared.event.Head.TheVariants as head
-use Rattle.rd_world.proofs.Steppings.{IsDone}
-use Rattle.rd_world.proofs.Vectors.{same_item}
-use Rattle.rd_world.proofs.Delivering.{sent_within, undelivered_gone, undelivered_none, gone_stands, told_none, is_sent, full_stands, full_told, taken_stands, taken_told}
+use Rattle.rd_world.specs.Sending.{AreAnswers, IsSentFrom}
+use Rattle.rd_world.proofs.FlushCalls.{row_of_member, same_world}
+use Rattle.rd_world.proofs.TakeCalls.{sent_within_still, take_stands, take_tells}
+use Rattle.rd_world.proofs.Delivering.{sent_within, undelivered_gone, undelivered_none, gone_stands, told_none, is_sent, full_stands, full_told}
 use Rattle.rd_world.proofs.world.World.deliver_at.Goals as goal
 
 pub returns-then-receiver-len-clause-stands : goal.returns-then-receiver-len-clause-stands
@@ -52,7 +55,10 @@ returns-in_default-message-clause-told g c = λ digest kinds logs first p run th
     (undelivered_none g.T.Replica.kind_of g.T.Replica.IsDataOf kinds logs g.T.Replica D c.args.self.now p stands c.args.from c.args.to c.args.index (omega (arith, nodes.ok.0)) (sym c.message.ensures ∙ ap option_copied c.in_default-message.is)) refl)
 
 pub pass-requires : goal.pass-requires
-pass-requires g c = sent_within _ c.args.index c.in-Some-message.message.now (sym c.message.ensures ∙ ap option_copied c.in-Some-message.is)
+pass-requires g c =
+    let found = sent_within _ c.args.index c.in-Some-message.message.now (sym c.message.ensures ∙ ap option_copied c.in-Some-message.is) in
+    sent_within_still c.args.to c.args.from c.args.to c.args.index (AreAnswers g.T.Replica.data_type g.T.Replica.kind_of g.T.Replica.IsDataOf c.index_mut.result.now c.in-Some.sender c.in_ok-message.message) c.args.self.now.links c.take.new.links c.in-Ok.answered.sent
+    (λ posts are. are.1) c.in-Ok.ensures.sends c.in-Ok.ensures.gone found
 
 pub returns-in-Ok-clause-stands : goal.returns-in-Ok-clause-stands
 returns-in-Ok-clause-stands g c = λ digest kinds logs first p run through stands.
@@ -60,7 +66,7 @@ returns-in-Ok-clause-stands g c = λ digest kinds logs first p run through stand
     let code = c.args.self.now in
     let nodes = code.nodes in
     let old = c.index_mut.result.now in
-    let new = c.take.new.self in
+    let new = c.take.new.node in
     let from = c.args.from in
     let to = c.args.to in
     let index = c.args.index in
@@ -70,12 +76,19 @@ returns-in-Ok-clause-stands g c = λ digest kinds logs first p run through stand
     let message = c.in-Some-message.message.now in
     let sent = sym c.message.ensures ∙ ap option_copied c.in-Some-message.is in
     let found = is_sent g.T.Replica.kind_of g.T.Replica.IsDataOf kinds logs g.T.Replica D code p stands from to index message sent in
-    let reply = c.in-Ok.reply in
-    let does : IsDone g.T.Replica.kind_of g.T.Replica.IsDataOf kinds logs g.T.Replica D (Input.Take c.in-Some.sender found.sent) old new (Ok reply) =
-    record { stands = λ node st. c.in-Ok.ensures.stands digest kinds logs node found.sent st through.prune_free found.stands_for; full = c.in-Ok.ensures.full } in
+    let row = row_of_member g.T.Replica.kind_of g.T.Replica.IsDataOf kinds logs g.T.Replica code p.world stands to within in
+    let copied = c.in_ok-message.ensures in
+    let given = subst (λ m. StandsForMessage g.T.Replica.kind_of g.T.Replica.IsDataOf kinds logs m found.sent) (sym copied) found.stands_for in
+    let member = c.in-Some.ensures.value in
     let run_then = played_is_run D first p (ScriptStep.Deliver from to (Some index) ∷ []) (tt, tt) run in
-    taken_stands g.T.Replica.kind_of g.T.Replica.IsDataOf kinds logs g.T.Replica D code p stands from to index within old is message found new reply c.in-Some.sender c.in-Some.ensures.value does first run_then through c.pass.new.self (sent_within _ index message sent) c.pass.ensures _ refl
-    (ap (λ j. set nodes.items j new) here) refl
+    take_stands g.T.Replica.data_type g.T.Replica.kind_of g.T.Replica.IsDataOf g.T.Replica digest kinds logs code p stands from to index within old is message found (sent_within _ index message sent) new c.take.new.links c.pass.new.self c.in-Ok.answered.reply c.in-Ok.answered.sent (c.in-Ok.ensures.room row)
+    (subst (λ i. (node : Member g.row.T-Kind.Denot g.row.T-Op.Denot Shown) → StandsForNode g.T.Replica.kind_of g.T.Replica.IsDataOf kinds logs old node → AreTakenFrom logs (step D node (Input.Take i found.sent) NoStore).node → StandsForNode g.T.Replica.kind_of g.T.Replica.IsDataOf kinds logs new (step D node (Input.Take i found.sent) NoStore).node) member
+    (λ node st. c.in-Ok.ensures.stands digest kinds logs node found.sent row st through.prune_free given))
+    (subst (λ i. (node : Member g.row.T-Kind.Denot g.row.T-Op.Denot Shown) → StandsForNode g.T.Replica.kind_of g.T.Replica.IsDataOf kinds logs old node → AreTakenFrom logs (step D node (Input.Take i found.sent) NoStore).node → meant c.in-Ok.answered.reply ≡ (step D node (Input.Take i found.sent) NoStore).output.reply) member
+    (λ node st. c.in-Ok.ensures.reply digest kinds logs node found.sent row st through.prune_free given))
+    (subst (λ i. IsSentFrom (AreAnswers g.T.Replica.data_type g.T.Replica.kind_of g.T.Replica.IsDataOf old i message) to 2 code.links c.take.new.links c.in-Ok.answered.sent) member
+    (subst (λ m. IsSentFrom (AreAnswers g.T.Replica.data_type g.T.Replica.kind_of g.T.Replica.IsDataOf old c.in-Some.sender m) to 2 code.links c.take.new.links c.in-Ok.answered.sent) copied (c.in-Ok.ensures.sends row)))
+    c.pass.ensures first run_then through _ refl (ap (λ j. set nodes.items j new) here) refl
 
 pub returns-in-Ok-clause-told : goal.returns-in-Ok-clause-told
 returns-in-Ok-clause-told g c = λ digest kinds logs first p run through stands.
@@ -83,7 +96,7 @@ returns-in-Ok-clause-told g c = λ digest kinds logs first p run through stands.
     let code = c.args.self.now in
     let nodes = code.nodes in
     let old = c.index_mut.result.now in
-    let new = c.take.new.self in
+    let new = c.take.new.node in
     let from = c.args.from in
     let to = c.args.to in
     let index = c.args.index in
@@ -93,13 +106,20 @@ returns-in-Ok-clause-told g c = λ digest kinds logs first p run through stands.
     let message = c.in-Some-message.message.now in
     let sent = sym c.message.ensures ∙ ap option_copied c.in-Some-message.is in
     let found = is_sent g.T.Replica.kind_of g.T.Replica.IsDataOf kinds logs g.T.Replica D code p stands from to index message sent in
-    let reply = c.in-Ok.reply in
-    let does : IsDone g.T.Replica.kind_of g.T.Replica.IsDataOf kinds logs g.T.Replica D (Input.Take c.in-Some.sender found.sent) old new (Ok reply) =
-    record { stands = λ node st. c.in-Ok.ensures.stands digest kinds logs node found.sent st through.prune_free found.stands_for; full = c.in-Ok.ensures.full } in
+    let row = row_of_member g.T.Replica.kind_of g.T.Replica.IsDataOf kinds logs g.T.Replica code p.world stands to within in
+    let copied = c.in_ok-message.ensures in
+    let given = subst (λ m. StandsForMessage g.T.Replica.kind_of g.T.Replica.IsDataOf kinds logs m found.sent) (sym copied) found.stands_for in
+    let member = c.in-Some.ensures.value in
     let run_then = played_is_run D first p (ScriptStep.Deliver from to (Some index) ∷ []) (tt, tt) run in
-    subst (λ (event : Event). IsNextLine event p (deliver D p from to index)) (sym (c.line.ensures ∙ ap (λ sketch. record { head = head.Deliver from to index (Some sketch); answer = answer.Reply reply; sent = [] }) c.sketch.ensures))
-    (taken_told g.T.Replica.kind_of g.T.Replica.IsDataOf kinds logs g.T.Replica D code p stands from to index within old is message found new reply c.in-Some.sender c.in-Some.ensures.value does first run_then through c.pass.new.self (sent_within _ index message sent) c.pass.ensures
-    (λ node st. c.in-Ok.ensures.reply digest kinds logs node found.sent st through.prune_free found.stands_for))
+    subst (λ (event : Event). IsNextLine event p (deliver D p from to index)) (ap (λ sketch. record { head = head.Deliver from to index (Some sketch); answer = answer.Reply c.in-Ok.answered.reply; sent = c.in-Ok.answered.sent }) (sym c.sketch.ensures))
+    (take_tells g.T.Replica.data_type g.T.Replica.kind_of g.T.Replica.IsDataOf g.T.Replica digest kinds logs code p stands from to index within old is message found (sent_within _ index message sent) new c.take.new.links c.pass.new.self c.in-Ok.answered.reply c.in-Ok.answered.sent (c.in-Ok.ensures.room row)
+    (subst (λ i. (node : Member g.row.T-Kind.Denot g.row.T-Op.Denot Shown) → StandsForNode g.T.Replica.kind_of g.T.Replica.IsDataOf kinds logs old node → AreTakenFrom logs (step D node (Input.Take i found.sent) NoStore).node → StandsForNode g.T.Replica.kind_of g.T.Replica.IsDataOf kinds logs new (step D node (Input.Take i found.sent) NoStore).node) member
+    (λ node st. c.in-Ok.ensures.stands digest kinds logs node found.sent row st through.prune_free given))
+    (subst (λ i. (node : Member g.row.T-Kind.Denot g.row.T-Op.Denot Shown) → StandsForNode g.T.Replica.kind_of g.T.Replica.IsDataOf kinds logs old node → AreTakenFrom logs (step D node (Input.Take i found.sent) NoStore).node → meant c.in-Ok.answered.reply ≡ (step D node (Input.Take i found.sent) NoStore).output.reply) member
+    (λ node st. c.in-Ok.ensures.reply digest kinds logs node found.sent row st through.prune_free given))
+    (subst (λ i. IsSentFrom (AreAnswers g.T.Replica.data_type g.T.Replica.kind_of g.T.Replica.IsDataOf old i message) to 2 code.links c.take.new.links c.in-Ok.answered.sent) member
+    (subst (λ m. IsSentFrom (AreAnswers g.T.Replica.data_type g.T.Replica.kind_of g.T.Replica.IsDataOf old c.in-Some.sender m) to 2 code.links c.take.new.links c.in-Ok.answered.sent) copied (c.in-Ok.ensures.sends row)))
+    c.pass.ensures first run_then through)
 
 pub returns-in-Err-HistoryFull-clause-stands : goal.returns-in-Err-HistoryFull-clause-stands
 returns-in-Err-HistoryFull-clause-stands g c = λ digest kinds logs first p run through stands.
@@ -107,7 +127,7 @@ returns-in-Err-HistoryFull-clause-stands g c = λ digest kinds logs first p run 
     let code = c.args.self.now in
     let nodes = code.nodes in
     let old = c.index_mut.result.now in
-    let new = c.take.new.self in
+    let new = c.take.new.node in
     let from = c.args.from in
     let to = c.args.to in
     let index = c.args.index in
@@ -118,8 +138,8 @@ returns-in-Err-HistoryFull-clause-stands g c = λ digest kinds logs first p run 
     let sent = sym c.message.ensures ∙ ap option_copied c.in-Some-message.is in
     let found = is_sent g.T.Replica.kind_of g.T.Replica.IsDataOf kinds logs g.T.Replica D code p stands from to index message sent in
     subst (λ (after : World g.row.T.Denot g.row.T-Kind.Denot g.row.T-Op.Denot g.row.T-Delta.Denot g.T.Replica). StandsForWorld g.T.Replica.kind_of g.T.Replica.IsDataOf kinds logs after (deliver D p from to index).world)
-    (sym (ap (λ (v : Vec (Node g.row.T.Denot g.row.T-Kind.Denot g.row.T-Op.Denot g.row.T-Delta.Denot g.T.Replica) Global). record code { nodes = v }) (same_item nodes c.from-receiver.result old new c.index_mut.ensures.value c.in-Err-HistoryFull.ensures.err)))
-    (full_stands g.T.Replica.kind_of g.T.Replica.IsDataOf kinds logs g.T.Replica D code p stands from to index within old is message found (c.in-Err-HistoryFull.ensures.full.0 (ap Err c.in-Err-HistoryFull.field-0-is)))
+    (sym (same_world g.T.Replica code c.from-receiver.result old new c.take.new.links c.index_mut.ensures.value c.in-Err-HistoryFull.ensures.err.0 c.in-Err-HistoryFull.ensures.err.1))
+    (full_stands g.T.Replica.kind_of g.T.Replica.IsDataOf kinds logs g.T.Replica D code p stands from to index within old is message found (c.in-Err-HistoryFull.ensures.full (ap Err c.in-Err-HistoryFull.field-0-is)))
 
 pub returns-in-Err-HistoryFull-clause-told : goal.returns-in-Err-HistoryFull-clause-told
 returns-in-Err-HistoryFull-clause-told g c = λ digest kinds logs first p run through stands.
@@ -127,7 +147,7 @@ returns-in-Err-HistoryFull-clause-told g c = λ digest kinds logs first p run th
     let code = c.args.self.now in
     let nodes = code.nodes in
     let old = c.index_mut.result.now in
-    let new = c.take.new.self in
+    let new = c.take.new.node in
     let from = c.args.from in
     let to = c.args.to in
     let index = c.args.index in
@@ -137,11 +157,9 @@ returns-in-Err-HistoryFull-clause-told g c = λ digest kinds logs first p run th
     let message = c.in-Some-message.message.now in
     let sent = sym c.message.ensures ∙ ap option_copied c.in-Some-message.is in
     let found = is_sent g.T.Replica.kind_of g.T.Replica.IsDataOf kinds logs g.T.Replica D code p stands from to index message sent in
-    subst (λ (event : Event). IsNextLine event p (deliver D p from to index)) (sym (c.line-in-Err-HistoryFull.ensures ∙ ap (λ sketch. record { head = head.Deliver from to index (Some sketch); answer = answer.HistoryFull; sent = [] }) c.sketch.ensures))
-    (full_told g.T.Replica.kind_of g.T.Replica.IsDataOf kinds logs g.T.Replica D code p stands from to index within old is message found (c.in-Err-HistoryFull.ensures.full.0 (ap Err c.in-Err-HistoryFull.field-0-is)))
+    subst (λ (event : Event). IsNextLine event p (deliver D p from to index)) (sym (c.line.ensures ∙ ap (λ sketch. record { head = head.Deliver from to index (Some sketch); answer = answer.HistoryFull; sent = [] }) c.sketch.ensures))
+    (full_told g.T.Replica.kind_of g.T.Replica.IsDataOf kinds logs g.T.Replica D code p stands from to index within old is message found (c.in-Err-HistoryFull.ensures.full (ap Err c.in-Err-HistoryFull.field-0-is)))
 
 pub returns-in-Err-Memory-clause-err : goal.returns-in-Err-Memory-clause-err
 returns-in-Err-Memory-clause-err g c =
-    let code = c.args.self.now in
-    ap (λ (v : Vec (Node g.row.T.Denot g.row.T-Kind.Denot g.row.T-Op.Denot g.row.T-Delta.Denot g.T.Replica) Global). record code { nodes = v })
-    (same_item code.nodes c.from-receiver.result c.index_mut.result.now c.take.new.self c.index_mut.ensures.value c.in-Err-Memory.ensures.err)
+    same_world g.T.Replica c.args.self.now c.from-receiver.result c.index_mut.result.now c.take.new.node c.take.new.links c.index_mut.ensures.value c.in-Err-Memory.ensures.err.0 c.in-Err-Memory.ensures.err.1

@@ -1,0 +1,134 @@
+use crate::copying::{copy_entries, copy_groups, copy_texts};
+use crate::sketch::{MessageKind, Sketch};
+use rd_bytes::{Items, Memory, Text};
+use rd_envelope::{Envelope, Group};
+use rd_lattice::Replica;
+use rd_vectors::Id;
+use std::alloc::Global;
+
+/// Something said of a key.
+#[derive(Drop)]
+pub struct Keyed<X> {
+    pub key: Text,
+    pub item: X,
+}
+
+/// Groups of records, in key order.
+pub type Groups<T> = Items<Keyed<Group<T>>>;
+
+/// Entries, in key order.
+pub type Entries<T> = Items<Keyed<Envelope<T>>>;
+
+/// Keys, in their order.
+pub type Texts = Items<Text>;
+
+/// What members send each other.
+#[derive(Drop)]
+pub enum Message<T: Replica> {
+    /// Own records of the sender that the receiver was not sent: as groups, and as whole entries where a group is not to be had.
+    Deltas {
+        groups: Groups<T>,
+        entries: Entries<T>,
+    },
+    /// Keys at which the sender lacked records that a group needs.
+    Nack {
+        keys: Texts,
+    },
+    /// Whole entries, and keys whose entries the sender wants.
+    Gossip {
+        entries: Entries<T>,
+        wants: Texts,
+    },
+}
+
+/// A message on its way to a member.
+#[derive(Drop)]
+pub struct Post<T: Replica> {
+    pub to: Id,
+    pub message: Message<T>,
+}
+
+/// Messages, at most one to each peer, in the order of the peers.
+pub type Posts<T> = Items<Post<T>>;
+
+impl<T: Replica> Message<T> {
+    ghost use Rattle.std.specs.Prelude.{◌≡◌, IfOk};
+    ghost use Rattle.rd_messages.specs.Sketches.{sketch_of, groups_of, entries_of, names_of};
+
+    /// What is printed of the message.
+    pub fn sketch(&self) -> Sketch
+        ensures { result ≡ sketch_of self.now }
+    {
+        match self {
+            Message::Deltas { groups, entries } => Sketch {
+                kind: MessageKind::Deltas,
+                first: groups.len(),
+                second: entries.len(),
+            },
+            Message::Nack { keys } => Sketch {
+                kind: MessageKind::Nack,
+                first: keys.len(),
+                second: 0,
+            },
+            Message::Gossip { entries, wants } => Sketch {
+                kind: MessageKind::Gossip,
+                first: entries.len(),
+                second: wants.len(),
+            },
+        }
+    }
+
+    /// The groups that the message brings.
+    pub fn groups(&self) -> &[Keyed<Group<T>>]
+        ensures { result.now ≡ groups_of self.now }
+    {
+        match self {
+            Message::Deltas { groups, .. } => groups.as_slice(),
+            _ => &[],
+        }
+    }
+
+    /// The entries that the message brings.
+    pub fn entries(&self) -> &[Keyed<Envelope<T>>]
+        ensures { result.now ≡ entries_of self.now }
+    {
+        match self {
+            Message::Deltas { entries, .. } => entries.as_slice(),
+            Message::Gossip { entries, .. } => entries.as_slice(),
+            Message::Nack { .. } => &[],
+        }
+    }
+
+    /// The keys whose entries the message asks for.
+    pub fn names(&self) -> &[Text]
+        ensures { result.now ≡ names_of self.now }
+    {
+        match self {
+            Message::Deltas { .. } => &[],
+            Message::Nack { keys } => keys.as_slice(),
+            Message::Gossip { wants, .. } => wants.as_slice(),
+        }
+    }
+
+    /// An equal message.
+    pub fn copy(&self, alloc: Global) -> Result<Message<T>, Memory>
+        ensures { IfOk result (λ copy. copy ≡ self.now) }
+    {
+        match self {
+            Message::Deltas { groups, entries } => {
+                let groups = copy_groups(alloc, groups)?;
+                let entries = copy_entries(alloc, entries)?;
+                Ok(Message::Deltas { groups, entries })
+            }
+            Message::Nack { keys } => {
+                let keys = copy_texts(alloc, keys)?;
+                Ok(Message::Nack { keys })
+            }
+            Message::Gossip { entries, wants } => {
+                let entries = copy_entries(alloc, entries)?;
+                let wants = copy_texts(alloc, wants)?;
+                Ok(Message::Gossip { entries, wants })
+            }
+        }
+    }
+}

@@ -1,0 +1,152 @@
+-- What a member answers to a message: its reply and its posts.
+use Rattle.std.proofs.Common.{◌≡◌, ℕ, ◌≤◌, List, [], ◌∷◌, ◌++◌, length, refl, sym, ap, ◌∙◌, subst, arith, Bool, true, false, not, None}
+use Rattle.std.specs.Prelude.{map, filter, if◌then◌else◌, ◌&&◌}
+use Rattle.std.specs.List.{AllZip, list_any}
+use Rattle.std.proofs.lemmas.List.{append-nil}
+use Rattle.rd_history.specs.Texts.{Text, contains_text}
+use Rattle.rd_history.specs.Vector.{VersionVector, IdentitySet}
+use Rattle.rd_history.specs.History.{History}
+use Rattle.rd_model.specs.View.{is_member}
+use Rattle.rd_model.specs.Entry as model
+use Rattle.rd_model.specs.Entry.{has_records, is_unchanged}
+use Rattle.rd_model.specs.DataType.{Replication}
+use Rattle.rd_model.specs.Message as sending
+use Rattle.rd_model.specs.Message.{Message as Sent}
+use Rattle.rd_model.specs.Node as nodes
+use Rattle.rd_model.specs.Node.{Reply as Meant, Fate, key_states}
+use Rattle.rd_model.specs.Step.{KeyGap, after_groups, after_entries, is_changed, take_reply, taken, nack_to, gossip_to, named_entries, keyed_entry}
+use Rattle.rd_model.proofs.Taking.{is_changed-any}
+use Rattle.rd_kinds.specs.declared.shown.Shown.{Shown}
+use Rattle.rd_lattice.specs.declared.replica.Replica.{Ghosts}
+use Rattle.rd_envelope.specs.declared.envelope.Envelope.{Envelope}
+use Rattle.rd_messages.specs.declared.message.Keyed.{Keyed}
+use Rattle.rd_messages.specs.declared.message.Message.{Message}
+use Rattle.rd_messages.specs.declared.message.Message.TheVariants.{Deltas, Nack, Gossip}
+use Rattle.rd_messages.specs.declared.message.Post.{Post}
+use Rattle.rd_messages.specs.Sketches.{groups_of, entries_of, names_of}
+use Rattle.rd_messages.specs.Standing.{StandsForKeyed, StandsForKeyedGroup, StandsForMessage, StandsForPost, StandsForPosts}
+use Rattle.rd_node.specs.Answers.{reply_to, only_asks, nack_of, gossip_of, answers_of}
+use Rattle.rd_node.specs.declared.key.KeyState.{KeyState}
+use Rattle.rd_node.specs.Keys.{declared_by}
+use Rattle.rd_node.specs.Taking.{gap_told}
+use Rattle.rd_node.proofs.Flushes.{any_mapped}
+
+-- LISTS
+
+zip_both : {A B : Type 0} (R : A → B → Type 0) (xs xs' : List A) (ys ys' : List B) → AllZip R xs ys → AllZip R xs' ys' → AllZip R (xs ++ xs') (ys ++ ys')
+zip_both R [] xs' [] ys' z w = w
+zip_both R [] xs' (y ∷ ys) ys' z w = absurd z
+zip_both R (x ∷ xs) xs' [] ys' z w = absurd z
+zip_both R (x ∷ xs) xs' (y ∷ ys) ys' z w = (z.0, zip_both R xs xs' ys ys' z.1 w)
+
+keys_told : (gs : List KeyGap) → map (λ (g : Keyed ℕ). g.key) (map gap_told gs) ≡ map (λ (g : KeyGap). g.key) gs
+keys_told [] = refl
+keys_told (g ∷ gs) = ap (λ ks. g.key ∷ ks) (keys_told gs)
+
+-- THE MODEL
+
+module _ {Kind Op : Type 0} (D : Replication Kind Op Shown) where
+  -- of no names there are no entries
+  none_named : (node : nodes.Node Kind Op Shown) → named_entries D node [] ≡ []
+  none_named node = ap (map (keyed_entry D)) (none (key_states node))
+    where
+      none : (ks : List (nodes.KeyState Kind Op)) → filter (λ (k : nodes.KeyState Kind Op). contains_text [] k.name && has_records k.entry) ks ≡ []
+      none [] = refl
+      none (k ∷ ks) = none ks
+
+  -- groups, then entries, then the names that are asked for
+  pub record Takes (node : nodes.Node Kind Op Shown) (from : ℕ) (groups : List (sending.Keyed (model.Group Op))) (entries : List (sending.Keyed (model.Entry Op))) (names : List Text) (asks : Bool) (stepped : nodes.Stepped Kind Op Shown) : Type 0 where
+    pub next : stepped.node ≡ after_entries (after_groups node groups).node entries
+    pub reply : stepped.output.reply ≡ take_reply D Fate.NoStore (after_groups node groups).gaps (if asks then false else not (is_changed node (after_entries (after_groups node groups).node entries)))
+    pub posts : stepped.output.posts ≡ nack_to D from (after_groups node groups).gaps ++ gossip_to D from (named_entries D (after_entries (after_groups node groups).node entries) names) []
+    pub ends : stepped.output.ended ≡ None
+
+  -- a message of the program
+  pub record Brings {T Delta : Type 0} {ghosts : Ghosts T Kind Op Delta} (kind_of : T → Kind) (IsDataOf : T → History Op → VersionVector → IdentitySet → Type 0) (kinds : Text → Kind) (logs : Text → History Op) (node : nodes.Node Kind Op Shown) (from : ℕ)
+      (message : Message T Kind Op Delta ghosts) (sent : Sent Op) : Type 0 where
+    pub sent_groups : List (sending.Keyed (model.Group Op))
+    pub sent_entries : List (sending.Keyed (model.Entry Op))
+    pub groups_stand : AllZip (StandsForKeyedGroup kinds logs) (groups_of message) sent_groups
+    pub entries_stand : AllZip (StandsForKeyed kind_of IsDataOf kinds logs) (entries_of message) sent_entries
+    pub takes : Takes node from sent_groups sent_entries (names_of message) (only_asks message) (taken D node from Fate.NoStore sent)
+
+  pub brings : {T Delta : Type 0} {ghosts : Ghosts T Kind Op Delta} (kind_of : T → Kind) (IsDataOf : T → History Op → VersionVector → IdentitySet → Type 0) (kinds : Text → Kind) (logs : Text → History Op) (node : nodes.Node Kind Op Shown) (from : ℕ)
+      (message : Message T Kind Op Delta ghosts) (sent : Sent Op) → StandsForMessage kind_of IsDataOf kinds logs message sent → Brings kind_of IsDataOf kinds logs node from message sent
+  brings kind_of IsDataOf kinds logs node from (Deltas groups entries) sent s =
+      let gs = s.sent_groups in
+      let es = s.sent_entries in
+      let after = after_groups node gs in
+      record {
+        sent_groups = s.sent_groups;
+        sent_entries = s.sent_entries;
+        groups_stand = s.groups_stand;
+        entries_stand = s.entries_stand;
+        takes = subst (λ m. Takes node from gs es [] false (taken D node from Fate.NoStore m)) (sym s.is) (record {
+          next = refl;
+          reply = refl;
+          ends = refl;
+          posts = sym (ap (λ named. nack_to D from after.gaps ++ gossip_to D from named []) (none_named (after_entries after.node es)) ∙ append-nil (nack_to D from after.gaps));
+        });
+      }
+  brings kind_of IsDataOf kinds logs node from (Nack keys) sent s = record {
+    sent_groups = [];
+    sent_entries = [];
+    groups_stand = tt;
+    entries_stand = tt;
+    takes = subst (λ m. Takes node from [] [] keys true (taken D node from Fate.NoStore m)) (sym s) (record { next = refl; reply = refl; posts = refl; ends = refl });
+  }
+  brings kind_of IsDataOf kinds logs node from (Gossip entries wants) sent s = record {
+    sent_groups = [];
+    sent_entries = s.sent_entries;
+    groups_stand = tt;
+    entries_stand = s.entries_stand;
+    takes = subst (λ m. Takes node from [] s.sent_entries wants false (taken D node from Fate.NoStore m)) (sym s.is) (record { next = refl; reply = refl; posts = refl; ends = refl });
+  }
+
+  -- THE REPLY
+
+  pub replies : (asks changed : Bool) (gaps : List (Keyed ℕ)) (told : List KeyGap) → gaps ≡ map gap_told told → reply_to asks gaps changed ≡ take_reply D Fate.NoStore told (if asks then false else not changed)
+  replies asks changed gaps told is = ap (λ gs. reply_to asks gs changed) is ∙ go told asks changed
+    where
+      go : (gs : List KeyGap) (a b : Bool) → reply_to a (map gap_told gs) b ≡ take_reply D Fate.NoStore gs (if a then false else not b)
+      go (g ∷ gs) a b = refl
+      go [] true b = refl
+      go [] false true = refl
+      go [] false false = refl
+
+  -- THE POSTS
+
+  module _ {T Delta : Type 0} (ghosts : Ghosts T Kind Op Delta) (kind_of : T → Kind) (IsDataOf : T → History Op → VersionVector → IdentitySet → Type 0) (kinds : Text → Kind) (logs : Text → History Op) (from : ℕ) where
+    nacks : (gs : List KeyGap) → StandsForPosts {ghosts = ghosts} kind_of IsDataOf kinds logs (nack_of from (map gap_told gs)) (nack_to D from gs)
+    nacks [] = tt
+    nacks (g ∷ gs) = (record { to = refl; message = ap (λ ks. Sent.Nack (g.key ∷ ks)) (sym (keys_told gs)) }, tt)
+
+    gossips : (entries : List (Keyed (Envelope T Kind Op Delta))) (sent : List (sending.Keyed (model.Entry Op))) → AllZip (StandsForKeyed kind_of IsDataOf kinds logs) entries sent
+        → StandsForPosts {ghosts = ghosts} kind_of IsDataOf kinds logs (gossip_of from entries) (gossip_to D from sent [])
+    gossips [] [] z = tt
+    gossips [] (y ∷ ys) z = absurd z
+    gossips (x ∷ xs) [] z = absurd z
+    gossips (x ∷ xs) (y ∷ ys) z = (record { to = refl; message = record { sent_entries = y ∷ ys; is = refl; entries_stand = z } }, tt)
+
+    pub answers_stand : (gaps : List (Keyed ℕ)) (told : List KeyGap) (entries : List (Keyed (Envelope T Kind Op Delta))) (sent : List (sending.Keyed (model.Entry Op))) → gaps ≡ map gap_told told → AllZip (StandsForKeyed kind_of IsDataOf kinds logs) entries sent
+        → StandsForPosts {ghosts = ghosts} kind_of IsDataOf kinds logs (answers_of from gaps entries) (nack_to D from told ++ gossip_to D from sent [])
+    answers_stand gaps told entries sent is stand =
+        zip_both (StandsForPost {ghosts = ghosts} kind_of IsDataOf kinds logs) (nack_of from gaps) (gossip_of from entries) (nack_to D from told) (gossip_to D from sent [])
+        (subst (λ gs. StandsForPosts {ghosts = ghosts} kind_of IsDataOf kinds logs (nack_of from gs) (nack_to D from told)) (sym is) (nacks told)) (gossips entries sent stand)
+
+-- WHETHER SOMETHING CHANGED
+
+pub changed_is : {T Kind Op Delta : Type 0} (node after : nodes.Node Kind Op Shown) (keys : List (KeyState T Kind Op Delta)) → after.keys ≡ map declared_by keys
+    → is_changed node after ≡ list_any (λ (state : KeyState T Kind Op Delta). not (is_unchanged (node.entries state.name) (after.entries state.name))) keys
+changed_is {T} {Kind} {Op} {Delta} node after keys declares =
+    is_changed-any node after
+    ∙ ap (list_any (λ (decl : nodes.KeyDecl Kind). not (is_unchanged (node.entries decl.name) (after.entries decl.name)))) declares
+    ∙ sym (any_mapped declared_by (λ (state : KeyState T Kind Op Delta). not (is_unchanged (node.entries state.name) (after.entries state.name)))
+    (λ (decl : nodes.KeyDecl Kind). not (is_unchanged (node.entries decl.name) (after.entries decl.name))) keys (λ k d within. refl))
+
+-- at most two answers
+pub few_answers : {T Kind Op Delta : Type 0} (ghosts : Ghosts T Kind Op Delta) (from : ℕ) (gaps : List (Keyed ℕ)) (entries : List (Keyed (Envelope T Kind Op Delta))) → length (answers_of {ghosts = ghosts} from gaps entries) ≤ 2
+few_answers ghosts from [] [] = omega arith
+few_answers ghosts from [] (e ∷ es) = omega arith
+few_answers ghosts from (g ∷ gs) [] = omega arith
+few_answers ghosts from (g ∷ gs) (e ∷ es) = omega arith

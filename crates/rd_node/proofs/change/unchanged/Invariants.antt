@@ -1,0 +1,8 @@
+use Rattle.std.proofs.Common.{◌≡◌, take}
+use Rattle.std.specs.Prelude.{map}
+use Rattle.rd_node.specs.declared.change.Change.{Change}
+use Rattle.rd_node.specs.declared.change.Change.TheVariants.{Same}
+use Rattle.rd_node.proofs.change.unchanged.Given as goal
+
+abbrev pub invariant-loop-state : goal.invariant-loop-state
+invariant-loop-state g l = l.changes ≡ map (λ state. Same) (take l._state-index l.keys)

@@ -1,0 +1,53 @@
+use Rattle.std.proofs.Common.{◌≡◌, ◌<◌, ◌++◌, length, sym, ap, ◌∙◌, subst, arith, rules}
+use Rattle.std.specs.Prelude.{map}
+use Rattle.std.specs.Str.{bytes_eq}
+use Rattle.rd_model.specs.Step.{AfterGroups, take_group}
+use Rattle.rd_kinds.specs.declared.shown.Shown.{Shown}
+use Rattle.rd_node.specs.Changes.{AreMade}
+use Rattle.rd_node.specs.Taking.{current_of, IsKept, IsAtWork, gap_told, gaps_at}
+use Rattle.rd_node.proofs.Lookup.{position-found, position-none}
+use Rattle.rd_node.proofs.Working.{kept_put}
+use Rattle.rd_node.proofs.Takings.{group_passed, group_taken, group_gaps}
+use Rattle.rd_node.proofs.groups.take_group_at.Goals as goal
+
+pub returns-in_default-clause-image : goal.returns-in_default-clause-image
+returns-in_default-clause-image g c = λ kinds logs view entries so_far sent held kept s work gaps.
+    let R = g.T.Replica in
+    let none = position-none (λ state. bytes_eq state.name c.args.keyed.now.key) c.args.keys.now c.in_default.ensures in
+    subst (λ (next : AfterGroups g.row.T-Kind.Denot g.row.T-Op.Denot Shown). IsAtWork R.kind_of R.IsDataOf kinds logs c.args.id c.args.keys.now view entries c.args.changes.now next.node × (c.args.gaps.now ≡ map gap_told next.gaps))
+    (sym (group_passed R.kind_of R.IsDataOf kinds logs c.args.id c.args.keys.now view entries held c.args.changes.now kept so_far work c.args.keyed.now sent s none)) (work, gaps)
+
+pub returns-clause-kept : goal.returns-clause-kept
+returns-clause-kept g c = λ kept.
+    let R = g.T.Replica in
+    let at = c.index-keys-index.result in
+    let change = c.index-changes-index.result in
+    let found = position-found (λ state. bytes_eq state.name c.args.keyed.now.key) c.args.keys.now c.in-Some.index c.in-Some.ensures in
+    subst (AreMade (IsKept R.kind_of c.args.id) c.args.keys.now) (sym c.put.ensures)
+    (kept_put R.kind_of c.args.id c.args.keys.now c.args.changes.now c.in-Some.index at change found.within c.index-keys-index.is c.index-changes-index.is c.current-now.result.now (c.current-now.ensures ∙ ap (current_of at) (sym c.index-changes-index.is)) c.in_ok-taken.taken.entry c.in_ok-taken.ensures.kept kept)
+
+pub returns-clause-image : goal.returns-clause-image
+returns-clause-image g c = λ kinds logs view entries so_far sent held kept s work gaps.
+    let R = g.T.Replica in
+    let at = c.index-keys-index.result in
+    let change = c.index-changes-index.result in
+    let found = position-found (λ state. bytes_eq state.name c.args.keyed.now.key) c.args.keys.now c.in-Some.index c.in-Some.ensures in
+    let taken = c.in_ok-taken.taken in (
+      subst (λ changes. IsAtWork R.kind_of R.IsDataOf kinds logs c.args.id c.args.keys.now view entries changes (take_group so_far sent).node) (sym c.put.ensures)
+          (group_taken R.kind_of R.IsDataOf kinds logs c.args.id c.args.keys.now view entries held c.args.changes.now kept so_far work c.args.keyed.now sent s c.in-Some.index at change found c.index-keys-index.is c.index-changes-index.is c.current-now.result.now (c.current-now.ensures ∙ ap (current_of at) (sym c.index-changes-index.is)) taken c.in_ok-taken.ensures.image),
+      c.in_ok-add_gap.ensures ∙ ap (λ gs. gs ++ gaps_at c.args.keyed.now.key c.in_ok-taken.taken.lacking) gaps
+          ∙ sym (group_gaps R.kind_of R.IsDataOf kinds logs c.args.id c.args.keys.now view entries held c.args.changes.now kept so_far work c.args.keyed.now sent s c.in-Some.index at change found c.index-keys-index.is c.index-changes-index.is c.current-now.result.now (c.current-now.ensures ∙ ap (current_of at) (sym c.index-changes-index.is)) taken c.in_ok-taken.ensures.image),
+    )
+
+pub offset_bounds-changes-index : goal.offset_bounds-changes-index
+offset_bounds-changes-index g c =
+    let found = position-found (λ state. bytes_eq state.name c.args.keyed.now.key) c.args.keys.now c.in-Some.index c.in-Some.ensures in
+    let inside = found.within in
+    let within : c.in-Some.index < length c.args.changes.now = omega (arith, inside, c.requires) in
+    search rules
+
+pub put-requires : goal.put-requires
+put-requires g c =
+    let found = position-found (λ state. bytes_eq state.name c.args.keyed.now.key) c.args.keys.now c.in-Some.index c.in-Some.ensures in
+    let inside = found.within in
+    omega (arith, inside, c.requires)

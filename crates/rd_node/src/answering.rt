@@ -1,0 +1,100 @@
+ghost use Rattle.std.specs.Prelude.{◌≡◌, ℕ, List, length, map, IfOk};
+ghost use Rattle.std.specs.List.{AllZip};
+ghost use Rattle.rd_history.specs.Texts.{Text as Name, contains_text};
+ghost use Rattle.rd_history.specs.History.{History};
+ghost use Rattle.rd_model.specs.Entry as model;
+ghost use Rattle.rd_model.specs.Node.{Node as Member};
+ghost use Rattle.rd_model.specs.Step.{named_entries};
+ghost use Rattle.rd_kinds.specs.declared.shown.Shown.{Shown};
+ghost use Rattle.rd_messages.specs.Standing.{StandsForKeyed};
+ghost use Rattle.rd_node.specs.Replies.{whole_entries, meant};
+ghost use Rattle.rd_node.specs.Answers.{reply_to, only_asks, answers_of};
+ghost use Rattle.rd_node.specs.Changes.{AreMade};
+ghost use Rattle.rd_node.specs.Taking.{IsKept, AreHeld, IsAtWork};
+
+use crate::change::{Change, current};
+use crate::key::KeyState;
+use crate::reply::Reply;
+use rd_bytes::{Items, Memory, Text};
+use rd_lattice::Replica;
+use rd_messages::{Entries, Keyed, Message, Post, Posts, Texts};
+use rd_vectors::Id;
+use std::alloc::Global;
+
+/// Whether a key is among these.
+fn contains(names: &[Text], key: &Text) -> bool
+    ensures { result ≡ contains_text names.now key.now }
+{
+    names.iter().any(|name| key.as_str() == name.as_str())
+}
+
+/// The named entries that have records, as they are once the changes are written.
+pub(crate) fn named<T: Replica>(
+    alloc: Global,
+    keys: &[KeyState<T>],
+    changes: &[Change<T>],
+    names: &[Text],
+) -> Result<Entries<T>, Memory>
+    requires { length changes.now ≡ length keys.now }
+    ensures { (digest : T.Kind → model.Entry T.Op → List ℕ) (kinds : Name → T.Kind) (logs : Name → History T.Op) (id view : ℕ) (before : Name → model.Entry T.Op) (node : Member T.Kind T.Op Shown)
+        → AreHeld T.kind_of T.IsDataOf kinds logs id keys.now before → AreMade (IsKept T.kind_of id) keys.now changes.now → IsAtWork T.kind_of T.IsDataOf kinds logs id keys.now view before changes.now node
+        → IfOk result (λ entries. AllZip (StandsForKeyed T.kind_of T.IsDataOf kinds logs) entries (named_entries (whole_entries T.data_type digest) node names.now)) }
+{
+    let mut entries = Items::new(alloc);
+    for (index, state) in keys.iter().enumerate() {
+        let now = current(state, &changes[index]);
+        if contains(names, &state.name) && now.has_records() {
+            let key = state.name.copy(alloc)?;
+            let item = now.copy(alloc)?;
+            entries.push(Keyed { key, item })?;
+        }
+    }
+    Ok(entries)
+}
+
+/// What is replied to a message, by the gaps that it met and whether it changed an entry.
+pub(crate) fn reply<T: Replica>(message: &Message<T>, gaps: &[Keyed<Id>], changed: bool) -> Reply
+    ensures { meant result ≡ reply_to (only_asks message.now) gaps.now changed }
+{
+    if let Some(gap) = gaps.first() {
+        return Reply::Gap(gap.item);
+    }
+    match message {
+        Message::Nack { .. } => Reply::Taken,
+        _ => Reply::of_take(changed),
+    }
+}
+
+/// The keys with gaps.
+fn keys_of(alloc: Global, gaps: &[Keyed<Id>]) -> Result<Texts, Memory>
+    ensures { IfOk result (λ keys. keys ≡ map (λ gap. gap.key) gaps.now) }
+{
+    let mut keys = Items::new(alloc);
+    for gap in gaps {
+        keys.push(gap.key.copy(alloc)?)?;
+    }
+    Ok(keys)
+}
+
+/// The answer to the sender of a message: that there are gaps, or the entries that it asked for.
+pub(crate) fn answers<T: Replica>(
+    alloc: Global,
+    from: Id,
+    gaps: &[Keyed<Id>],
+    entries: Entries<T>,
+) -> Result<Posts<T>, Memory>
+    ensures { IfOk result (λ posts. posts ≡ answers_of from gaps.now entries) }
+{
+    let mut posts = Items::new(alloc);
+    if !gaps.is_empty() {
+        let keys = keys_of(alloc, gaps)?;
+        let message = Message::Nack { keys };
+        posts.push(Post { to: from, message })?;
+    }
+    if !entries.is_empty() {
+        let wants = Items::new(alloc);
+        let message = Message::Gossip { entries, wants };
+        posts.push(Post { to: from, message })?;
+    }
+    Ok(posts)
+}

@@ -1,0 +1,126 @@
+ghost use Rattle.std.specs.Prelude.{◌≡◌, ℕ, ◌||◌, false, List, not, nat_lt, length, if◌then◌else◌, IfOk, OnOk, IfSome};
+ghost use Rattle.std.specs.List.{AllZip, list_any};
+ghost use Rattle.rd_history.specs.Texts.{Text as Name};
+ghost use Rattle.rd_history.specs.History.{History, union, IsExactlyPruned};
+ghost use Rattle.rd_model.specs.Entry as model;
+ghost use Rattle.rd_model.specs.Entry.{merged, seen_by, is_unchanged};
+ghost use Rattle.rd_model.specs.Message as sending;
+ghost use Rattle.rd_model.specs.Node.{Node as Member};
+ghost use Rattle.rd_model.specs.Step.{is_strange_entry, take_entry, after_entries};
+ghost use Rattle.rd_kinds.specs.declared.shown.Shown.{Shown};
+ghost use Rattle.rd_vectors.specs.Vectors.{number_at};
+ghost use Rattle.rd_markers.specs.Marks.{performed_in};
+ghost use Rattle.rd_envelope.specs.Images.{StandsFor};
+ghost use Rattle.rd_envelope.specs.Words.{parts_of};
+ghost use Rattle.rd_messages.specs.Standing.{StandsForKeyed};
+ghost use Rattle.rd_node.specs.Changes.{AreMade};
+ghost use Rattle.rd_node.specs.Members.{ArePruneFree};
+ghost use Rattle.rd_node.specs.Taking.{KeepsOwn, IsKept, StandsAfter, LeadsTo, AreHeld, IsAtWork};
+
+use crate::change::{Change, current, put};
+use crate::key::{KeyState, index_of};
+use rd_bytes::Memory;
+use rd_envelope::Envelope;
+use rd_lattice::Replica;
+use rd_messages::Keyed;
+use rd_vectors::Id;
+use std::alloc::Global;
+
+/// Whether no run sends the entry: it counts more records of the taker than this made, or has a prune of it.
+fn is_strange<T: Replica>(mine: &Envelope<T>, theirs: &Envelope<T>, id: Id) -> bool
+    ensures { result ≡ (performed_in theirs.now.markers id || nat_lt (number_at mine.now.versions id) (number_at theirs.now.versions id)) }
+{
+    theirs.is_pruned(id) || mine.versions().at(id) < theirs.versions().at(id)
+}
+
+/// An entry merged with another of the same key, unless this is strange or of another kind.
+fn take_entry<T: Replica>(
+    alloc: Global,
+    mine: &Envelope<T>,
+    theirs: &Envelope<T>,
+    id: Id,
+    view: u32,
+) -> Result<Option<Envelope<T>>, Memory>
+    ensures kept { IfOk result (λ taken. IfSome taken (KeepsOwn T.kind_of id mine.now)) }
+    ensures image { (log : History T.Op) (before other : model.Entry T.Op) → performed_in (parts_of mine.now).marks id ≡ false → T.kind_of mine.now.value ≡ T.kind_of theirs.now.value
+        → StandsFor T.IsDataOf (parts_of mine.now) log before → StandsFor T.IsDataOf (parts_of theirs.now) log other → IsExactlyPruned (union before.history other.history)
+        → IfOk result (λ taken. StandsAfter T.IsDataOf log taken before (if is_strange_entry id before other then before else seen_by id view (merged before other))) }
+{
+    if is_strange(mine, theirs, id) || !mine.value().same_kind(theirs.value()) {
+        return Ok(None);
+    }
+    let mut entry = mine.copy(alloc)?;
+    entry.merge(theirs)?;
+    entry.add_seen(id, view);
+    Ok(Some(entry))
+}
+
+/// Takes an entry of a key, if the key is declared.
+fn take_entry_at<T: Replica>(
+    alloc: Global,
+    keys: &[KeyState<T>],
+    changes: &mut [Change<T>],
+    id: Id,
+    view: u32,
+    keyed: &Keyed<Envelope<T>>,
+) -> Result<(), Memory>
+    requires { length changes.old ≡ length keys.now }
+    ensures kept { AreMade (IsKept T.kind_of id) keys.now changes.old → OnOk result (AreMade (IsKept T.kind_of id) keys.now changes.new) }
+    ensures image { (kinds : Name → T.Kind) (logs : Name → History T.Op) (entries : Name → model.Entry T.Op) (node : Member T.Kind T.Op Shown) (sent : sending.Keyed (model.Entry T.Op))
+        → ArePruneFree logs → AreHeld T.kind_of T.IsDataOf kinds logs id keys.now entries → AreMade (IsKept T.kind_of id) keys.now changes.old → StandsForKeyed T.kind_of T.IsDataOf kinds logs keyed.now sent
+        → IsAtWork T.kind_of T.IsDataOf kinds logs id keys.now view entries changes.old node
+        → OnOk result (IsAtWork T.kind_of T.IsDataOf kinds logs id keys.now view entries changes.new (take_entry node sent)) }
+{
+    let Some(index) = index_of(keys, &keyed.key) else {
+        return Ok(());
+    };
+    let now = current(&keys[index], &changes[index]);
+    let taken = take_entry(alloc, now, &keyed.item, id, view)?;
+    put(changes, index, taken);
+    Ok(())
+}
+
+/// Takes the entries of a message, one after another.
+pub(crate) fn take_entries<T: Replica>(
+    alloc: Global,
+    keys: &[KeyState<T>],
+    changes: &mut [Change<T>],
+    id: Id,
+    view: u32,
+    entries: &[Keyed<Envelope<T>>],
+) -> Result<(), Memory>
+    requires { length changes.old ≡ length keys.now }
+    ensures kept { AreMade (IsKept T.kind_of id) keys.now changes.old → OnOk result (AreMade (IsKept T.kind_of id) keys.now changes.new) }
+    ensures image { (kinds : Name → T.Kind) (logs : Name → History T.Op) (before : Name → model.Entry T.Op) (node : Member T.Kind T.Op Shown) (sent : List (sending.Keyed (model.Entry T.Op)))
+        → ArePruneFree logs → AreHeld T.kind_of T.IsDataOf kinds logs id keys.now before → AreMade (IsKept T.kind_of id) keys.now changes.old → AllZip (StandsForKeyed T.kind_of T.IsDataOf kinds logs) entries.now sent
+        → IsAtWork T.kind_of T.IsDataOf kinds logs id keys.now view before changes.old node
+        → OnOk result (IsAtWork T.kind_of T.IsDataOf kinds logs id keys.now view before changes.new (after_entries node sent)) }
+{
+    for keyed in entries {
+        take_entry_at(alloc, keys, changes, id, view, keyed)?;
+    }
+    Ok(())
+}
+
+/// Whether the entry would be another.
+fn is_changed<T: Replica>(state: &KeyState<T>, change: &Change<T>) -> bool
+    ensures { (logs : Name → History T.Op) (old new : Name → model.Entry T.Op) → LeadsTo T.IsDataOf logs old new state.now change.now → result ≡ not (is_unchanged (old state.now.name) (new state.now.name)) }
+{
+    match change {
+        Change::Entry(entry) => !entry.is_unchanged(&state.entry),
+        _ => false,
+    }
+}
+
+/// Whether some entry would be another.
+pub(crate) fn any_changed<T: Replica>(keys: &[KeyState<T>], changes: &[Change<T>]) -> bool
+    requires { length changes.now ≡ length keys.now }
+    ensures { (logs : Name → History T.Op) (old new : Name → model.Entry T.Op) → AreMade (LeadsTo T.IsDataOf logs old new) keys.now changes.now → result ≡ list_any (λ state. not (is_unchanged (old state.name) (new state.name))) keys.now }
+{
+    for (index, state) in keys.iter().enumerate() {
+        if is_changed(state, &changes[index]) {
+            return true;
+        }
+    }
+    false
+}
