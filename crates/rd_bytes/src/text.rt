@@ -1,5 +1,6 @@
 ghost use Rattle.std.specs.Prelude.{◌≡◌, ◌<◌, ◌≤◌, ◌↔◌, length, IfOk, IfErr, IsTrue};
 ghost use Rattle.rd_bytes.specs.Refusals.{IsTooLong};
+ghost use Rattle.rd_bytes.specs.Spelling.{IsText};
 
 use crate::memory::Memory;
 use std::alloc::Global;
@@ -41,9 +42,20 @@ impl Text {
         if text.len() > MOST_BYTES {
             return Err(TextError::TooLong);
         }
+        match Text::of_short(alloc, text) {
+            Ok(text) => Ok(text),
+            Err(Memory) => Err(TextError::Memory),
+        }
+    }
+
+    /// A text with these bytes, which are no more than 64.
+    pub(crate) fn of_short(alloc: Global, text: &str) -> Result<Text, Memory>
+        requires { length text.now ≤ MOST_BYTES }
+        ensures { IfOk result (λ made. made ≡ text.now) }
+    {
         match String::from_str(alloc, text) {
             Ok(text) => Ok(Text { text }),
-            Err(_) => Err(TextError::Memory),
+            Err(_) => Err(Memory),
         }
     }
 
@@ -51,6 +63,7 @@ impl Text {
     pub fn as_str(&self) -> &str
         ensures value { result.now ≡ self.now }
         ensures within { length self.now ≤ MOST_BYTES }
+        ensures text { IsText self.now }
     {
         self.text.as_str()
     }

@@ -1,5 +1,5 @@
 -- Amounts stay at most what one identity may hold.
-use Rattle.std.proofs.Common.{◌≡◌, ◌≢◌, ℕ, ◌<◌, ◌≤◌, max, zero-le, Result, Ok, Err, OnOk, OnErr, arith, sym, ◌∙◌, subst, ⊎_elim}
+use Rattle.std.proofs.Common.{◌≡◌, ◌≢◌, ℕ, ◌<◌, ◌≤◌, max, zero-le, Result, Ok, Err, OnOk, OnErr, arith, refl, sym, ◌∙◌, subst, ⊎_elim}
 use Rattle.std.specs.FinMap as map
 use Rattle.std.proofs.lemmas.Bool.{cases_eq, cases_lt}
 use Rattle.rd_history.specs.Table.{identity_limit, with_at}
@@ -7,7 +7,7 @@ use Rattle.rd_history.proofs.HistoryLaws.{with_at_other}
 use Rattle.rd_history.proofs.CutLaws.{with_at_is}
 use Rattle.rd_meanings.specs.Refusal.{greatest_share}
 use Rattle.rd_vectors.specs.Vectors.{Numbers, number_at, numbers_of, raised, joined, removed}
-use Rattle.rd_vectors.proofs.Laws.{number_at-numbers_of, number_at-numbers_of_above, number_at-empty}
+use Rattle.rd_vectors.proofs.Laws.{number_at-numbers_of, number_at-numbers_of_above, IsNormal-numbers_of, empty-numbers_of}
 use Rattle.rd_counters.specs.Kept.{AreAmounts}
 
 max_within : (a b limit : ℕ) → a ≤ limit → b ≤ limit → max a b ≤ limit
@@ -15,6 +15,7 @@ max_within a b limit l m = omega arith
 
 amounts_of : (f : ℕ → ℕ) → ((i : ℕ) → f i ≤ greatest_share) → AreAmounts (numbers_of f)
 amounts_of f small = record {
+  normal = IsNormal-numbers_of f;
   small = λ i. ⊎_elim (λ (l : i < identity_limit). subst (λ n. n ≤ greatest_share) (sym (number_at-numbers_of f i l)) (small i))
       (λ (l : identity_limit ≤ i). subst (λ n. n ≤ greatest_share) (sym (number_at-numbers_of_above f i l)) zero-le) (cases_lt i identity_limit);
 }
@@ -25,7 +26,7 @@ changed_at m id to p l = amounts_of (with_at (number_at m) id to) (λ i. ⊎_eli
     (λ (ne : i ≢ id). subst (λ n. n ≤ greatest_share) (sym (with_at_other (number_at m) id to i ne)) (p.small i)) (cases_eq i id))
 
 pub amounts_empty : (m : Numbers) → m ≡ map.empty → AreAmounts m
-amounts_empty m e = subst AreAmounts (sym e) (record { small = λ i. subst (λ n. n ≤ greatest_share) (sym (number_at-empty i)) zero-le })
+amounts_empty m e = subst AreAmounts (sym (e ∙ empty-numbers_of (λ i. 0) (λ i. refl))) (amounts_of (λ i. 0) (λ i. zero-le))
 
 pub amounts_raised : (m : Numbers) (id to : ℕ) → to ≤ greatest_share → AreAmounts m → AreAmounts (raised m id to)
 amounts_raised m id to l p = changed_at m id (max (number_at m id) to) p (max_within _ _ greatest_share (p.small id) l)

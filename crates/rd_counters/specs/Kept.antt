@@ -1,7 +1,7 @@
--- What amounts per identity keep: none is above what one identity may hold.
-use Rattle.std.specs.Prelude.{ℕ, ◌≤◌}
+-- What amounts per identity keep: no 0, identities alone, and none above what one identity may hold.
 use Rattle.rd_meanings.specs.Refusal.{greatest_share}
-use Rattle.rd_vectors.specs.Vectors.{Numbers, number_at}
+use Rattle.rd_vectors.specs.Vectors.{Numbers}
+use Rattle.rd_vectors.specs.Spelling.{AreSpellable}
 
-pub record AreAmounts (numbers : Numbers) : Type 0 where
-  pub small : (i : ℕ) → number_at numbers i ≤ greatest_share
+abbrev pub AreAmounts : Numbers → Type 0
+AreAmounts numbers = AreSpellable greatest_share numbers

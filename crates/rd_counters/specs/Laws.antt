@@ -1,5 +1,5 @@
 -- The laws of shares, whatever says how much an operation adds.
-use Rattle.std.proofs.Common.{◌≡◌, ◌≢◌, ℕ, ◌+◌, ◌<◌, ◌≤◌, ◌⊎◌, max, Bool, true, false, not, cond, nat_eq, Option, None, refl, ap, sym, ◌∙◌, subst, subst₂, rules, arith, ⊎_elim, inl, inr}
+use Rattle.std.proofs.Common.{◌≡◌, ◌≢◌, ℕ, ◌+◌, ◌<◌, ◌≤◌, ◌⊎◌, max, Bool, true, false, not, cond, nat_eq, Option, refl, ap, sym, ◌∙◌, subst, subst₂, rules, arith, ⊎_elim, inl, inr}
 use Rattle.std.specs.FinMap as map
 use Rattle.std.specs.Prelude.{sum_by, if◌then◌else◌}
 use Rattle.std.proofs.Math.Nat.{max_comm}
@@ -27,7 +27,7 @@ use Rattle.rd_kinds.specs.declared.operation.Op.{Op}
 use Rattle.rd_kinds.specs.declared.operation.Op.TheVariants.{Increment}
 use Rattle.rd_counters.specs.declared.counter.GCounter.{GCounter}
 use Rattle.rd_counters.specs.declared.counter.Share.{Share}
-use Rattle.rd_counters.specs.Counter.{counter_applied, counter_delta_of, counter_apply_refusal, counter_joined, counter_absorbed, counter_combined, counter_cleaned, counter_pruned, counter_prune_refusal, counter_mentioned, counter_sum, AreShares, IsShareAt, AreSharesWithin, IsShareOf, empty_counter}
+use Rattle.rd_counters.specs.Counter.{counter_applied, counter_delta_of, counter_apply_refusal, counter_joined, counter_absorbed, counter_combined, counter_cleaned, counter_pruned, counter_mentioned, counter_sum, AreShares, IsShareAt, AreSharesWithin, IsShareOf, empty_counter}
 
 -- two counters with the same shares
 pub same_counter : (a b : Numbers) → a ≡ b → ◌≡◌ {A = GCounter} (record { shares = a }) (record { shares = b })

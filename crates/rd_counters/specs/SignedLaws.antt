@@ -1,14 +1,12 @@
 -- The laws of a counter that moves both ways: each is a pair of laws of growing counters.
-use Rattle.std.proofs.Common.{◌≡◌, ℕ, ◌+◌, ◌<◌, ◌≤◌, Bool, true, false, ◌||◌, Option, None, refl, ap, ◌∙◌}
-use Rattle.std.specs.Prelude.{pos, neg_ℤ, ◌+ℤ◌}
+use Rattle.std.proofs.Common.{◌≡◌, ℕ, ◌+◌, ◌<◌, ◌≤◌, Bool, true, false, ◌||◌, None, ap, ◌∙◌}
 use Rattle.rd_history.specs.Table.{with_at}
 use Rattle.rd_history.specs.Vector.{VersionVector, IdentitySet, join, with_member}
 use Rattle.rd_history.specs.History.{History, cut}
 use Rattle.rd_history.specs.History.Action.{Operation, Prune}
 use Rattle.rd_history.specs.Cuts.{IsConsistentCut, IsPrunedCut, IsNext, AreOperations, grown, without}
 use Rattle.rd_meanings.specs.Refusal.{too_much}
-use Rattle.rd_meanings.specs.Counter.{share, total}
-use Rattle.rd_vectors.specs.Vectors.{number_at}
+use Rattle.rd_meanings.specs.Counter.{share}
 use Rattle.rd_vectors.specs.declared.id.Dot.{Dot}
 use Rattle.rd_kinds.specs.SixKinds.{of_kind, increment, decrement}
 use Rattle.rd_kinds.specs.declared.kind.Kind.TheVariants as Kind
@@ -19,7 +17,7 @@ use Rattle.rd_kinds.specs.declared.shown.Shown.TheVariants.{Signed}
 use Rattle.rd_counters.specs.declared.counter.GCounter.{GCounter}
 use Rattle.rd_counters.specs.declared.counter.PnCounter.{PnCounter}
 use Rattle.rd_counters.specs.declared.counter.PnShare.{PnShare}
-use Rattle.rd_counters.specs.Counter.{counter_prune_refusal, counter_mentioned}
+use Rattle.rd_counters.specs.Counter.{counter_prune_refusal}
 use Rattle.rd_counters.specs.Signed.{plus_of, minus_of, empty_signed, signed_applied, signed_delta_of, signed_apply_refusal, signed_joined, signed_absorbed, signed_combined, signed_cleaned, signed_pruned, signed_prune_refusal, signed_mentioned, signed_sum, less, AreBothShares, AreBothAt, AreBothWithin, AreBothOf}
 use Rattle.rd_counters.specs.Laws as one
 

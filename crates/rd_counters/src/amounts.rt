@@ -1,11 +1,18 @@
-ghost use Rattle.std.specs.Prelude.{◌≡◌, ℕ, ◌+◌, ◌≤◌, ◌↔◌, max, IsSome, IfSome, OnOk, OnErr, IfOk};
+ghost use Rattle.std.specs.Prelude.{◌≡◌, ℕ, ◌+◌, ◌≤◌, ◌++◌, ◌↔◌, max, IsSome, IfSome, OnOk, OnErr, IfOk};
 ghost use Rattle.std.specs.FinMap as map;
 ghost use Rattle.rd_meanings.specs.Refusal.{greatest_share};
+ghost use Rattle.rd_bytes.specs.Fields.{Gives};
+ghost use Rattle.rd_vectors.specs.IdSets.{members_in};
+ghost use Rattle.rd_vectors.specs.Spelling.{numbers_spelled, numbers_in, AreSpellable};
 ghost use Rattle.rd_vectors.specs.Vectors.{IsNormal, number_at, raised, joined, removed};
 
-use rd_vectors::{Id, Memory, Numbers};
+use rd_bytes::FieldError;
+use rd_vectors::{Id, IdSet, Memory, Numbers};
 use std::alloc::Global;
 use std::marker::Model;
+
+/// What one identity may hold of a counter at most.
+const GREATEST: u64 = 0x7fff_ffff_ffff_ffff;
 
 /// What one identity may hold of a counter: at most `2^63 - 1`.
 #[derive(Clone, Copy, Debug, PartialEq, Eq, PartialOrd, Ord)]
@@ -32,7 +39,7 @@ impl Amount {
         ensures variant { IsSome result ↔ (number ≤ greatest_share) }
         ensures value { IfSome result (λ amount. amount ≡ number) }
     {
-        if number <= 0x7fff_ffff_ffff_ffff {
+        if number <= GREATEST {
             Some(Amount { number })
         } else {
             None
@@ -156,5 +163,47 @@ impl Amounts {
         ensures normal { IsNormal self.now }
     {
         self.copy(self.alloc)
+    }
+
+    /// Appends the spelling. After a refusal a part of it may have been appended.
+    pub(crate) fn spell(&self, into: &mut Vec<u8>) -> Result<(), Memory>
+        ensures sound { AreSpellable greatest_share self.now }
+        ensures ok { OnOk result (into.new.items ≡ into.old.items ++ numbers_spelled (number_at self.now)) }
+    {
+        self.numbers.spell(into)
+    }
+
+    /// The spelling.
+    pub(crate) fn spelled(&self) -> Result<Vec<u8>, Memory>
+        ensures sound { AreSpellable greatest_share self.now }
+        ensures ok { IfOk result (λ bytes. bytes.items ≡ numbers_spelled (number_at self.now)) }
+    {
+        let mut bytes = Vec::new(self.alloc);
+        self.spell(&mut bytes)?;
+        Ok(bytes)
+    }
+
+    /// The spelling, and that of others after it.
+    pub(crate) fn spelled_before(&self, others: &Amounts) -> Result<Vec<u8>, Memory>
+        ensures sound { AreSpellable greatest_share self.now }
+        ensures others_sound { AreSpellable greatest_share others.now }
+        ensures ok { IfOk result (λ bytes. bytes.items ≡ numbers_spelled (number_at self.now) ++ numbers_spelled (number_at others.now)) }
+    {
+        let _others = &others.numbers;
+        let mut bytes = self.spelled()?;
+        others.spell(&mut bytes)?;
+        Ok(bytes)
+    }
+
+    /// The amounts at the front of these bytes, without a barred identity; and the bytes after them.
+    pub(crate) fn read(
+        alloc: Global,
+        barred: IdSet,
+        bytes: &[u8],
+    ) -> Result<(Amounts, &[u8]), FieldError>
+        ensures { Gives (λ x. (x.0, x.1.now)) result (numbers_in greatest_share (members_in barred) bytes.now) }
+    {
+        let (numbers, rest) = Numbers::read(alloc, GREATEST, barred, bytes)?;
+        Ok((Amounts { alloc, numbers }, rest))
     }
 }

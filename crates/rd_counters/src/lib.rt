@@ -6,6 +6,7 @@ mod counter;
 mod replica;
 mod shares;
 mod signed;
+mod spelled;
 
 pub use amounts::Amount;
 pub use counter::{GCounter, PnCounter, PnShare, Share};

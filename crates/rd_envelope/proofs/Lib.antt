@@ -6,3 +6,4 @@ pub mod Entries
 pub mod Reading
 pub mod Judging
 pub mod Groups
+pub mod MarkPrunes

@@ -60,3 +60,17 @@ joined_most m n v w r gone is is' e i = ⊎_elim
     let other = at_most gone (number_at n) i in
     omega (arith, both, one, other, is i, is' i))
     (λ (l : identity_limit ≤ i). let none = ap (λ x. number_at x i) e ∙ number_at-numbers_of_above (λ k. max (number_at v k) (number_at w k)) i l in omega (arith, none)) (cases_lt i identity_limit)
+
+-- where an identity wasn't cleaned away, they count the more of both
+pub joined_greatest : (m n v w r : Numbers) (gone : IdentitySet) → IsNormal m → IsNormal n → ((i : ℕ) → number_at v i ≡ without gone (number_at m) i) → ((i : ℕ) → number_at w i ≡ without gone (number_at n) i) → r ≡ joined v w
+    → (i : ℕ) → gone i ≡ false → number_at r i ≡ max (number_at m i) (number_at n i)
+joined_greatest m n v w r gone normal normal' is is' e i stays = ⊎_elim
+    (λ (l : i < identity_limit).
+    let one : number_at v i ≡ number_at m i = is i ∙ kept gone (number_at m) i stays in
+    let other : number_at w i ≡ number_at n i = is' i ∙ kept gone (number_at n) i stays in
+    ap (λ x. number_at x i) e ∙ number_at-joined v w i l ∙ (λ j. max (one j) (other j)))
+    (λ (l : identity_limit ≤ i).
+    let none = ap (λ x. number_at x i) e ∙ number_at-numbers_of_above (λ k. max (number_at v k) (number_at w k)) i l in
+    let one = number_at_above m normal i l in
+    let other = number_at_above n normal' i l in
+    omega (arith, none, one, other)) (cases_lt i identity_limit)

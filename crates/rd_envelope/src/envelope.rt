@@ -212,6 +212,8 @@ impl<T: Replica> Envelope<T> {
             → OnOk result (StandsFor T.IsDataOf (parts_of self.new) log (with_action entry id (Operation op.now))) }
         ensures delta { (log : History T.Op) (entry : Entry T.Op) → StandsFor T.IsDataOf (parts_of self.old) log entry → IsTakenFrom log (with_action entry id (Operation op.now)).history
             → IfOk result (λ delta. T.IsDeltaOf delta log id (at entry.history id) (at entry.history id + 1)) }
+        ensures delta_kind { IfOk result (λ delta. T.delta_fits_kind (T.kind_of self.old.value) delta ≡ true) }
+        ensures delta_origin { IfOk result (λ delta. T.IsOfOrigin delta id) }
         ensures unrefused { (log : History T.Op) (entry : Entry T.Op) → StandsFor T.IsDataOf (parts_of self.old) log entry
             → OnOk result (T.data_type.refusal (T.kind_of self.old.value) id op.now entry.history ≡ None) }
         ensures refused { (log : History T.Op) (entry : Entry T.Op) → StandsFor T.IsDataOf (parts_of self.old) log entry
@@ -240,6 +242,7 @@ impl<T: Replica> Envelope<T> {
             → IsExactlyPruned (union mine.history theirs.history) → OnOk result (StandsFor T.IsDataOf (parts_of self.new) log (merged mine theirs)) }
         ensures markers { OnOk result (MergesTo self.old.markers other.now.markers self.new.markers) }
         ensures versions { (i : ℕ) → OnOk result (number_at self.new.versions i ≤ max (number_at self.old.versions i) (number_at other.now.versions i)) }
+        ensures greatest { (i : ℕ) → performed_in self.new.markers i ≡ false → OnOk result (number_at self.new.versions i ≡ max (number_at self.old.versions i) (number_at other.now.versions i)) }
         ensures kind { T.kind_of self.new.value ≡ T.kind_of self.old.value }
         ensures err { OnErr result (self.new ≡ self.old) }
     {

@@ -7,8 +7,9 @@ use Rattle.std.proofs.Math.Seq.{drop-cons}
 use Rattle.std.proofs.lemmas.List.{take_more, take_all, drop_all, append-nil}
 use Rattle.rd_history.specs.Texts.{Text, text_lt, with_text, text_set, contains_text}
 use Rattle.rd_growing.specs.Bits.{or_none}
-use Rattle.rd_growing.specs.Texts.{text_order, IsBelowAll, IsRising, IsPlace}
-use Rattle.rd_growing.specs.TextLaws.{order_less, order_equal, order_greater, lt_one_way, eq_texts, texts_eq, lt_differ, lt_differ_too}
+use Rattle.rd_bytes.specs.TextOrder.{text_order, IsBelowAll, IsRising}
+use Rattle.rd_growing.specs.Texts.{IsPlace}
+use Rattle.rd_bytes.proofs.TextLaws.{order_less, order_equal, order_greater, lt_one_way, eq_texts, texts_eq, lt_differ, lt_differ_too}
 use Rattle.rd_growing.specs.TextSetLaws.{below_all_of_less, below_all, absent_before, contains_append, contains_set, rising_set, is_set, own_set}
 
 pub rising_drop : (xs : List Text) (n : ℕ) → IsRising xs → IsRising (drop n xs)

@@ -4,7 +4,6 @@ pub mod RecordedLaws
 pub mod Flags
 pub mod FlagLaws
 pub mod Texts
-pub mod TextLaws
 pub mod TextSetLaws
 pub mod Sets
 pub mod SetLaws
@@ -13,3 +12,6 @@ pub mod TimestampLaws
 pub mod Registers
 pub mod WriteLaws
 pub mod RegisterLaws
+pub mod Spelling
+pub mod Reading
+pub mod SpellingLaws

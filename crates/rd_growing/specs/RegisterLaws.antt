@@ -26,6 +26,7 @@ use Rattle.rd_growing.specs.RecordedLaws.{to_stamped}
 use Rattle.rd_growing.specs.Timestamps.{assignment_at, timestamp_at}
 use Rattle.rd_growing.specs.TimestampLaws.{timestamp_in, newest_above, newest_is, stamped_none, stamped_some, is_write, same_index}
 use Rattle.rd_growing.specs.Registers.{write_order, winning, register_written, register_joined, stamp_of, write_after, assignment_of, register_refusal, text_of, IsWinner, IsOutcome, Held, Between, IsRegisterOf, IsWrittenBetween}
+use Rattle.rd_growing.specs.Spelling.{won_write}
 use Rattle.rd_growing.specs.WriteLaws.{wins_says, loses_says, same_write, written_after, combined_writer}
 
 -- records that are among one of two lots
@@ -366,6 +367,20 @@ module _ {Op : Type 0} (assigned : Op → Option Assignment) (log : History Op) 
   pub text_means : (state : Option Written) (held : VersionVector) → IsRegisterOf assigned state log held → text_of state ≡ winning_text assigned (cut log held)
   text_means None held is = nothing_shown held (sym (stamp_is assigned log None held is))
   text_means (Some write) held is = winner_shown write held is.cut is.outcome (stamp_is assigned log (Some write) held is)
+
+  -- the write of the record that won
+  abbrev won_by : VersionVector → Stamped Op → Written
+  won_by held x = record { text = winning_text assigned (cut log held); timestamp = newest assigned (cut log held); writer = x.origin }
+
+  -- and the write of the register is the one that won
+  pub write_means : (state : Option Written) (held : VersionVector) → IsRegisterOf assigned state log held → state ≡ won_write assigned (cut log held)
+  write_means None held is = sym (ap (option_map (won_by held)) (find_none (is_newest held) (all_records (cut log held)) (λ x there. ap (λ n. not (n == 0) && (timestamp assigned (cut log held) x == n)) (sym (stamp_is assigned log None held is)))))
+  write_means (Some write) held is =
+      let level = stamp_is assigned log (Some write) held is in
+      let f = first_newest write held is.cut is.outcome level in
+      let r = in_stamped write.writer 1 (cut log held write.writer) f.0 f.1 in
+      ap Some (same_write write (won_by held f.0) (text_means (Some write) held is) level (sym r.2))
+      ∙ sym (ap (option_map (won_by held)) f.2)
 
   pub refusal_is : (state : Option Written) (held : VersionVector) → IsRegisterOf assigned state log held → register_refusal state ≡ (if newest assigned (cut log held) == greatest_share then Some Refusal.ClockSpent else None)
   refusal_is state held is = ap (λ n. if n == greatest_share then Some Refusal.ClockSpent else None) (stamp_is assigned log state held is)

@@ -10,7 +10,7 @@ use Rattle.rd_meanings.specs.Growing.{Assignment}
 use Rattle.rd_meanings.specs.Refusal.{Refusal, greatest_share}
 use Rattle.rd_vectors.specs.declared.id.Dot.{Dot}
 use Rattle.rd_growing.specs.declared.register.Written.{Written}
-use Rattle.rd_growing.specs.Texts.{text_order}
+use Rattle.rd_bytes.specs.TextOrder.{text_order}
 use Rattle.rd_growing.specs.Timestamps.{assignment_at, timestamp_at}
 
 -- the write that wins comes first: the greater timestamp, then the lower writer, then the lesser text

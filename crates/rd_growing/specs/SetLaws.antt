@@ -16,7 +16,7 @@ use Rattle.rd_kinds.specs.declared.kind.Kind.TheVariants as Kind
 use Rattle.rd_kinds.specs.declared.operation.Op.{Op}
 use Rattle.rd_kinds.specs.declared.operation.Op.TheVariants.{Add}
 use Rattle.rd_growing.specs.Bits.{or_swap, or_third, or_same, or_more}
-use Rattle.rd_growing.specs.Texts.{IsRising}
+use Rattle.rd_bytes.specs.TextOrder.{IsRising}
 use Rattle.rd_growing.specs.TextSetLaws.{same_texts, contains_set, contains_both, contains_append, rising_set, is_set}
 use Rattle.rd_growing.specs.Recorded.{Tells, TellsBetween}
 use Rattle.rd_growing.specs.RecordedLaws.{tells_none, tells_grown, tells_pruned, tells_new, tells_joined, tells_group, tells_both, tells_once, tells_means}

@@ -5,7 +5,7 @@ use Rattle.rd_history.specs.Texts.{Text, text_set, contains_text}
 use Rattle.rd_history.specs.Vector.{VersionVector}
 use Rattle.rd_history.specs.History.{History}
 use Rattle.rd_meanings.specs.Refusal.{Refusal, full}
-use Rattle.rd_growing.specs.Texts.{IsRising}
+use Rattle.rd_bytes.specs.TextOrder.{IsRising}
 use Rattle.rd_growing.specs.Recorded.{Tells, TellsBetween}
 
 -- the elements of both

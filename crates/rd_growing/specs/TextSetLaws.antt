@@ -4,8 +4,8 @@ use Rattle.std.specs.Prelude.{fold, if◌then◌else◌}
 use Rattle.std.specs.Str.{bytes_eq}
 use Rattle.rd_history.specs.Texts.{Text, text_lt, with_text, text_set, contains_text}
 use Rattle.rd_growing.specs.Bits.{or_swap, or_again, or_third, or_none}
-use Rattle.rd_growing.specs.Texts.{IsBelowAll, IsRising}
-use Rattle.rd_growing.specs.TextLaws.{lt_trans, lt_or_same, eq_texts, texts_eq, lt_differ}
+use Rattle.rd_bytes.specs.TextOrder.{IsBelowAll, IsRising}
+use Rattle.rd_bytes.proofs.TextLaws.{lt_trans, lt_or_same, eq_texts, texts_eq, lt_differ}
 
 -- WHAT A TEXT COMES BEFORE
 

@@ -10,7 +10,7 @@ use Rattle.std.proofs.lemmas.Bool.{cases_eq, cases_lt}
 use Rattle.rd_meanings.specs.Growing.{Assignment}
 use Rattle.rd_vectors.specs.declared.id.Dot.{Dot}
 use Rattle.rd_growing.specs.declared.register.Written.{Written}
-use Rattle.rd_growing.specs.TextLaws.{less_of, order_equal}
+use Rattle.rd_bytes.proofs.TextLaws.{less_of, order_equal}
 use Rattle.rd_growing.specs.Registers.{write_order, winning, register_written, register_joined, write_after}
 
 -- NUMBERS

@@ -1,6 +1,7 @@
 ghost use Rattle.std.specs.Prelude.{◌≡◌, ◌≤◌, [], ◌∷◌, ◌++◌, length, true, OnOk, IfOk, IfNone, IfSome};
 ghost use Rattle.rd_history.specs.Texts.{text_set, contains_text};
-ghost use Rattle.rd_growing.specs.Texts.{text_order, IsRising, IsPlace};
+ghost use Rattle.rd_bytes.specs.TextOrder.{text_order, IsRising};
+ghost use Rattle.rd_growing.specs.Texts.{IsPlace};
 
 use rd_bytes::{Memory, Text};
 use std::alloc::Global;

@@ -1,15 +1,21 @@
-ghost use Rattle.std.specs.Prelude.{true, false, refl, ◌≡◌, None, ◌||◌};
+ghost use Rattle.std.specs.Prelude.{true, false, refl, ◌≡◌, ◌==◌, None, ◌||◌};
 ghost use Rattle.std.proofs.Common.{ap};
 ghost use Rattle.rd_history.specs.History.{cut};
 ghost use Rattle.rd_kinds.specs.SixKinds.{of_kind, enables};
 ghost use Rattle.rd_kinds.specs.declared.kind.Kind.TheVariants as kind;
 ghost use Rattle.rd_kinds.specs.declared.shown.Shown.TheVariants.{Switch};
 ghost use Rattle.rd_growing.specs.Flags.{flag_joined, flag_on, flag_off, IsFlagOf, IsSwitchedOn};
+ghost use Rattle.rd_meanings.specs.Growing.{is_on};
+ghost use Rattle.rd_growing.specs.Spelling.{switch_spelled};
+ghost use Rattle.rd_growing.specs.Reading.{flag_in};
+ghost use Rattle.rd_growing.specs.SpellingLaws as spellings;
 ghost use Rattle.rd_growing.specs.FlagLaws as laws;
 
+use crate::spelling::read_flag;
+use rd_bytes::{ReadError, placed};
 use rd_kinds::Op;
-use rd_lattice::{ApplyError, PruneError, Replica, Shown};
-use rd_vectors::{Dot, Id, Memory, VersionVector};
+use rd_lattice::{ApplyError, PruneError, Replica, Shown, SpelledData};
+use rd_vectors::{Dot, Id, IdSet, Memory, VersionVector};
 use std::alloc::Global;
 
 /// A flag that is switched on, and never off again.
@@ -199,4 +205,49 @@ impl Replica for Flag {
     ghost blocked_means = { λ _ _ _ _ _ _ _ _ _ _. refl };
 
     ghost shown_means = { λ state log held _ pruned is. ap Switch (laws.on_means enables state log held pruned.cut is) };
+}
+
+impl SpelledData for Flag {
+    ghost byte_of = { λ _. 5 };
+
+    ghost is_known = { λ byte. byte == 5 };
+
+    ghost IsSound = { λ _. Unit {0} };
+
+    ghost spelled = { λ flag. switch_spelled flag.on };
+
+    ghost read_in = { λ _ _. flag_in };
+
+    ghost history_spelled = { λ _ H. switch_spelled (is_on enables H) };
+
+    fn is_kind(byte: u8) -> bool {
+        byte == 5
+    }
+
+    fn kind_byte(&self) -> u8 {
+        5
+    }
+
+    fn spell_data(&self, into: &mut Vec<u8>) -> Result<(), Memory> {
+        let switch = if self.on { 1 } else { 0 };
+        Ok(into.push(switch)?)
+    }
+
+    fn read_data(
+        _alloc: Global,
+        _kind: u8,
+        _barred: IdSet,
+        from: &[u8],
+        place: usize,
+    ) -> Result<(Flag, usize), ReadError> {
+        placed(from.len(), read_flag(&from[place..]))
+    }
+
+    ghost kind_is_known = { λ _. refl };
+
+    ghost read_is_spelled = { λ kind barred bytes x rest known fits read. spellings.of_one_kind 5 kind barred known (spellings.flag_takes bytes x rest fits read) };
+
+    ghost spelled_is_read = { λ x _ rest _ _. spellings.flag_again x rest };
+
+    ghost spelling_means = { λ state log held _ pruned is. ap switch_spelled (laws.on_means enables state log held pruned.cut is) };
 }

@@ -5,9 +5,14 @@ mod elements;
 mod flag;
 mod register;
 mod set;
+mod spelling;
+#[cfg(test)]
+mod spelling_tests;
 #[cfg(test)]
 mod tests;
+mod timestamp;
 
 pub use flag::{Flag, SwitchedOn};
 pub use register::{LwwRegister, Written};
 pub use set::{GSet, MOST_ELEMENTS};
+pub use timestamp::Timestamp;

@@ -1,4 +1,4 @@
-ghost use Rattle.std.specs.Prelude.{◌≡◌, ◌≤◌, ◌+◌, [], max, true, false, refl, None, Some, OnOk, OnErr, IfOk, IfErr, option_copied};
+ghost use Rattle.std.specs.Prelude.{◌≡◌, ◌≤◌, ◌+◌, ◌==◌, [], max, true, false, refl, None, Some, OnOk, OnErr, IfOk, IfErr, option_copied};
 ghost use Rattle.std.specs.Ordering.{is_lt};
 ghost use Rattle.std.proofs.Common.{ap};
 ghost use Rattle.rd_meanings.specs.Growing.{Assignment};
@@ -9,14 +9,20 @@ ghost use Rattle.rd_kinds.specs.declared.kind.Kind.TheVariants as kind;
 ghost use Rattle.rd_kinds.specs.declared.shown.Shown.TheVariants as shown_as;
 ghost use Rattle.rd_lattice.specs.Refusals.{IsApplyRefusal};
 ghost use Rattle.rd_growing.specs.Registers.{write_order, winning, register_written, register_joined, stamp_of, write_after, assignment_of, register_refusal, text_of, IsRegisterOf, IsWrittenBetween};
+ghost use Rattle.rd_bytes.specs.Fields.{Gives};
+ghost use Rattle.rd_growing.specs.Spelling.{register_spelled, won_write, IsSoundRegister};
+ghost use Rattle.rd_growing.specs.Reading.{register_in};
+ghost use Rattle.rd_growing.specs.SpellingLaws as spellings;
 ghost use Rattle.rd_growing.specs.WriteLaws as writes;
 ghost use Rattle.rd_growing.specs.RegisterLaws as laws;
 
 use crate::elements::order;
-use rd_bytes::{Memory, Text};
+use crate::spelling::{read_written, spelled_write};
+use crate::timestamp::Timestamp;
+use rd_bytes::{Fault, FieldError, Memory, ReadError, Spelled, Text, placed, read_number};
 use rd_kinds::{Moment, Op};
-use rd_lattice::{ApplyError, PruneError, Replica, Shown};
-use rd_vectors::{Dot, Id, VersionVector};
+use rd_lattice::{ApplyError, PruneError, Replica, Shown, SpelledData};
+use rd_vectors::{Dot, Id, IdSet, VersionVector};
 use std::alloc::Global;
 use std::cmp::Ordering;
 use std::marker::Model;
@@ -25,7 +31,7 @@ use std::marker::Model;
 #[derive(Drop)]
 pub struct Written {
     pub text: Text,
-    pub timestamp: Moment,
+    pub timestamp: Timestamp,
     pub writer: Id,
 }
 
@@ -130,7 +136,7 @@ impl LwwRegister {
         ensures refused { IfErr result (IsApplyRefusal (register_refusal self.old)) }
         ensures err { OnErr result (self.new ≡ self.old) }
     {
-        let Some(timestamp) = Moment::new(now.number().max(self.timestamp() + 1)) else {
+        let Some(timestamp) = Timestamp::new(now.number().max(self.timestamp() + 1)) else {
             return Err(ApplyError::ClockSpent);
         };
         let write = Written {
@@ -329,6 +335,74 @@ impl Replica for LwwRegister {
     ghost blocked_means = { λ _ _ _ _ _ _ _ _ _ _. refl };
 
     ghost shown_means = { λ state log held _ _ is. ap shown_as.Written (laws.text_means assigned log state held is) };
+}
+
+/// A register, and the bytes after it.
+#[tactic(auto, unfolding(crate::specs::Reading::register_in))]
+fn read_register(alloc: Global, bytes: &[u8]) -> Result<(LwwRegister, &[u8]), FieldError>
+    ensures { Gives (λ x. (x.0, x.1.now)) result (register_in bytes.now) }
+{
+    let (number, rest) = read_number(bytes)?;
+    if number == 0 {
+        let written = None;
+        return Ok((LwwRegister { alloc, written }, rest));
+    }
+    let Some(timestamp) = Timestamp::new(number) else {
+        return Err(FieldError::Fault(Fault::BadByte(bytes.len())));
+    };
+    let (write, rest) = read_written(alloc, timestamp, rest)?;
+    let written = Some(write);
+    Ok((LwwRegister { alloc, written }, rest))
+}
+
+impl SpelledData for LwwRegister {
+    ghost byte_of = { λ _. 6 };
+
+    ghost is_known = { λ byte. byte == 6 };
+
+    ghost IsSound = { IsSoundRegister };
+
+    ghost spelled = { register_spelled };
+
+    ghost read_in = { λ _ _. register_in };
+
+    ghost history_spelled = { λ _ H. register_spelled (won_write assigned H) };
+
+    fn is_kind(byte: u8) -> bool {
+        byte == 6
+    }
+
+    fn kind_byte(&self) -> u8 {
+        6
+    }
+
+    fn spell_data(&self, into: &mut Vec<u8>) -> Result<(), Memory> {
+        match &self.written {
+            None => 0u64.spell(into),
+            Some(write) => {
+                let spelled = spelled_write(self.alloc, write)?;
+                Ok(into.extend_from_slice(&spelled)?)
+            }
+        }
+    }
+
+    fn read_data(
+        alloc: Global,
+        _kind: u8,
+        _barred: IdSet,
+        from: &[u8],
+        place: usize,
+    ) -> Result<(LwwRegister, usize), ReadError> {
+        placed(from.len(), read_register(alloc, &from[place..]))
+    }
+
+    ghost kind_is_known = { λ _. refl };
+
+    ghost read_is_spelled = { λ kind barred bytes x rest known fits read. spellings.of_one_kind 6 kind barred known (spellings.register_takes bytes x rest fits read) };
+
+    ghost spelled_is_read = { λ x _ rest sound _. spellings.register_again x rest sound };
+
+    ghost spelling_means = { λ state log held _ _ is. ap register_spelled (laws.write_means assigned log state held is) };
 }
 
 /// The text that a register shows before its first write.

@@ -1,4 +1,4 @@
-ghost use Rattle.std.specs.Prelude.{◌≡◌, ◌≤◌, [], ◌∷◌, ◌++◌, true, false, refl, length, None, OnOk, OnErr, IfOk, IfErr};
+ghost use Rattle.std.specs.Prelude.{◌≡◌, ◌==◌, ◌≤◌, [], ◌∷◌, ◌++◌, true, false, refl, length, None, OnOk, OnErr, IfOk, IfErr};
 ghost use Rattle.std.specs.Option.{option_to_list};
 ghost use Rattle.std.proofs.Common.{ap};
 ghost use Rattle.rd_history.specs.Texts.{text_set};
@@ -7,15 +7,22 @@ ghost use Rattle.rd_kinds.specs.SixKinds.{of_kind, added};
 ghost use Rattle.rd_kinds.specs.declared.kind.Kind.TheVariants as kind;
 ghost use Rattle.rd_kinds.specs.declared.shown.Shown.TheVariants.{Elements};
 ghost use Rattle.rd_lattice.specs.Refusals.{IsApplyRefusal};
-ghost use Rattle.rd_growing.specs.Texts.{IsRising, IsPlace};
+ghost use Rattle.rd_bytes.specs.TextOrder.{IsRising};
+ghost use Rattle.rd_growing.specs.Texts.{IsPlace};
 ghost use Rattle.rd_growing.specs.Sets.{set_joined, set_applied, set_refusal, IsSetOf, IsAddedBetween};
+ghost use Rattle.rd_meanings.specs.Growing.{added_elements};
+ghost use Rattle.rd_bytes.specs.Fields.{Gives};
+ghost use Rattle.rd_growing.specs.Spelling.{set_spelled, IsSoundSet};
+ghost use Rattle.rd_growing.specs.Reading.{set_in};
+ghost use Rattle.rd_growing.specs.SpellingLaws as spellings;
 ghost use Rattle.rd_growing.specs.SetLaws as laws;
 
 use crate::elements::{copied, merged, place};
-use rd_bytes::{Items, Memory, Text};
+use crate::spelling::{read_texts, spelled_texts};
+use rd_bytes::{FieldError, Items, Memory, ReadError, Text, placed, read_number};
 use rd_kinds::{Op, Texts};
-use rd_lattice::{ApplyError, PruneError, Replica, Shown};
-use rd_vectors::{Dot, Id, VersionVector};
+use rd_lattice::{ApplyError, PruneError, Replica, Shown, SpelledData};
+use rd_vectors::{Dot, Id, IdSet, VersionVector};
 use std::alloc::Global;
 use std::marker::Model;
 
@@ -31,7 +38,7 @@ pub struct GSet {
 
 impl Model for GSet {
     ghost use Rattle.std.specs.Prelude.{ℕ, List};
-    ghost use Rattle.rd_growing.specs.Texts.{IsRising};
+    ghost use Rattle.rd_bytes.specs.TextOrder.{IsRising};
 
     ghost Value = { List (List ℕ) };
 
@@ -304,4 +311,59 @@ impl Replica for GSet {
     ghost blocked_means = { λ _ _ _ _ _ _ _ _ _ _. refl };
 
     ghost shown_means = { λ state log held _ pruned is. ap Elements (laws.set_means added state log held pruned.cut is) };
+}
+
+/// A set, and the bytes after it.
+#[tactic(auto, unfolding(crate::specs::Reading::set_in))]
+fn read_set(alloc: Global, bytes: &[u8]) -> Result<(GSet, &[u8]), FieldError>
+    ensures { Gives (λ x. (x.0, x.1.now)) result (set_in bytes.now) }
+{
+    let (count, rest) = read_number(bytes)?;
+    let (elements, rest) = read_texts(alloc, count, rest)?;
+    Ok((GSet { alloc, elements }, rest))
+}
+
+impl SpelledData for GSet {
+    ghost byte_of = { λ _. 3 };
+
+    ghost is_known = { λ byte. byte == 3 };
+
+    ghost IsSound = { IsSoundSet };
+
+    ghost spelled = { set_spelled };
+
+    ghost read_in = { λ _ _. set_in };
+
+    ghost history_spelled = { λ _ H. set_spelled (added_elements added H) };
+
+    fn is_kind(byte: u8) -> bool {
+        byte == 3
+    }
+
+    fn kind_byte(&self) -> u8 {
+        3
+    }
+
+    fn spell_data(&self, into: &mut Vec<u8>) -> Result<(), Memory> {
+        let spelled = spelled_texts(self.alloc, self.elements())?;
+        Ok(into.extend_from_slice(&spelled)?)
+    }
+
+    fn read_data(
+        alloc: Global,
+        _kind: u8,
+        _barred: IdSet,
+        from: &[u8],
+        place: usize,
+    ) -> Result<(GSet, usize), ReadError> {
+        placed(from.len(), read_set(alloc, &from[place..]))
+    }
+
+    ghost kind_is_known = { λ _. refl };
+
+    ghost read_is_spelled = { λ kind barred bytes x rest known fits read. spellings.of_one_kind 3 kind barred known (spellings.set_takes bytes x rest fits read) };
+
+    ghost spelled_is_read = { λ x _ rest sound _. spellings.set_again x rest sound };
+
+    ghost spelling_means = { λ state log held _ pruned is. ap set_spelled (laws.set_means added state log held pruned.cut is) };
 }

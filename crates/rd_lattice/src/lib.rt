@@ -3,7 +3,9 @@
 
 mod answers;
 mod replica;
+mod spelled;
 
 pub use answers::{ApplyError, PruneError};
 pub use rd_kinds::Shown;
 pub use replica::Replica;
+pub use spelled::SpelledData;

@@ -4,3 +4,4 @@ pub mod Views
 pub mod Merges
 pub mod Seen
 pub mod Keeping
+pub mod SpellingLoops

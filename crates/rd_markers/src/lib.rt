@@ -3,6 +3,7 @@
 
 mod marker;
 mod markers;
+mod spelling;
 
 pub use marker::Marker;
 pub use markers::Markers;

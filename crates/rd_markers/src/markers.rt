@@ -15,7 +15,7 @@ use std::marker::Model;
 #[derive(Drop)]
 pub struct Markers {
     alloc: Global,
-    marks: BTreeMap<u8, Marker>,
+    pub(crate) marks: BTreeMap<u8, Marker>,
 }
 
 impl Model for Markers {

@@ -1,12 +1,12 @@
 -- What messages bring, and what is printed of them.
-use Rattle.std.specs.Prelude.{List, [], length}
+use Rattle.std.specs.Prelude.{ℕ, List, [], length}
 use Rattle.rd_history.specs.Texts.{Text}
 use Rattle.rd_lattice.specs.declared.replica.Replica.{Ghosts}
 use Rattle.rd_envelope.specs.declared.envelope.Envelope.{Envelope}
 use Rattle.rd_envelope.specs.declared.group.Group.{Group}
 use Rattle.rd_messages.specs.declared.message.Keyed.{Keyed}
 use Rattle.rd_messages.specs.declared.message.Message.{Message}
-use Rattle.rd_messages.specs.declared.message.Message.TheVariants.{Deltas, Nack, Gossip}
+use Rattle.rd_messages.specs.declared.message.Message.TheVariants.{Deltas, Nack, Status, Gossip}
 use Rattle.rd_messages.specs.declared.sketch.MessageKind.TheVariants as kind
 use Rattle.rd_messages.specs.declared.sketch.Sketch.{Sketch}
 
@@ -14,22 +14,27 @@ module _ {T Kind Op Delta : Type 0} {ghosts : Ghosts T Kind Op Delta} where
   abbrev pub sketch_of : Message T Kind Op Delta ghosts → Sketch
   sketch_of (Deltas groups entries) = record { kind = kind.Deltas; first = length groups; second = length entries }
   sketch_of (Nack keys) = record { kind = kind.Nack; first = length keys; second = 0 }
+  sketch_of (Status digests) = record { kind = kind.Status; first = length digests; second = 0 }
   sketch_of (Gossip entries wants) = record { kind = kind.Gossip; first = length entries; second = length wants }
 
   -- the groups that a message brings
   abbrev pub groups_of : Message T Kind Op Delta ghosts → List (Keyed (Group T Kind Op Delta ghosts))
   groups_of (Deltas groups entries) = groups
-  groups_of (Nack keys) = []
-  groups_of (Gossip entries wants) = []
+  groups_of _ = []
 
   -- the entries that a message brings
   abbrev pub entries_of : Message T Kind Op Delta ghosts → List (Keyed (Envelope T Kind Op Delta))
   entries_of (Deltas groups entries) = entries
-  entries_of (Nack keys) = []
   entries_of (Gossip entries wants) = entries
+  entries_of _ = []
 
   -- the keys whose entries it asks for
   abbrev pub names_of : Message T Kind Op Delta ghosts → List Text
-  names_of (Deltas groups entries) = []
   names_of (Nack keys) = keys
   names_of (Gossip entries wants) = wants
+  names_of _ = []
+
+  -- the digests that it brings
+  abbrev pub digests_of : Message T Kind Op Delta ghosts → List (Keyed (List ℕ))
+  digests_of (Status digests) = digests
+  digests_of _ = []

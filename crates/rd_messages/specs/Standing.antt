@@ -2,7 +2,7 @@
 --     StandsForEntry, StandsForKeyed        an envelope of a key stands for an entry
 --     StandsForKeyedGroup        a delta of a key, with its numbers, is a group of the key's log
 --     StandsForMessage, StandsForPosts        each group and each entry that is sent stands for the model's, and the keys are equal
-use Rattle.std.specs.Prelude.{◌≡◌, List, Bool, true}
+use Rattle.std.specs.Prelude.{◌≡◌, ℕ, List, Bool, true, map}
 use Rattle.std.specs.List.{AllZip}
 use Rattle.rd_history.specs.Texts.{Text}
 use Rattle.rd_history.specs.Vector.{VersionVector, IdentitySet}
@@ -18,8 +18,12 @@ use Rattle.rd_envelope.specs.Images.{StandsFor, StandsForGroup}
 use Rattle.rd_envelope.specs.Words.{parts_of, group_parts}
 use Rattle.rd_messages.specs.declared.message.Keyed.{Keyed}
 use Rattle.rd_messages.specs.declared.message.Message.{Message}
-use Rattle.rd_messages.specs.declared.message.Message.TheVariants.{Deltas, Nack, Gossip}
+use Rattle.rd_messages.specs.declared.message.Message.TheVariants.{Deltas, Nack, Status, Gossip}
 use Rattle.rd_messages.specs.declared.message.Post.{Post}
+
+-- a digest of a key, as the model says it
+abbrev pub digest_told : Keyed (List ℕ) → sending.Keyed (List ℕ)
+digest_told keyed = record { key = keyed.key; item = keyed.item }
 
 module _ {T Kind Op Delta : Type 0} (kind_of : T → Kind) (IsDataOf : T → History Op → VersionVector → IdentitySet → Type 0) (kinds : Text → Kind) (logs : Text → History Op) where
   -- an envelope of a key stands for an entry
@@ -54,6 +58,7 @@ module _ {T Kind Op Delta : Type 0} {ghosts : Ghosts T Kind Op Delta} (kind_of :
   abbrev pub StandsForMessage : Message T Kind Op Delta ghosts → Sent Op → Type 0
   StandsForMessage (Deltas groups entries) message = StandsForDeltas groups entries message
   StandsForMessage (Nack keys) message = message ≡ Sent.Nack keys
+  StandsForMessage (Status digests) message = message ≡ Sent.Status (map digest_told digests)
   StandsForMessage (Gossip entries wants) message = StandsForGossip kind_of IsDataOf kinds logs entries wants message
 
   pub record StandsForPost (post : Post T Kind Op Delta ghosts) (sent : sending.Post Op) : Type 0 where

@@ -1,6 +1,6 @@
 ghost use Rattle.std.specs.Prelude.{◌≡◌, IfOk};
 
-use crate::message::{Entries, Groups, Keyed, Texts};
+use crate::message::{Digests, Entries, Groups, Keyed, Texts};
 use rd_bytes::{Items, Memory};
 use rd_lattice::Replica;
 use std::alloc::Global;
@@ -44,6 +44,19 @@ pub(crate) fn copy_texts(alloc: Global, texts: &Texts) -> Result<Texts, Memory>
     let mut copies = Items::new(alloc);
     for text in texts.as_slice() {
         copies.push(text.copy(alloc)?)?;
+    }
+    Ok(copies)
+}
+
+/// Equal digests.
+pub(crate) fn copy_digests(alloc: Global, digests: &Digests) -> Result<Digests, Memory>
+    ensures { IfOk result (λ copy. copy ≡ digests.now) }
+{
+    let mut copies = Items::new(alloc);
+    for keyed in digests.as_slice() {
+        let key = keyed.key.copy(alloc)?;
+        let item = keyed.item;
+        copies.push(Keyed { key, item })?;
     }
     Ok(copies)
 }

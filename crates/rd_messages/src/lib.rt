@@ -5,5 +5,5 @@ mod copying;
 mod message;
 mod sketch;
 
-pub use message::{Entries, Groups, Keyed, Message, Post, Posts, Texts};
+pub use message::{Digest, Digests, Entries, Groups, Keyed, Message, Post, Posts, Texts};
 pub use sketch::{MessageKind, Sketch};

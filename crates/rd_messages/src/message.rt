@@ -1,4 +1,4 @@
-use crate::copying::{copy_entries, copy_groups, copy_texts};
+use crate::copying::{copy_digests, copy_entries, copy_groups, copy_texts};
 use crate::sketch::{MessageKind, Sketch};
 use rd_bytes::{Items, Memory, Text};
 use rd_envelope::{Envelope, Group};
@@ -22,6 +22,12 @@ pub type Entries<T> = Items<Keyed<Envelope<T>>>;
 /// Keys, in their order.
 pub type Texts = Items<Text>;
 
+/// The SHA-1 of an entry's spelling.
+pub type Digest = [u8; 20];
+
+/// Digests of entries, in key order.
+pub type Digests = Items<Keyed<Digest>>;
+
 /// What members send each other.
 #[derive(Drop)]
 pub enum Message<T: Replica> {
@@ -33,6 +39,10 @@ pub enum Message<T: Replica> {
     /// Keys at which the sender lacked records that a group needs.
     Nack {
         keys: Texts,
+    },
+    /// The digests of the sender's entries that have records.
+    Status {
+        digests: Digests,
     },
     /// Whole entries, and keys whose entries the sender wants.
     Gossip {
@@ -53,7 +63,7 @@ pub type Posts<T> = Items<Post<T>>;
 
 impl<T: Replica> Message<T> {
     ghost use Rattle.std.specs.Prelude.{◌≡◌, IfOk};
-    ghost use Rattle.rd_messages.specs.Sketches.{sketch_of, groups_of, entries_of, names_of};
+    ghost use Rattle.rd_messages.specs.Sketches.{sketch_of, groups_of, entries_of, names_of, digests_of};
 
     /// What is printed of the message.
     pub fn sketch(&self) -> Sketch
@@ -68,6 +78,11 @@ impl<T: Replica> Message<T> {
             Message::Nack { keys } => Sketch {
                 kind: MessageKind::Nack,
                 first: keys.len(),
+                second: 0,
+            },
+            Message::Status { digests } => Sketch {
+                kind: MessageKind::Status,
+                first: digests.len(),
                 second: 0,
             },
             Message::Gossip { entries, wants } => Sketch {
@@ -95,7 +110,7 @@ impl<T: Replica> Message<T> {
         match self {
             Message::Deltas { entries, .. } => entries.as_slice(),
             Message::Gossip { entries, .. } => entries.as_slice(),
-            Message::Nack { .. } => &[],
+            _ => &[],
         }
     }
 
@@ -104,9 +119,19 @@ impl<T: Replica> Message<T> {
         ensures { result.now ≡ names_of self.now }
     {
         match self {
-            Message::Deltas { .. } => &[],
             Message::Nack { keys } => keys.as_slice(),
             Message::Gossip { wants, .. } => wants.as_slice(),
+            _ => &[],
+        }
+    }
+
+    /// The digests that the message brings.
+    pub fn digests(&self) -> &[Keyed<Digest>]
+        ensures { result.now ≡ digests_of self.now }
+    {
+        match self {
+            Message::Status { digests } => digests.as_slice(),
+            _ => &[],
         }
     }
 
@@ -123,6 +148,10 @@ impl<T: Replica> Message<T> {
             Message::Nack { keys } => {
                 let keys = copy_texts(alloc, keys)?;
                 Ok(Message::Nack { keys })
+            }
+            Message::Status { digests } => {
+                let digests = copy_digests(alloc, digests)?;
+                Ok(Message::Status { digests })
             }
             Message::Gossip { entries, wants } => {
                 let entries = copy_entries(alloc, entries)?;

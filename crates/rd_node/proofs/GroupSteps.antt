@@ -1,14 +1,14 @@
 -- What a group does to a member of the model.
-use Rattle.std.proofs.Common.{◌≡◌, ℕ, List, [], ◌∷◌, ◌++◌, refl, sym, ap, ◌∙◌, subst, Bool, true, false, Option, Some, None}
+use Rattle.std.proofs.Common.{◌≡◌, List, [], ◌∷◌, ◌++◌, refl, sym, ap, ◌∙◌, subst, Bool, true, false, Option, Some, None}
 use Rattle.std.specs.Prelude.{map, fold, if◌then◌else◌, option_map, find}
 use Rattle.std.specs.Str.{bytes_eq}
 use Rattle.std.proofs.lemmas.List.{map-append, append-nil}
 use Rattle.rd_history.specs.Texts.{Text}
-use Rattle.rd_model.specs.Entry.{Entry, Group, Judgement, judged, with_group}
+use Rattle.rd_model.specs.Entry.{Group, Judgement, judged, with_group}
 use Rattle.rd_model.specs.Entry.Judgement.{Wanted, Stale, Missing}
 use Rattle.rd_model.specs.Message.{Keyed}
-use Rattle.rd_model.specs.Node.{KeyDecl, KeyState, Node, state_of, key_state, with_entry}
-use Rattle.rd_model.specs.Step.{KeyGap, AfterGroups, is_strange_group, with_judged, with_taken_group, take_group}
+use Rattle.rd_model.specs.Node.{KeyDecl, KeyState, state_of, key_state}
+use Rattle.rd_model.specs.Step.{AfterGroups, is_strange_group, with_judged, with_taken_group, take_group}
 use Rattle.rd_model.proofs.Steps.{with_text_at-same}
 use Rattle.rd_node.specs.Taking.{judged_for, entry_after, lacking_in, gap_told, gaps_at}
 

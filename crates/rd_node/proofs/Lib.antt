@@ -4,10 +4,13 @@ pub mod Numbers
 pub mod Nodes
 pub mod Vectors
 pub mod Standing
+pub mod Gossiping
 pub mod Starting
 pub mod Written
 pub mod Stepping
 pub mod Flushes
+pub mod Updating
+pub mod Grouped
 pub mod Strange
 pub mod GroupSteps
 pub mod Working
@@ -15,4 +18,5 @@ pub mod Takings
 pub mod Replying
 pub mod Naming
 pub mod TakingSteps
+pub mod GossipSteps
 pub mod Quiet

@@ -6,7 +6,6 @@ use Rattle.std.proofs.lemmas.List.{append-nil}
 use Rattle.rd_history.specs.Texts.{Text, contains_text}
 use Rattle.rd_history.specs.Vector.{VersionVector, IdentitySet}
 use Rattle.rd_history.specs.History.{History}
-use Rattle.rd_model.specs.View.{is_member}
 use Rattle.rd_model.specs.Entry as model
 use Rattle.rd_model.specs.Entry.{has_records, is_unchanged}
 use Rattle.rd_model.specs.DataType.{Replication}
@@ -21,11 +20,10 @@ use Rattle.rd_lattice.specs.declared.replica.Replica.{Ghosts}
 use Rattle.rd_envelope.specs.declared.envelope.Envelope.{Envelope}
 use Rattle.rd_messages.specs.declared.message.Keyed.{Keyed}
 use Rattle.rd_messages.specs.declared.message.Message.{Message}
-use Rattle.rd_messages.specs.declared.message.Message.TheVariants.{Deltas, Nack, Gossip}
-use Rattle.rd_messages.specs.declared.message.Post.{Post}
+use Rattle.rd_messages.specs.declared.message.Message.TheVariants.{Deltas, Nack, Status, Gossip}
 use Rattle.rd_messages.specs.Sketches.{groups_of, entries_of, names_of}
 use Rattle.rd_messages.specs.Standing.{StandsForKeyed, StandsForKeyedGroup, StandsForMessage, StandsForPost, StandsForPosts}
-use Rattle.rd_node.specs.Answers.{reply_to, only_asks, nack_of, gossip_of, answers_of}
+use Rattle.rd_node.specs.Answers.{reply_to, is_status, only_asks, nack_of, gossip_of, answers_of}
 use Rattle.rd_node.specs.declared.key.KeyState.{KeyState}
 use Rattle.rd_node.specs.Keys.{declared_by}
 use Rattle.rd_node.specs.Taking.{gap_told}
@@ -71,8 +69,8 @@ module _ {Kind Op : Type 0} (D : Replication Kind Op Shown) where
     pub takes : Takes node from sent_groups sent_entries (names_of message) (only_asks message) (taken D node from Fate.NoStore sent)
 
   pub brings : {T Delta : Type 0} {ghosts : Ghosts T Kind Op Delta} (kind_of : T → Kind) (IsDataOf : T → History Op → VersionVector → IdentitySet → Type 0) (kinds : Text → Kind) (logs : Text → History Op) (node : nodes.Node Kind Op Shown) (from : ℕ)
-      (message : Message T Kind Op Delta ghosts) (sent : Sent Op) → StandsForMessage kind_of IsDataOf kinds logs message sent → Brings kind_of IsDataOf kinds logs node from message sent
-  brings kind_of IsDataOf kinds logs node from (Deltas groups entries) sent s =
+      (message : Message T Kind Op Delta ghosts) (sent : Sent Op) → StandsForMessage kind_of IsDataOf kinds logs message sent → is_status message ≡ false → Brings kind_of IsDataOf kinds logs node from message sent
+  brings kind_of IsDataOf kinds logs node from (Deltas groups entries) sent s other =
       let gs = s.sent_groups in
       let es = s.sent_entries in
       let after = after_groups node gs in
@@ -88,14 +86,15 @@ module _ {Kind Op : Type 0} (D : Replication Kind Op Shown) where
           posts = sym (ap (λ named. nack_to D from after.gaps ++ gossip_to D from named []) (none_named (after_entries after.node es)) ∙ append-nil (nack_to D from after.gaps));
         });
       }
-  brings kind_of IsDataOf kinds logs node from (Nack keys) sent s = record {
+  brings kind_of IsDataOf kinds logs node from (Nack keys) sent s other = record {
     sent_groups = [];
     sent_entries = [];
     groups_stand = tt;
     entries_stand = tt;
     takes = subst (λ m. Takes node from [] [] keys true (taken D node from Fate.NoStore m)) (sym s) (record { next = refl; reply = refl; posts = refl; ends = refl });
   }
-  brings kind_of IsDataOf kinds logs node from (Gossip entries wants) sent s = record {
+  brings kind_of IsDataOf kinds logs node from (Status digests) sent s other = absurd (cc other)
+  brings kind_of IsDataOf kinds logs node from (Gossip entries wants) sent s other = record {
     sent_groups = [];
     sent_entries = s.sent_entries;
     groups_stand = tt;

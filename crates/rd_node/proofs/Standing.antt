@@ -18,6 +18,7 @@ use Rattle.rd_kinds.specs.declared.shown.Shown.{Shown}
 use Rattle.rd_lattice.specs.declared.replica.Replica.{Ghosts}
 use Rattle.rd_envelope.specs.Images.{StandsFor}
 use Rattle.rd_envelope.specs.Words.{parts_of}
+use Rattle.rd_deltalog.specs.Images.{StandsForLog}
 use Rattle.rd_node.specs.declared.node.Node.{Node}
 use Rattle.rd_node.specs.declared.key.KeyState.{KeyState}
 use Rattle.rd_node.specs.Keys.{AreDistinct, declared_by}
@@ -78,8 +79,8 @@ module _ {T Kind Op Delta : Type 0} {ghosts : Ghosts T Kind Op Delta} (kind_of :
   undeclared key none = ap (find (λ (decl : nodes.KeyDecl Kind). bytes_eq decl.name key)) s.keys ∙ find-map (λ (decl : nodes.KeyDecl Kind). bytes_eq decl.name key) declared_by code.keys.items ∙ ap (option_map declared_by) none
 
   -- what is held of a key at its place
-  pub held_at : (index : ℕ) (at : KeyState T Kind Op Delta) → index < length code.keys.items → at ≡ get_or code.keys.items index at → StandsForKey kind_of IsDataOf kinds logs at (node.entries at.name) (node.flushed at.name)
-  held_at index at within is = subst (λ (state : KeyState T Kind Op Delta). StandsForKey kind_of IsDataOf kinds logs state (node.entries state.name) (node.flushed state.name)) (sym is) (s.entries index at within)
+  pub held_at : (index : ℕ) (at : KeyState T Kind Op Delta) → index < length code.keys.items → at ≡ get_or code.keys.items index at → StandsForKey kind_of IsDataOf ghosts.IsDeltaOf kinds logs at (node.entries at.name) (node.flushed at.name)
+  held_at index at within is = subst (λ (state : KeyState T Kind Op Delta). StandsForKey kind_of IsDataOf ghosts.IsDeltaOf kinds logs state (node.entries state.name) (node.flushed state.name)) (sym is) (s.entries index at within)
 
   -- a key that is found is declared with its kind
   pub has_key : (key : Text) (index : ℕ) (at : KeyState T Kind Op Delta) → IsFound (λ (state : KeyState T Kind Op Delta). bytes_eq state.name key) code.keys.items index → at ≡ get_or code.keys.items index at → HasKey node at.name (kind_of at.entry.value)
@@ -104,25 +105,26 @@ module _ {T Kind Op Delta : Type 0} {ghosts : Ghosts T Kind Op Delta} (kind_of :
     members = s.members ∙ sym members;
     keys = s.keys ∙ ap (map declared_by) (sym same);
     distinct = subst (λ items. AreDistinct (map (λ (state : KeyState T Kind Op Delta). state.name) items)) (sym same) s.distinct;
-    entries = subst (All (λ (state : KeyState T Kind Op Delta). StandsForKey kind_of IsDataOf kinds logs state (node.entries state.name) (node.flushed state.name))) (sym same) s.entries;
+    entries = subst (All (λ (state : KeyState T Kind Op Delta). StandsForKey kind_of IsDataOf ghosts.IsDeltaOf kinds logs state (node.entries state.name) (node.flushed state.name))) (sym same) s.entries;
     steps = ap (λ n. n + 1) s.steps ∙ sym steps;
   })
 
   -- a step that changes one key's entry
   pub stands_at : (new : Node T Kind Op Delta ghosts) (key : Text) (index : ℕ) (at state : KeyState T Kind Op Delta) (next : nodes.Node Kind Op Shown) → ChangesOnly node key next
       → new.id ≡ code.id → new.view ≡ code.view → new.members.items ≡ code.members.items → new.keys.items ≡ set code.keys.items index state → new.steps ≡ code.steps + 1
-      → index < length code.keys.items → at ≡ get_or code.keys.items index at → at.name ≡ key → state ≡ record at { entry = state.entry }
+      → index < length code.keys.items → at ≡ get_or code.keys.items index at → at.name ≡ key → state ≡ record at { entry = state.entry; log = state.log }
       → kind_of state.entry.value ≡ kind_of at.entry.value
-      → StandsFor IsDataOf (parts_of state.entry) (logs at.name) (next.entries at.name)
+      → StandsFor IsDataOf (parts_of state.entry) (logs at.name) (next.entries at.name) → StandsForLog ghosts.IsDeltaOf state.log (logs at.name) (next.entries at.name)
       → StandsForNode kind_of IsDataOf kinds logs new next
-  stands_at new key index at state next only id view members changed steps within is named rest kind image =
+  stands_at new key index at state next only id view members changed steps within is named rest kind image logged =
       let same_name : state.name ≡ name_of (get_or code.keys.items index at) = ap name_of rest ∙ ap name_of is in
       let same_decl : declared_by state ≡ declared_by (get_or code.keys.items index at) = ap declared_by rest ∙ ap declared_by is in
       let held = held_at index at within is in
       let flushed : (name : Text) → next.flushed name ≡ node.flushed name = λ name. ap (λ (n : nodes.Node Kind Op Shown). n.flushed name) only.only in
-      let here : StandsForKey kind_of IsDataOf kinds logs state (next.entries state.name) (next.flushed state.name) = subst (λ (state : KeyState T Kind Op Delta). StandsForKey kind_of IsDataOf kinds logs state (next.entries state.name) (next.flushed state.name)) (sym rest) (record {
+      let here : StandsForKey kind_of IsDataOf ghosts.IsDeltaOf kinds logs state (next.entries state.name) (next.flushed state.name) = subst (λ (state : KeyState T Kind Op Delta). StandsForKey kind_of IsDataOf ghosts.IsDeltaOf kinds logs state (next.entries state.name) (next.flushed state.name)) (sym rest) (record {
         kind = held.kind;
         held = record { kind = kind ∙ held.held.kind; image = image };
+        logged = logged;
         sent = λ i. held.sent i ∙ ap (λ f. f i) (sym (flushed at.name));
       }) in
       record {
@@ -131,19 +133,19 @@ module _ {T Kind Op Delta : Type 0} {ghosts : Ghosts T Kind Op Delta} (kind_of :
         members = ap (λ (n : nodes.Node Kind Op Shown). identities_of n.view) only.only ∙ s.members ∙ sym members;
         keys = ap (λ (n : nodes.Node Kind Op Shown). n.keys) only.only ∙ s.keys ∙ sym (ap (map declared_by) changed ∙ map-set_same declared_by code.keys.items index state at same_decl);
         distinct = subst AreDistinct (sym (ap (map name_of) changed ∙ map-set_same name_of code.keys.items index state at same_name)) s.distinct;
-        entries = subst (All (λ (state : KeyState T Kind Op Delta). StandsForKey kind_of IsDataOf kinds logs state (next.entries state.name) (next.flushed state.name))) (sym changed)
+        entries = subst (All (λ (state : KeyState T Kind Op Delta). StandsForKey kind_of IsDataOf ghosts.IsDeltaOf kinds logs state (next.entries state.name) (next.flushed state.name))) (sym changed)
             (λ k d within'. elim (cases_eq k index) [
-              | inl e ↦ subst (λ (state : KeyState T Kind Op Delta). StandsForKey kind_of IsDataOf kinds logs state (next.entries state.name) (next.flushed state.name))
+              | inl e ↦ subst (λ (state : KeyState T Kind Op Delta). StandsForKey kind_of IsDataOf ghosts.IsDeltaOf kinds logs state (next.entries state.name) (next.flushed state.name))
                   (sym (ap (λ j. get_or (set code.keys.items index state) j d) e ∙ get_or-set_same code.keys.items index state d within)) here
               | inr ne ↦
                   let inside : k < length code.keys.items = (let l = length-set code.keys.items index state in omega arith) in
                   let other : name_of (get_or code.keys.items k d) ≢ key = (λ e. other_name code.keys.items s.distinct k index d at inside within ne (e ∙ sym named ∙ ap name_of is)) in
                   let old : KeyState T Kind Op Delta = get_or code.keys.items k d in
                   let kept = s.entries k d inside in
-                  subst (λ (state : KeyState T Kind Op Delta). StandsForKey kind_of IsDataOf kinds logs state (next.entries state.name) (next.flushed state.name))
+                  subst (λ (state : KeyState T Kind Op Delta). StandsForKey kind_of IsDataOf ghosts.IsDeltaOf kinds logs state (next.entries state.name) (next.flushed state.name))
                   (sym (get_or-set_other code.keys.items index k state d ne))
-                  (subst (λ entry. StandsForKey kind_of IsDataOf kinds logs (get_or code.keys.items k d) entry (next.flushed (name_of (get_or code.keys.items k d)))) (sym (only.others (name_of (get_or code.keys.items k d)) (apart _ key other)))
-                  (subst (λ f. StandsForKey kind_of IsDataOf kinds logs (get_or code.keys.items k d) (node.entries (name_of (get_or code.keys.items k d))) f) (sym (flushed (name_of (get_or code.keys.items k d)))) kept))
+                  (subst (λ entry. StandsForKey kind_of IsDataOf ghosts.IsDeltaOf kinds logs (get_or code.keys.items k d) entry (next.flushed (name_of (get_or code.keys.items k d)))) (sym (only.others (name_of (get_or code.keys.items k d)) (apart _ key other)))
+                  (subst (λ f. StandsForKey kind_of IsDataOf ghosts.IsDeltaOf kinds logs (get_or code.keys.items k d) (node.entries (name_of (get_or code.keys.items k d))) f) (sym (flushed (name_of (get_or code.keys.items k d)))) kept))
             ]);
         steps = ap (λ (n : nodes.Node Kind Op Shown). n.steps) only.only ∙ ap (λ n. n + 1) s.steps ∙ sym steps;
       }

@@ -21,21 +21,30 @@ use Rattle.rd_kinds.specs.declared.shown.Shown.{Shown}
 use Rattle.rd_lattice.specs.declared.replica.Replica.{Ghosts}
 use Rattle.rd_envelope.specs.Images.{StandsFor}
 use Rattle.rd_envelope.specs.Words.{parts_of}
+use Rattle.rd_deltalog.specs.Contents.{LogParts}
+use Rattle.rd_deltalog.specs.Images.{StandsForLog}
 use Rattle.rd_node.specs.declared.node.Node.{Node}
 use Rattle.rd_node.specs.declared.key.KeyDecl.{KeyDecl}
 use Rattle.rd_node.specs.declared.key.KeyState.{KeyState}
-use Rattle.rd_node.specs.Own.{HasFewOwn, IsUnpruned}
+use Rattle.rd_node.specs.Own.{HasFewOwn, IsUnpruned, AreLogged}
 use Rattle.rd_node.specs.Fresh.{IsFresh}
 use Rattle.rd_node.specs.Keys.{AreDistinct, AreOfKinds, declared, declared_by}
 use Rattle.rd_node.specs.Members.{StandsForNode}
 use Rattle.rd_node.proofs.Standing.{find-map}
 
-module _ {T Kind Op Delta : Type 0} (kind_of : T → Kind) (IsDataOf : T → History Op → VersionVector → IdentitySet → Type 0) (id : ℕ) (states : List (KeyState T Kind Op Delta)) (fresh : All (IsFresh kind_of IsDataOf) states) where
+module _ {T Kind Op Delta : Type 0} (kind_of : T → Kind) (IsDataOf : T → History Op → VersionVector → IdentitySet → Type 0) (IsDeltaOf : Delta → History Op → ℕ → ℕ → ℕ → Type 0) (id : ℕ) (states : List (KeyState T Kind Op Delta)) (fresh : All (IsFresh kind_of IsDataOf IsDeltaOf id) states) where
   pub few_fresh : (steps : ℕ) → HasFewOwn id steps states
   few_fresh steps k d within = let e = ap (λ (m : Numbers). number_at m id) (fresh k d within).versions ∙ number_at-empty id in omega arith
 
   pub unpruned_fresh : IsUnpruned id states
   unpruned_fresh k d within = ap (λ (m : Marks). performed_in m id) (fresh k d within).marks ∙ ap is_performed (get-empty nat_cmp id)
+
+  pub logged_fresh : AreLogged kind_of id states
+  logged_fresh k d within = let f = fresh k d within in record {
+    origin = ap (λ (parts : LogParts Kind Delta). parts.origin) f.log;
+    kind = ap (λ (parts : LogParts Kind Delta). parts.kind) f.log ∙ sym f.kind_is;
+    last = ap (λ (parts : LogParts Kind Delta). parts.last) f.log ∙ sym (ap (λ (m : Numbers). number_at m id) f.versions ∙ number_at-empty id);
+  }
 
 -- no key is durable, so nothing was loaded
 nothing_loaded : {T Kind Op Delta : Type 0} (id : ℕ) (view : View) (decls : List (KeyDecl T Kind Op Delta)) (name : Text) → (loaded_node {Op = Op} {Shown = Shown} (map declared decls) id view []).entries name ≡ empty_entry
@@ -49,7 +58,7 @@ nothing_loaded {T} {Kind} {Op} {Delta} id view decls name =
 module _ {T Kind Op Delta : Type 0} {ghosts : Ghosts T Kind Op Delta} (kind_of : T → Kind) (IsDataOf : T → History Op → VersionVector → IdentitySet → Type 0) (kinds : Text → Kind) (logs : Text → History Op) where
   -- its keys are those that are declared, and fresh
   pub stands_first : (code : Node T Kind Op Delta ghosts) (decls : List (KeyDecl T Kind Op Delta)) (view : View)
-      → map declared_by code.keys.items ≡ map declared decls → All (IsFresh kind_of IsDataOf) code.keys.items → AreDistinct (map (λ (decl : KeyDecl T Kind Op Delta). decl.key) decls)
+      → map declared_by code.keys.items ≡ map declared decls → All (IsFresh kind_of IsDataOf ghosts.IsDeltaOf code.id) code.keys.items → AreDistinct (map (λ (decl : KeyDecl T Kind Op Delta). decl.key) decls)
       → ((key : Text) → IsHistory (logs key)) → AreOfKinds kinds decls
       → view.number ≡ code.view → identities_of view ≡ code.members.items → code.steps ≡ 0
       → StandsForNode kind_of IsDataOf kinds logs code (loaded_node (map declared decls) code.id view [])
@@ -73,6 +82,7 @@ module _ {T Kind Op Delta : Type 0} {ghosts : Ghosts T Kind Op Delta} (kind_of :
             record {
               kind = kind;
               held = record { kind = f.kind_is ∙ sym kind; image = subst (λ (entry : Entry Op). StandsFor IsDataOf (parts_of state.entry) (logs state.name) entry) (sym (nothing_loaded code.id view decls state.name)) (f.image (logs state.name) (histories state.name)) };
+              logged = subst (λ (entry : Entry Op). StandsForLog ghosts.IsDeltaOf state.log (logs state.name) entry) (sym (nothing_loaded code.id view decls state.name)) (f.logged (logs state.name) (histories state.name));
               sent = λ i. ap (λ (m : Numbers). number_at m i) f.sent ∙ number_at-empty i;
             };
         steps = sym steps;

@@ -13,11 +13,12 @@ use Rattle.rd_markers.specs.Marks.{performed_in}
 use Rattle.rd_kinds.specs.declared.shown.Shown.{Shown}
 use Rattle.rd_lattice.specs.declared.replica.Replica.{Ghosts}
 use Rattle.rd_envelope.specs.Words.{parts_of}
+use Rattle.rd_deltalog.specs.Contents.{LogParts}
 use Rattle.rd_node.specs.declared.node.Node.{Node}
 use Rattle.rd_node.specs.declared.key.KeyState.{KeyState}
 use Rattle.rd_node.specs.declared.change.Change.{Change}
 use Rattle.rd_node.specs.declared.change.Change.TheVariants.{Same, Entry, Flushed}
-use Rattle.rd_node.specs.Own.{HasFewOwn, IsUnpruned}
+use Rattle.rd_node.specs.Own.{HasFewOwn, IsUnpruned, IsLogged, AreLogged}
 use Rattle.rd_node.specs.Keys.{AreDistinct, declared_by}
 use Rattle.rd_node.specs.Sending.{own_number}
 use Rattle.rd_node.specs.Changes.{changed, AreChanged, AreMade}
@@ -47,17 +48,39 @@ module _ {T Kind Op Delta : Type 0} where
       let here : AreChanged keys.items changes new = subst (λ (xs : List (KeyState T Kind Op Delta)). AreChanged xs changes new) is after in
       subst (AreChanged keys.items changes) (sym (with_items_is keys new (here.same_length ∙ sym keys.ok.0))) here
 
-  -- own numbers that don't grow stay small
+  same_log : (state : KeyState T Kind Op Delta) (change : Change T Kind Op Delta) → (changed state change).log ≡ state.log
+  same_log state Same = refl
+  same_log state (Entry entry) = refl
+  same_log state (Flushed flushed) = refl
+
+  -- own numbers that stay are small later
   pub few_changed : (Makes : KeyState T Kind Op Delta → Change T Kind Op Delta → Type 0) (id steps later : ℕ) (old new : List (KeyState T Kind Op Delta)) (changes : List (Change T Kind Op Delta)) → steps ≤ later
-      → ((state : KeyState T Kind Op Delta) (change : Change T Kind Op Delta) → Makes state change → own_number id (changed state change) ≤ own_number id state)
-      → AreMade Makes old changes → AreChanged old changes new → HasFewOwn id steps old → HasFewOwn id later new
-  few_changed Makes id steps later old new changes more no_more made after few k d within =
+      → ((state : KeyState T Kind Op Delta) (change : Change T Kind Op Delta) → Makes state change → performed_in (parts_of state.entry).marks id ≡ false → own_number id (changed state change) ≡ own_number id state)
+      → AreMade Makes old changes → AreChanged old changes new → IsUnpruned id old → HasFewOwn id steps old → HasFewOwn id later new
+  few_changed Makes id steps later old new changes more same made after unpruned few k d within =
       let inside : k < length old = (let l = after.same_length in omega arith) in
       let is = after.each k d Same inside in
-      let grown = no_more _ _ (made.made k d Same inside) in
+      let stays = same _ _ (made.made k d Same inside) (unpruned k d inside) in
       let e = ap (own_number id) is in
       let before = few k d inside in
-      omega (arith, e, grown, before)
+      omega (arith, e, stays, before)
+
+  -- and the logs are still the member's own
+  pub logged_changed : (kind_of : T → Kind) (Makes : KeyState T Kind Op Delta → Change T Kind Op Delta → Type 0) (id : ℕ) (old new : List (KeyState T Kind Op Delta)) (changes : List (Change T Kind Op Delta))
+      → ((state : KeyState T Kind Op Delta) (change : Change T Kind Op Delta) → Makes state change → performed_in (parts_of state.entry).marks id ≡ false → own_number id (changed state change) ≡ own_number id state)
+      → ((state : KeyState T Kind Op Delta) (change : Change T Kind Op Delta) → Makes state change → kind_of (changed state change).entry.value ≡ kind_of state.entry.value)
+      → AreMade Makes old changes → AreChanged old changes new → IsUnpruned id old → AreLogged kind_of id old → AreLogged kind_of id new
+  logged_changed kind_of Makes id old new changes same kinds made after unpruned logged k d within =
+      let inside : k < length old = (let l = after.same_length in omega arith) in
+      let state = get_or old k d in
+      let change = get_or changes k Same in
+      let makes = made.made k d Same inside in
+      let before = logged k d inside in
+      subst (IsLogged kind_of id) (sym (after.each k d Same inside)) (record {
+        origin = ap (λ (parts : LogParts Kind Delta). parts.origin) (same_log state change) ∙ before.origin;
+        kind = ap (λ (parts : LogParts Kind Delta). parts.kind) (same_log state change) ∙ before.kind ∙ sym (kinds state change makes);
+        last = ap (λ (parts : LogParts Kind Delta). parts.last) (same_log state change) ∙ before.last ∙ sym (same state change makes (unpruned k d inside));
+      })
 
   pub unpruned_changed : (Makes : KeyState T Kind Op Delta → Change T Kind Op Delta → Type 0) (id : ℕ) (old new : List (KeyState T Kind Op Delta)) (changes : List (Change T Kind Op Delta))
       → ((state : KeyState T Kind Op Delta) (change : Change T Kind Op Delta) → Makes state change → performed_in (parts_of state.entry).marks id ≡ false → performed_in (parts_of (changed state change).entry).marks id ≡ false)
@@ -73,8 +96,8 @@ module _ {T Kind Op Delta : Type 0} {ghosts : Ghosts T Kind Op Delta} (kind_of :
       → new.id ≡ code.id → new.view ≡ code.view → new.members.items ≡ code.members.items → new.steps ≡ code.steps + 1
       → next.identity ≡ node.identity → next.view ≡ node.view → next.keys ≡ node.keys → next.steps ≡ node.steps + 1
       → AreChanged code.keys.items changes new.keys.items
-      → ((k : ℕ) (d : KeyState T Kind Op Delta) → k < length code.keys.items → StandsForKey kind_of IsDataOf kinds logs (get_or code.keys.items k d) (node.entries (get_or code.keys.items k d).name) (node.flushed (get_or code.keys.items k d).name)
-      → StandsForKey kind_of IsDataOf kinds logs (changed (get_or code.keys.items k d) (get_or changes k Same)) (next.entries (get_or code.keys.items k d).name) (next.flushed (get_or code.keys.items k d).name))
+      → ((k : ℕ) (d : KeyState T Kind Op Delta) → k < length code.keys.items → StandsForKey kind_of IsDataOf ghosts.IsDeltaOf kinds logs (get_or code.keys.items k d) (node.entries (get_or code.keys.items k d).name) (node.flushed (get_or code.keys.items k d).name)
+      → StandsForKey kind_of IsDataOf ghosts.IsDeltaOf kinds logs (changed (get_or code.keys.items k d) (get_or changes k Same)) (next.entries (get_or code.keys.items k d).name) (next.flushed (get_or code.keys.items k d).name))
       → StandsForNode kind_of IsDataOf kinds logs new end
   stands_changed new end next same changes id view members steps identity' view' keys' steps' after each =
       subst (λ n. StandsForNode kind_of IsDataOf kinds logs new n) (sym same) (record {
@@ -88,8 +111,8 @@ module _ {T Kind Op Delta : Type 0} {ghosts : Ghosts T Kind Op Delta} (kind_of :
             let inside : k < length code.keys.items = (let l = after.same_length in omega arith) in
             let state = get_or code.keys.items k d in
             let change = get_or changes k Same in
-            subst (λ (state : KeyState T Kind Op Delta). StandsForKey kind_of IsDataOf kinds logs state (next.entries state.name) (next.flushed state.name)) (sym (after.each k d Same inside))
-            (subst (λ name. StandsForKey kind_of IsDataOf kinds logs (changed (get_or code.keys.items k d) (get_or changes k Same)) (next.entries name) (next.flushed name)) (sym (same_name (get_or code.keys.items k d) (get_or changes k Same)))
+            subst (λ (state : KeyState T Kind Op Delta). StandsForKey kind_of IsDataOf ghosts.IsDeltaOf kinds logs state (next.entries state.name) (next.flushed state.name)) (sym (after.each k d Same inside))
+            (subst (λ name. StandsForKey kind_of IsDataOf ghosts.IsDeltaOf kinds logs (changed (get_or code.keys.items k d) (get_or changes k Same)) (next.entries name) (next.flushed name)) (sym (same_name (get_or code.keys.items k d) (get_or changes k Same)))
             (each k d inside (s.entries k d inside)));
         steps = steps' ∙ ap (λ n. n + 1) s.steps ∙ sym steps;
       })

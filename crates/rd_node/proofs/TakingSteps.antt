@@ -1,22 +1,31 @@
 -- What a member stands for after it took a message.
-use Rattle.std.proofs.Common.{◌≡◌, ℕ, ◌<◌, List, length, get_or, refl, sym, ap, ◌∙◌, subst}
+use Rattle.std.proofs.Common.{◌≡◌, ℕ, sym, ap, ◌∙◌, subst, false}
 use Rattle.std.specs.Prelude.{◌==◌}
 use Rattle.std.specs.List.{list_any}
 use Rattle.rd_history.specs.Texts.{Text}
 use Rattle.rd_history.specs.Vector.{VersionVector, IdentitySet}
-use Rattle.rd_history.specs.History.{History}
+use Rattle.rd_history.specs.History.{History, at, versions}
+use Rattle.rd_history.specs.Log.{IsTakenFrom}
 use Rattle.rd_model.specs.View.{is_member}
 use Rattle.rd_model.specs.Entry as model
 use Rattle.rd_model.specs.Node as nodes
 use Rattle.rd_kinds.specs.declared.shown.Shown.{Shown}
+use Rattle.rd_markers.specs.Marks.{performed_in}
 use Rattle.rd_lattice.specs.declared.replica.Replica.{Ghosts}
+use Rattle.rd_envelope.specs.declared.envelope.Envelope.{Envelope}
+use Rattle.rd_envelope.specs.Images.{StandsFor}
+use Rattle.rd_envelope.specs.Words.{parts_of}
+use Rattle.rd_envelope.proofs.Numbers.{kept as kept_number}
+use Rattle.rd_deltalog.specs.Contents.{LogParts}
+use Rattle.rd_deltalog.specs.Images.{StandsForLog}
 use Rattle.rd_node.specs.declared.node.Node.{Node}
 use Rattle.rd_node.specs.declared.key.KeyState.{KeyState}
 use Rattle.rd_node.specs.declared.change.Change.{Change}
 use Rattle.rd_node.specs.declared.change.Change.TheVariants.{Same, Entry, Flushed}
 use Rattle.rd_node.specs.Changes.{changed}
 use Rattle.rd_node.specs.Members.{StandsForKey, StandsForNode}
-use Rattle.rd_node.specs.Taking.{IsKept, LeadsTo, AreHeld}
+use Rattle.rd_node.specs.Own.{IsLogged}
+use Rattle.rd_node.specs.Taking.{KeepsOwn, IsKept, LeadsTo, AreHeld}
 
 module _ {T Kind Op Delta : Type 0} {ghosts : Ghosts T Kind Op Delta} (kind_of : T → Kind) (IsDataOf : T → History Op → VersionVector → IdentitySet → Type 0) (kinds : Text → Kind) (logs : Text → History Op)
     (code : Node T Kind Op Delta ghosts) (node : nodes.Node Kind Op Shown) (s : StandsForNode kind_of IsDataOf kinds logs code node) where
@@ -26,12 +35,30 @@ module _ {T Kind Op Delta : Type 0} {ghosts : Ghosts T Kind Op Delta} (kind_of :
 
   -- what the keys hold when the step begins
   pub held_first : AreHeld kind_of IsDataOf kinds logs code.id code.keys.items node.entries
-  held_first = record { distinct = s.distinct; unpruned = code.unpruned; held = λ k d within. (s.entries k d within).held }
+  held_first = record { distinct = s.distinct; unpruned = code.unpruned; of_kinds = λ k d within. (s.entries k d within).kind; held = λ k d within. (s.entries k d within).held }
 
-module _ {T Kind Op Delta : Type 0} (kind_of : T → Kind) (IsDataOf : T → History Op → VersionVector → IdentitySet → Type 0) (kinds : Text → Kind) (logs : Text → History Op) (id : ℕ) (old new : Text → model.Entry Op) (flushed : Text → VersionVector) where
+-- a log stays that of an entry that counts as many own records
+log_kept : {Kind Delta Op : Type 0} (IsDeltaOf : Delta → History Op → ℕ → ℕ → ℕ → Type 0) (parts : LogParts Kind Delta) (log : History Op) (before after : model.Entry Op) → IsTakenFrom log after.history → at after.history parts.origin ≡ at before.history parts.origin
+    → StandsForLog IsDeltaOf parts log before → StandsForLog IsDeltaOf parts log after
+log_kept IsDeltaOf parts log before after taken same s = record { histories = s.histories; taken = taken; last = s.last ∙ sym same; count = s.count; kept = s.kept }
+
+module _ {T Kind Op Delta : Type 0} (kind_of : T → Kind) (IsDataOf : T → History Op → VersionVector → IdentitySet → Type 0) (IsDeltaOf : Delta → History Op → ℕ → ℕ → ℕ → Type 0) (kinds : Text → Kind) (logs : Text → History Op) (id : ℕ) (old new : Text → model.Entry Op) (flushed : Text → VersionVector) where
+  -- an envelope that counts as many own records
+  own_kept : (one two : Envelope T Kind Op Delta) (log : History Op) (before after : model.Entry Op) → performed_in (parts_of one).marks id ≡ false → KeepsOwn kind_of id one two → StandsFor IsDataOf (parts_of one) log before → StandsFor IsDataOf (parts_of two) log after
+      → at after.history id ≡ at before.history id
+  own_kept one two log before after unpruned kept s t =
+      sym (t.holds.numbers id ∙ kept_number (performed_in (parts_of two).marks) (versions after.history) id (kept.unpruned unpruned)) ∙ kept.own unpruned
+      ∙ s.holds.numbers id ∙ kept_number (performed_in (parts_of one).marks) (versions before.history) id unpruned
+
   -- what is held of a key after the change
-  pub stands_after : (state : KeyState T Kind Op Delta) (change : Change T Kind Op Delta) → IsKept kind_of id state change → LeadsTo IsDataOf logs old new state change
-      → StandsForKey kind_of IsDataOf kinds logs state (old state.name) (flushed state.name) → StandsForKey kind_of IsDataOf kinds logs (changed state change) (new state.name) (flushed state.name)
-  stands_after state Same kept leads s = subst (λ (e : model.Entry Op). StandsForKey kind_of IsDataOf kinds logs state e (flushed state.name)) (sym leads) s
-  stands_after state (Entry entry) kept leads s = record { kind = s.kind; held = record { kind = kept.kind ∙ s.held.kind; image = leads.1 }; sent = s.sent }
-  stands_after state (Flushed sent) kept leads s = absurd leads
+  pub stands_after : (state : KeyState T Kind Op Delta) (change : Change T Kind Op Delta) → performed_in (parts_of state.entry).marks id ≡ false → IsLogged kind_of id state → IsKept kind_of id state change → LeadsTo IsDataOf logs old new state change
+      → StandsForKey kind_of IsDataOf IsDeltaOf kinds logs state (old state.name) (flushed state.name) → StandsForKey kind_of IsDataOf IsDeltaOf kinds logs (changed state change) (new state.name) (flushed state.name)
+  stands_after state Same unpruned own kept leads s = subst (λ (e : model.Entry Op). StandsForKey kind_of IsDataOf IsDeltaOf kinds logs state e (flushed state.name)) (sym leads) s
+  stands_after state (Entry entry) unpruned own kept leads s = record {
+    kind = s.kind;
+    held = record { kind = kept.kind ∙ s.held.kind; image = leads.1 };
+    logged = log_kept IsDeltaOf state.log (logs state.name) (old state.name) (new state.name) leads.1.taken
+        (subst (λ i. at (new state.name).history i ≡ at (old state.name).history i) (sym own.origin) (own_kept state.entry entry (logs state.name) (old state.name) (new state.name) unpruned kept leads.0 leads.1)) s.logged;
+    sent = s.sent;
+  }
+  stands_after state (Flushed sent) unpruned own kept leads s = absurd leads

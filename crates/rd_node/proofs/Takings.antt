@@ -1,5 +1,5 @@
 -- Groups and entries that a member takes, one after another.
-use Rattle.std.proofs.Common.{◌≡◌, ◌≢◌, ℕ, ◌<◌, List, [], ◌∷◌, ◌++◌, length, get_or, refl, sym, ap, ◌∙◌, subst, true, false, Option, None, Some}
+use Rattle.std.proofs.Common.{◌≡◌, ℕ, ◌<◌, List, ◌++◌, length, get_or, sym, ap, ◌∙◌, subst, true, false, Option, None, Some}
 use Rattle.std.specs.Prelude.{map, find, option_map, if◌then◌else◌}
 use Rattle.std.specs.Str.{bytes_eq}
 use Rattle.rd_history.specs.Texts.{Text}
@@ -12,7 +12,7 @@ use Rattle.rd_model.specs.Node as nodes
 use Rattle.rd_model.specs.Node.{state_of, HasKey}
 use Rattle.rd_model.specs.Step.{AfterGroups, is_strange_entry, with_taken_entry, take_entry, take_group}
 use Rattle.rd_model.proofs.Steps.{bytes_eq-same, bytes_eq-tells}
-use Rattle.rd_model.proofs.Taking.{taken_entry, take_entry-only, take_entry-at}
+use Rattle.rd_model.proofs.Taking.{take_entry-only, take_entry-at}
 use Rattle.rd_markers.specs.Marks.{performed_in}
 use Rattle.rd_kinds.specs.declared.shown.Shown.{Shown}
 use Rattle.rd_lattice.specs.declared.replica.Replica.{Ghosts}

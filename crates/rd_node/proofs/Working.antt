@@ -1,6 +1,6 @@
 -- Changes of keys in the course of a step.
-use Rattle.std.proofs.Common.{◌≡◌, ◌≢◌, ℕ, ◌<◌, ◌≤◌, List, [], ◌∷◌, length, get_or, set, refl, sym, ap, ◌∙◌, subst, subst₂, arith, false, not, Option, Some, None, inl, inr}
-use Rattle.std.specs.Prelude.{map, find, option_map, All, IfSome}
+use Rattle.std.proofs.Common.{◌≡◌, ◌≢◌, ℕ, ◌<◌, List, length, get_or, set, refl, sym, ap, ◌∙◌, subst, subst₂, arith, false, not, Option, Some, None, inl, inr}
+use Rattle.std.specs.Prelude.{map, find, option_map, IfSome}
 use Rattle.std.specs.Str.{bytes_eq}
 use Rattle.std.specs.Vec.{with_items}
 use Rattle.std.specs.declared.vec.Vec.{Vec}
@@ -15,19 +15,18 @@ use Rattle.rd_model.specs.Node as nodes
 use Rattle.rd_model.specs.Node.{HasKey}
 use Rattle.rd_model.proofs.Steps.{bytes_eq-same, bytes_eq-tells}
 use Rattle.rd_model.proofs.Taking.{is_unchanged-same}
+use Rattle.rd_vectors.specs.Vectors.{number_at}
 use Rattle.rd_markers.specs.Marks.{performed_in}
-use Rattle.rd_kinds.specs.declared.shown.Shown.{Shown}
 use Rattle.rd_envelope.specs.declared.envelope.Envelope.{Envelope}
 use Rattle.rd_envelope.specs.Images.{StandsFor}
 use Rattle.rd_envelope.specs.Words.{parts_of}
-use Rattle.rd_messages.specs.Standing.{StandsForEntry}
 use Rattle.rd_node.specs.declared.key.KeyState.{KeyState}
 use Rattle.rd_node.specs.declared.change.Change.{Change}
 use Rattle.rd_node.specs.declared.change.Change.TheVariants.{Same, Entry, Flushed}
 use Rattle.rd_node.specs.Keys.{AreDistinct, declared_by}
 use Rattle.rd_node.specs.Sending.{own_number}
 use Rattle.rd_node.specs.Changes.{changed, AreMade}
-use Rattle.rd_node.specs.Taking.{current_of, put_at, KeepsOwn, IsKept, StandsAfter, LeadsTo, AreHeld, IsAtWork}
+use Rattle.rd_node.specs.Taking.{current_of, put_at, KeepsOwn, IsKept, StandsAfter, LeadsTo}
 use Rattle.rd_node.proofs.Lists.{find_one}
 use Rattle.rd_node.proofs.Standing.{find-map, slice_get-map, apart}
 
@@ -46,18 +45,22 @@ module _ {T Kind Op Delta : Type 0} where
   -- WHAT IS KEPT
 
   module _ (kind_of : T → Kind) (id : ℕ) where
-    pub kept_own : (state : KeyState T Kind Op Delta) (change : Change T Kind Op Delta) → IsKept kind_of id state change → own_number id (changed state change) ≤ own_number id state
-    kept_own state change kept = let e = ap (λ (envelope : Envelope T Kind Op Delta). own_number id (record state { entry = envelope })) (changed_entry state change) in let h = kept.own in omega arith
+    pub kept_own : (state : KeyState T Kind Op Delta) (change : Change T Kind Op Delta) → IsKept kind_of id state change
+        → performed_in (parts_of state.entry).marks id ≡ false → own_number id (changed state change) ≡ own_number id state
+    kept_own state change kept before = ap (λ (envelope : Envelope T Kind Op Delta). number_at (parts_of envelope).versions id) (changed_entry state change) ∙ kept.own before
+
+    pub kept_kind : (state : KeyState T Kind Op Delta) (change : Change T Kind Op Delta) → IsKept kind_of id state change → kind_of (changed state change).entry.value ≡ kind_of state.entry.value
+    kept_kind state change kept = ap (λ (envelope : Envelope T Kind Op Delta). kind_of envelope.value) (changed_entry state change) ∙ kept.kind
 
     pub kept_unpruned : (state : KeyState T Kind Op Delta) (change : Change T Kind Op Delta) → IsKept kind_of id state change
         → performed_in (parts_of state.entry).marks id ≡ false → performed_in (parts_of (changed state change).entry).marks id ≡ false
     kept_unpruned state change kept before = ap (λ (envelope : Envelope T Kind Op Delta). performed_in (parts_of envelope).marks id) (changed_entry state change) ∙ kept.unpruned before
 
     kept_same : (envelope : Envelope T Kind Op Delta) → KeepsOwn kind_of id envelope envelope
-    kept_same envelope = record { kind = refl; own = omega arith; unpruned = λ before. before }
+    kept_same envelope = record { kind = refl; own = λ before. refl; unpruned = λ before. before }
 
     pub kept_further : (one two three : Envelope T Kind Op Delta) → KeepsOwn kind_of id one two → KeepsOwn kind_of id two three → KeepsOwn kind_of id one three
-    kept_further one two three a b = record { kind = b.kind ∙ a.kind; own = (let h = a.own in let h' = b.own in omega arith); unpruned = λ before. b.unpruned (a.unpruned before) }
+    kept_further one two three a b = record { kind = b.kind ∙ a.kind; own = λ before. b.own (a.unpruned before) ∙ a.own before; unpruned = λ before. b.unpruned (a.unpruned before) }
 
   -- no change yet, at each place
   unchanged_at : (keys : List (KeyState T Kind Op Delta)) (k : ℕ) (d : KeyState T Kind Op Delta) (e : Change T Kind Op Delta) → k < length keys → get_or (map (λ (state : KeyState T Kind Op Delta). no_change) keys) k e ≡ Same

@@ -10,7 +10,7 @@ use Rattle.rd_lattice.specs.declared.replica.Replica.{Ghosts}
 use Rattle.rd_envelope.specs.declared.envelope.Envelope.{Envelope}
 use Rattle.rd_messages.specs.declared.message.Keyed.{Keyed}
 use Rattle.rd_messages.specs.declared.message.Message.{Message}
-use Rattle.rd_messages.specs.declared.message.Message.TheVariants.{Deltas, Nack, Gossip}
+use Rattle.rd_messages.specs.declared.message.Message.TheVariants.{Deltas, Nack, Status, Gossip}
 use Rattle.rd_messages.specs.declared.message.Post.{Post}
 use Rattle.rd_messages.specs.Standing.{StandsForPosts}
 use Rattle.rd_node.specs.declared.key.KeyState.{KeyState}
@@ -25,10 +25,16 @@ reply_to asks (gap ∷ gaps) changed = Meant.Gap gap.item
 reply_to asks [] changed = if asks then Meant.Taken else (if changed then Meant.Taken else Meant.Already)
 
 module _ {T Kind Op Delta : Type 0} {ghosts : Ghosts T Kind Op Delta} where
+  -- a message that tells digests
+  abbrev pub is_status : Message T Kind Op Delta ghosts → Bool
+  is_status (Status digests) = true
+  is_status _ = false
+
   -- a message that brings nothing, and asks
   abbrev pub only_asks : Message T Kind Op Delta ghosts → Bool
   only_asks (Deltas groups entries) = false
   only_asks (Nack keys) = true
+  only_asks (Status digests) = true
   only_asks (Gossip entries wants) = false
 
   -- the keys with gaps

@@ -1,4 +1,5 @@
 pub mod Own
+pub mod Recording
 pub mod Replies
 pub mod Fresh
 pub mod Keys
@@ -7,3 +8,4 @@ pub mod Sending
 pub mod Changes
 pub mod Taking
 pub mod Answers
+pub mod Gossip

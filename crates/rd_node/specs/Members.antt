@@ -13,11 +13,12 @@ use Rattle.rd_kinds.specs.declared.shown.Shown.{Shown}
 use Rattle.rd_vectors.specs.Vectors.{number_at}
 use Rattle.rd_lattice.specs.declared.replica.Replica.{Ghosts}
 use Rattle.rd_messages.specs.Standing.{StandsForEntry}
+use Rattle.rd_deltalog.specs.Images.{StandsForLog}
 use Rattle.rd_node.specs.declared.key.KeyState.{KeyState}
 use Rattle.rd_node.specs.declared.node.Node.{Node}
 pub use Rattle.rd_node.specs.Keys.{AreDistinct, AreOfKinds, declared, declared_by}
 pub use Rattle.rd_messages.specs.Standing.{StandsForEntry, StandsForKeyed, StandsForKeyedGroup, StandsForMessage, StandsForPost, StandsForPosts}
-pub use Rattle.rd_node.specs.Replies.{whole_entries, meant}
+pub use Rattle.rd_node.specs.Replies.{delta_groups, spelled_groups, meant}
 
 -- WHAT LOGS HAVE
 
@@ -29,20 +30,22 @@ AreTakenFrom logs node = (key : Text) → IsTakenFrom (logs key) (node.entries k
 abbrev pub ArePruneFree : {Op : Type 0} → (Text → History Op) → Type 0
 ArePruneFree {Op} logs = (key : Text) (origin before : ℕ) (r : Record Op) (removed : ℕ) → HasRecord (logs key) origin before r → r.action ≡ Prune removed → ⊥
 
-module _ {T Kind Op Delta : Type 0} (kind_of : T → Kind) (IsDataOf : T → History Op → VersionVector → IdentitySet → Type 0) (kinds : Text → Kind) (logs : Text → History Op) where
-  -- MEMBERS
-
-  -- what is held of a key: the entry, and the own number flushed to each peer
+-- what is held of a key: the entry, its last own records, and the own number flushed to each peer
+module _ {T Kind Op Delta : Type 0} (kind_of : T → Kind) (IsDataOf : T → History Op → VersionVector → IdentitySet → Type 0) (IsDeltaOf : Delta → History Op → ℕ → ℕ → ℕ → Type 0) (kinds : Text → Kind) (logs : Text → History Op) where
   pub record StandsForKey (state : KeyState T Kind Op Delta) (entry : Entry Op) (flushed : VersionVector) : Type 0 where
     pub kind : kinds state.name ≡ state.kind
     pub held : StandsForEntry kind_of IsDataOf kinds logs state.name state.entry entry
+    pub logged : StandsForLog IsDeltaOf state.log (logs state.name) entry
     pub sent : (i : ℕ) → number_at state.flushed i ≡ flushed i
 
+-- MEMBERS
+
+module _ {T Kind Op Delta : Type 0} (kind_of : T → Kind) (IsDataOf : T → History Op → VersionVector → IdentitySet → Type 0) (kinds : Text → Kind) (logs : Text → History Op) where
   pub record StandsForNode {ghosts : Ghosts T Kind Op Delta} (code : Node T Kind Op Delta ghosts) (node : nodes.Node Kind Op Shown) : Type 0 where
     pub identity : node.identity ≡ code.id
     pub view : node.view.number ≡ code.view
     pub members : identities_of node.view ≡ code.members.items
     pub keys : node.keys ≡ map declared_by code.keys.items
     pub distinct : AreDistinct (map (λ (state : KeyState T Kind Op Delta). state.name) code.keys.items)
-    pub entries : All (λ state. StandsForKey state (node.entries state.name) (node.flushed state.name)) code.keys.items
+    pub entries : All (λ state. StandsForKey kind_of IsDataOf ghosts.IsDeltaOf kinds logs state (node.entries state.name) (node.flushed state.name)) code.keys.items
     pub steps : node.steps ≡ code.steps

@@ -1,16 +1,23 @@
 -- What replies of the program mean, and the data type that its members follow.
 use Rattle.std.specs.Prelude.{ℕ, List}
+use Rattle.rd_history.specs.History.{History}
 use Rattle.rd_meanings.specs.Refusal.{Refusal}
 use Rattle.rd_model.specs.Entry.{Entry}
 use Rattle.rd_model.specs.DataType.{DataType, Replication}
 use Rattle.rd_model.specs.Node.{Reply as Meant}
 use Rattle.rd_kinds.specs.declared.shown.Shown.{Shown}
+use Rattle.rd_envelope_codec.specs.Entries.{entry_digest}
+use Rattle.rd_deltalog.specs.Answers.{most_kept}
 use Rattle.rd_node.specs.declared.reply.Reply.{Reply}
 use Rattle.rd_node.specs.declared.reply.Reply.TheVariants as reply
 
--- a data type without delta groups: a flush sends whole entries
-abbrev pub whole_entries : {Kind Op : Type 0} → DataType Kind Op Shown → (Kind → Entry Op → List ℕ) → Replication Kind Op Shown
-whole_entries data_type digest = record { data_type = data_type; digest = digest; log_length = 0 }
+-- a data type whose own records go as delta groups, of which a member keeps the last ones
+abbrev pub delta_groups : {Kind Op : Type 0} → DataType Kind Op Shown → (Kind → Entry Op → List ℕ) → Replication Kind Op Shown
+delta_groups data_type digest = record { data_type = data_type; digest = digest; log_length = most_kept }
+
+-- and whose digests are those of the entries' spellings
+abbrev pub spelled_groups : {Kind Op : Type 0} → DataType Kind Op Shown → (Kind → ℕ) → (Kind → History Op → List ℕ) → Replication Kind Op Shown
+spelled_groups data_type byte_of history_spelled = delta_groups data_type (entry_digest byte_of history_spelled)
 
 abbrev pub meant : Reply → Meant Shown
 meant reply.Done = Meant.Done
@@ -25,3 +32,4 @@ meant reply.Taken = Meant.Taken
 meant reply.Already = Meant.Already
 meant (reply.Gap i) = Meant.Gap i
 meant reply.NotFromMember = Meant.NotFromMember
+meant reply.NotAPeer = Meant.NotAPeer

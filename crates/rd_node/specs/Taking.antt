@@ -1,5 +1,5 @@
 -- What taking a message makes of the entries of the keys.
-use Rattle.std.specs.Prelude.{◌≡◌, ℕ, ◌≤◌, List, [], ◌∷◌, false, ◌||◌, ◌==◌, if◌then◌else◌, Option, None, Some, map, slice_set, All}
+use Rattle.std.specs.Prelude.{◌≡◌, ℕ, List, [], ◌∷◌, false, if◌then◌else◌, Option, None, Some, map, slice_set, All}
 use Rattle.rd_history.specs.Texts.{Text}
 use Rattle.rd_history.specs.Vector.{VersionVector, IdentitySet}
 use Rattle.rd_history.specs.History.{History}
@@ -64,10 +64,10 @@ module _ {T Kind Op Delta : Type 0} where
   put_at changes index None = changes
   put_at changes index (Some entry) = slice_set changes index (Entry entry)
 
-  -- an envelope of the same kind, with no more own records, and not pruned where the first wasn't
+  -- an envelope of the same kind, with as many own records, and not pruned, where the first wasn't
   pub record KeepsOwn (kind_of : T → Kind) (id : ℕ) (old new : Envelope T Kind Op Delta) : Type 0 where
     pub kind : kind_of new.value ≡ kind_of old.value
-    pub own : number_at (parts_of new).versions id ≤ number_at (parts_of old).versions id
+    pub own : performed_in (parts_of old).marks id ≡ false → number_at (parts_of new).versions id ≡ number_at (parts_of old).versions id
     pub unpruned : performed_in (parts_of old).marks id ≡ false → performed_in (parts_of new).marks id ≡ false
 
   abbrev pub IsKept : (T → Kind) → ℕ → KeyState T Kind Op Delta → Change T Kind Op Delta → Type 0
@@ -92,6 +92,7 @@ module _ {T Kind Op Delta : Type 0} (kind_of : T → Kind) (IsDataOf : T → His
   pub record AreHeld (entries : Text → model.Entry Op) : Type 0 where
     pub distinct : AreDistinct (map (λ (state : KeyState T Kind Op Delta). state.name) keys)
     pub unpruned : IsUnpruned id keys
+    pub of_kinds : All (λ (state : KeyState T Kind Op Delta). kinds state.name ≡ state.kind) keys
     pub held : All (λ (state : KeyState T Kind Op Delta). StandsForEntry kind_of IsDataOf kinds logs state.name state.entry (entries state.name)) keys
 
   -- the changes so far lead from these entries to those of a member of the model

@@ -1,4 +1,4 @@
-ghost use Rattle.std.specs.Prelude.{◌≡◌, ◌<◌, length, map, vec_len, IfOk};
+ghost use Rattle.std.specs.Prelude.{◌≡◌, ◌<◌, length, map, slice_index_or, slice_set, vec_len, IfOk};
 ghost use Rattle.rd_node.specs.Changes.{changed, AreChanged};
 ghost use Rattle.rd_node.specs.Taking.{current_of, put_at};
 ghost use Rattle.rd_node.specs.declared.change.Change.TheVariants as change;
@@ -31,6 +31,14 @@ fn write<T: Replica>(state: &mut KeyState<T>, change: Change<T>)
     }
 }
 
+/// Writes the change of the key at a place.
+fn write_at<T: Replica>(keys: &mut [KeyState<T>], index: usize, change: Change<T>)
+    requires { index < length keys.old }
+    ensures { (at : KeyState T T.Kind T.Op T.Delta) × (at ≡ slice_index_or keys.old index at) × (keys.new ≡ slice_set keys.old index (changed at change)) }
+{
+    write(&mut keys[index], change);
+}
+
 /// Writes the changes, one a key, in their order.
 pub(crate) fn write_all<T: Replica>(keys: &mut [KeyState<T>], mut changes: Vec<Change<T>>)
     requires { vec_len changes ≡ length keys.old }
@@ -38,7 +46,7 @@ pub(crate) fn write_all<T: Replica>(keys: &mut [KeyState<T>], mut changes: Vec<C
 {
     while let Some(change) = changes.pop() {
         let index = changes.len();
-        write(&mut keys[index], change);
+        write_at(keys, index, change);
     }
 }
 

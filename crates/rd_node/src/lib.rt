@@ -5,9 +5,11 @@
 mod answering;
 mod change;
 mod entries;
+mod gossip;
 mod groups;
 mod key;
 mod node;
+mod recording;
 mod reply;
 mod sending;
 mod taking;

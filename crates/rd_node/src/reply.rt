@@ -8,7 +8,7 @@ use std::alloc::Global;
 /// What a member replies.
 #[derive(Drop)]
 pub enum Reply {
-    /// The update or the flush was done.
+    /// The update, the flush or the gossip was done.
     Done,
     /// The value of the key.
     Value(Shown),
@@ -32,6 +32,8 @@ pub enum Reply {
     Gap(Id),
     /// The sender is no member.
     NotFromMember,
+    /// The receiver is no other member.
+    NotAPeer,
 }
 
 impl Reply {
@@ -71,7 +73,7 @@ impl From<Memory> for StepError {
     }
 }
 
-/// What a member answers to a message: a reply, and a message to the sender where there is something to tell.
+/// What a member answers: a reply, and messages where there is something to tell.
 #[derive(Drop)]
 pub struct Output<T: Replica> {
     pub reply: Reply,

@@ -1,4 +1,4 @@
-ghost use Rattle.std.specs.Prelude.{◌≡◌, ◌≤◌, ℕ, List, length, map, vec_len, IfOk};
+ghost use Rattle.std.specs.Prelude.{◌≡◌, ◌≤◌, ℕ, false, List, length, map, vec_len, IfOk};
 ghost use Rattle.rd_history.specs.Texts.{Text as Name};
 ghost use Rattle.rd_history.specs.History.{History};
 ghost use Rattle.rd_model.specs.Entry.{Entry};
@@ -6,23 +6,24 @@ ghost use Rattle.rd_model.specs.Message.{Message as Sent};
 ghost use Rattle.rd_model.specs.Node.{Node as Member, Fate};
 ghost use Rattle.rd_model.specs.Step as step;
 ghost use Rattle.rd_kinds.specs.declared.shown.Shown.{Shown};
-ghost use Rattle.rd_messages.specs.Standing.{StandsForMessage};
-ghost use Rattle.rd_node.specs.Replies.{whole_entries};
+ghost use Rattle.rd_messages.specs.Standing.{digest_told, StandsForMessage};
+ghost use Rattle.rd_node.specs.Replies.{delta_groups, spelled_groups};
 ghost use Rattle.rd_node.specs.Keys.{declared_by};
 ghost use Rattle.rd_node.specs.Changes.{AreMade};
 ghost use Rattle.rd_node.specs.Members.{ArePruneFree};
 ghost use Rattle.rd_node.specs.Taking.{IsKept, AreHeld};
-ghost use Rattle.rd_node.specs.Answers.{IsTaken};
+ghost use Rattle.rd_node.specs.Answers.{is_status, IsTaken};
 
 use crate::answering::{answers, named, reply};
 use crate::change::{Change, unchanged};
 use crate::entries::{any_changed, take_entries};
+use crate::gossip::answer;
 use crate::groups::take_groups;
 use crate::key::KeyState;
-use crate::reply::Output;
+use crate::reply::{Output, Reply};
 use rd_bytes::Memory;
-use rd_lattice::Replica;
-use rd_messages::Message;
+use rd_lattice::{Replica, SpelledData};
+use rd_messages::{Digest, Keyed, Message};
 use rd_vectors::Id;
 use std::alloc::Global;
 
@@ -33,8 +34,30 @@ pub(crate) struct MessageTaken<T: Replica> {
     pub(crate) output: Output<T>,
 }
 
-/// Takes a message from a member: its groups, then its entries.
-pub(crate) fn taken<T: Replica>(
+/// Takes digests that a member told, which changes nothing.
+fn compared<T: SpelledData>(
+    alloc: Global,
+    keys: &[KeyState<T>],
+    id: Id,
+    from: Id,
+    digests: &[Keyed<Digest>],
+) -> Result<MessageTaken<T>, Memory>
+    ensures counted { IfOk result (λ taken. vec_len taken.changes ≡ length keys.now) }
+    ensures few { IfOk result (λ taken. length taken.output.posts ≤ 2) }
+    ensures kept { IfOk result (λ taken. AreMade (IsKept T.kind_of id) keys.now taken.changes.items) }
+    ensures image { (kinds : Name → T.Kind) (logs : Name → History T.Op) (node : Member T.Kind T.Op Shown)
+        → AreHeld T.kind_of T.IsDataOf kinds logs id keys.now node.entries → node.keys ≡ map declared_by keys.now
+        → IfOk result (IsTaken T.kind_of T.IsDataOf kinds logs keys.now node (step.taken (spelled_groups T.data_type T.byte_of T.history_spelled) node from Fate.NoStore (Sent.Status (map digest_told digests.now)))) }
+{
+    let changes = unchanged(alloc, keys)?;
+    let posts = answer(alloc, keys, from, digests)?;
+    let reply = Reply::Taken;
+    let output = Output { reply, posts };
+    Ok(MessageTaken { changes, output })
+}
+
+/// Takes what a message brings: its groups, then its entries.
+fn brought<T: Replica>(
     alloc: Global,
     keys: &[KeyState<T>],
     id: Id,
@@ -47,8 +70,8 @@ pub(crate) fn taken<T: Replica>(
     ensures kept { IfOk result (λ taken. AreMade (IsKept T.kind_of id) keys.now taken.changes.items) }
     ensures image { (digest : T.Kind → Entry T.Op → List ℕ) (kinds : Name → T.Kind) (logs : Name → History T.Op) (node : Member T.Kind T.Op Shown) (sent : Sent T.Op)
         → ArePruneFree logs → AreHeld T.kind_of T.IsDataOf kinds logs id keys.now node.entries → node.identity ≡ id → node.view.number ≡ view → node.keys ≡ map declared_by keys.now
-        → StandsForMessage T.kind_of T.IsDataOf kinds logs message.now sent
-        → IfOk result (IsTaken T.kind_of T.IsDataOf kinds logs keys.now node (step.taken (whole_entries T.data_type digest) node from Fate.NoStore sent)) }
+        → StandsForMessage T.kind_of T.IsDataOf kinds logs message.now sent → is_status message.now ≡ false
+        → IfOk result (IsTaken T.kind_of T.IsDataOf kinds logs keys.now node (step.taken (delta_groups T.data_type digest) node from Fate.NoStore sent)) }
 {
     let mut changes = unchanged(alloc, keys)?;
     let gaps = take_groups(alloc, keys, changes.as_mut_slice(), id, message.groups())?;
@@ -66,4 +89,27 @@ pub(crate) fn taken<T: Replica>(
     let posts = answers(alloc, from, gaps.as_slice(), entries)?;
     let output = Output { reply, posts };
     Ok(MessageTaken { changes, output })
+}
+
+/// Takes a message from a member.
+pub(crate) fn taken<T: SpelledData>(
+    alloc: Global,
+    keys: &[KeyState<T>],
+    id: Id,
+    view: u32,
+    from: Id,
+    message: &Message<T>,
+) -> Result<MessageTaken<T>, Memory>
+    ensures counted { IfOk result (λ taken. vec_len taken.changes ≡ length keys.now) }
+    ensures few { IfOk result (λ taken. length taken.output.posts ≤ 2) }
+    ensures kept { IfOk result (λ taken. AreMade (IsKept T.kind_of id) keys.now taken.changes.items) }
+    ensures image { (kinds : Name → T.Kind) (logs : Name → History T.Op) (node : Member T.Kind T.Op Shown) (sent : Sent T.Op)
+        → ArePruneFree logs → AreHeld T.kind_of T.IsDataOf kinds logs id keys.now node.entries → node.identity ≡ id → node.view.number ≡ view → node.keys ≡ map declared_by keys.now
+        → StandsForMessage T.kind_of T.IsDataOf kinds logs message.now sent
+        → IfOk result (IsTaken T.kind_of T.IsDataOf kinds logs keys.now node (step.taken (spelled_groups T.data_type T.byte_of T.history_spelled) node from Fate.NoStore sent)) }
+{
+    match message {
+        Message::Status { digests } => compared(alloc, keys, id, from, digests.as_slice()),
+        _ => brought(alloc, keys, id, view, from, message),
+    }
 }

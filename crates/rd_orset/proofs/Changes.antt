@@ -12,7 +12,7 @@ use Rattle.rd_history.specs.Vector.{VersionVector}
 use Rattle.rd_vectors.specs.declared.id.Dot.{Dot}
 use Rattle.rd_kinds.specs.declared.operation.Op.TheVariants.{Remove}
 use Rattle.rd_growing.specs.Bits.{either_true, left_true, right_true, same_bits, or_none}
-use Rattle.rd_growing.specs.TextLaws.{eq_texts, texts_eq}
+use Rattle.rd_bytes.proofs.TextLaws.{eq_texts, texts_eq}
 use Rattle.rd_growing.specs.TextSetLaws.{same_texts, contains_set, rising_set}
 use Rattle.rd_orset.specs.declared.set.Placed.{Placed}
 use Rattle.rd_orset.specs.declared.set.SetDelta.{SetDelta}

@@ -9,8 +9,8 @@ use Rattle.std.specs.Cmp.Lexicographic.{nat_list_eq_equiv}
 use Rattle.std.proofs.lemmas.List.{drop_more, take_more, take-append-drop, append-nil, map-append, length_push, get_or_default}
 use Rattle.rd_history.specs.Texts.{Text, text_lt, text_set, contains_text}
 use Rattle.rd_growing.specs.Bits.{or_none}
-use Rattle.rd_growing.specs.Texts.{text_order, IsBelowAll, IsRising}
-use Rattle.rd_growing.specs.TextLaws.{order_less, order_equal, lt_trans, lt_never, eq_texts, texts_eq}
+use Rattle.rd_bytes.specs.TextOrder.{text_order, IsBelowAll, IsRising}
+use Rattle.rd_bytes.proofs.TextLaws.{order_less, order_equal, lt_trans, lt_never, eq_texts, texts_eq}
 use Rattle.rd_growing.specs.TextSetLaws.{contains_append, contains_set, rising_set, is_set}
 use Rattle.rd_orset.specs.declared.set.Placed.{Placed}
 use Rattle.rd_orset.specs.Placing.{placed_order, IsBeforeAll, AreDots}

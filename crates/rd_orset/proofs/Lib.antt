@@ -4,3 +4,5 @@ pub mod Merging
 pub mod Others
 pub mod Placings
 pub mod SetsOfDots
+pub mod Loops
+pub mod Runs

@@ -8,8 +8,8 @@ use Rattle.std.specs.declared.cmp.Ordering.TheVariants.{Less, Equal, Greater}
 use Rattle.std.proofs.lemmas.List.{drop_all, drop_more, take_rest}
 use Rattle.rd_history.specs.Texts.{Text, text_lt, contains_text}
 use Rattle.rd_vectors.specs.declared.id.Dot.{Dot}
-use Rattle.rd_growing.specs.Texts.{text_order, IsBelowAll, IsRising}
-use Rattle.rd_growing.specs.TextLaws.{order_less, order_equal, order_greater, less_order, texts_eq, lt_differ_too}
+use Rattle.rd_bytes.specs.TextOrder.{text_order, IsBelowAll, IsRising}
+use Rattle.rd_bytes.proofs.TextLaws.{order_less, order_equal, order_greater, less_order, texts_eq, lt_differ_too}
 use Rattle.rd_growing.specs.TextSetLaws.{absent_before}
 use Rattle.rd_growing.proofs.Merging.{drop_here, rising_drop}
 use Rattle.rd_orset.specs.declared.set.Placed.{Placed}

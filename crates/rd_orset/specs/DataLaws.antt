@@ -1,5 +1,5 @@
 -- Data of histories, joined, absorbed and cleaned; what they hold and name.
-use Rattle.std.proofs.Common.{◌≡◌, ◌≢◌, ◌⊎◌, ℕ, zero, suc, ◌+◌, ◌<◌, ◌≤◌, max, Bool, true, false, not, List, rules, arith, refl, ap, sym, ◌∙◌, subst, ⊎_elim, inl, inr, nat_eq}
+use Rattle.std.proofs.Common.{◌≡◌, ◌≢◌, ◌⊎◌, ℕ, zero, suc, ◌+◌, ◌<◌, ◌≤◌, max, true, false, not, List, rules, arith, refl, ap, sym, ◌∙◌, subst, ⊎_elim, inl, inr, nat_eq}
 use Rattle.std.proofs.lemmas.Bool.{cases_eq, cases_lt, cases_Bool}
 use Rattle.std.proofs.Math.Nat.{max_comm}
 use Rattle.std.specs.Ordering.{nat_cmp}
@@ -22,7 +22,7 @@ use Rattle.rd_orset.specs.Dots.{Dots, contained, is_of, set_joined, set_absorbed
 use Rattle.rd_orset.specs.DotLaws.{same_dots, lacks, lacked, holds, uncleaned, dot_of_any, contains-joined, contains-absorbed, contains-cleaned}
 use Rattle.rd_orset.specs.Live.{Touches, Adds, IsLive, TouchesBy}
 use Rattle.rd_orset.specs.LiveLaws.{Touches-opens}
-use Rattle.rd_orset.specs.DataOf.{AreLiveDots, IsFresh, IsSeenOf, AreDotsWithin}
+use Rattle.rd_orset.specs.DataOf.{AreLiveDots, IsSeenOf, AreDotsWithin}
 
 -- live in a history that holds it, where the other history lacks the record or has it live too
 live_left : (log : History Op) (element : Text) (held also : VersionVector) (origin index : ℕ) → IsConsistentCut log also → IsLive log element held origin index → (also origin ≤ index) ⊎ IsLive log element also origin index → IsLive log element (join held also) origin index

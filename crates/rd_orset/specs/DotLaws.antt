@@ -18,7 +18,7 @@ use Rattle.rd_kinds.specs.SixKinds.{adds, removes}
 use Rattle.rd_kinds.specs.declared.operation.Op.{Op}
 use Rattle.rd_kinds.specs.declared.operation.Op.TheVariants.{Add, Remove}
 use Rattle.rd_growing.specs.Bits.{either_true, left_true, right_true, or_none}
-use Rattle.rd_growing.specs.TextLaws.{eq_texts, texts_eq}
+use Rattle.rd_bytes.proofs.TextLaws.{eq_texts, texts_eq}
 use Rattle.rd_orset.specs.declared.set.SetDelta.{SetDelta}
 use Rattle.rd_orset.specs.Placing.{key}
 use Rattle.rd_orset.specs.Dots.{Dots, contained, is_of, is_named, fresh_of, is_touched, moved, set_joined, set_absorbed, set_combined, set_applied, set_delta_of, set_cleaned, set_pruned}

@@ -1,5 +1,5 @@
 -- Joins and deltas, as sets of dots: no history is known here.
-use Rattle.std.proofs.Common.{◌≡◌, ◌⊎◌, ℕ, ◌<◌, Bool, true, false, not, ◌&&◌, ◌||◌, List, refl, ap, sym, ◌∙◌, ⊎_elim}
+use Rattle.std.proofs.Common.{◌≡◌, ◌⊎◌, ℕ, ◌<◌, Bool, true, false, not, ◌&&◌, ◌||◌, refl, ap, sym, ◌∙◌, ⊎_elim}
 use Rattle.std.specs.FinSet as set
 use Rattle.rd_history.specs.Vector.{VersionVector, join}
 use Rattle.rd_vectors.specs.declared.id.Dot.{Dot}

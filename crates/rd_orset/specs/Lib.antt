@@ -12,3 +12,9 @@ pub mod DataLaws
 pub mod OperationLaws
 pub mod PruneLaws
 pub mod ShownLaws
+pub mod Elements
+pub mod Reading
+pub mod Runs
+pub mod ReadingLaws
+pub mod ElementLaws
+pub mod SpellingLaws

@@ -1,20 +1,20 @@
 -- The live records of a history, as its meaning has them, are those that stand in its log; and the recursion of what touches an element.
-use Rattle.std.proofs.Common.{◌≡◌, ℕ, zero, suc, ◌+◌, ◌<◌, ◌≤◌, List, [], ◌∷◌, Bool, true, false, ◌&&◌, ◌||◌, not, nat_eq, nat_le, Some, rules, arith, refl, ap, sym, ◌∙◌, subst, inl, inr}
+use Rattle.std.proofs.Common.{◌≡◌, ℕ, zero, suc, ◌+◌, ◌<◌, ◌≤◌, List, [], ◌∷◌, Bool, true, false, ◌&&◌, not, nat_le, Some, rules, arith, refl, ap, sym, ◌∙◌, subst, inl, inr}
 use Rattle.std.proofs.lemmas.Bool.{cases_Bool}
 use Rattle.std.specs.Prelude.{slice_get, ◌==◌}
 use Rattle.std.specs.List.{list_any}
 use Rattle.rd_history.specs.Texts.{Text}
 use Rattle.rd_history.specs.Table.{identities}
 use Rattle.rd_history.specs.Vector.{VersionVector}
-use Rattle.rd_history.specs.History.{Action, Record, History, Stamped, cut, stamped_from, all_records, precedes, HasRecord}
+use Rattle.rd_history.specs.History.{Action, Record, History, Stamped, cut, stamped_from, all_records, precedes}
 use Rattle.rd_history.specs.History.Action.{Operation, Prune}
 use Rattle.rd_history.specs.Cuts.{action_of, past_of, record_at, IsConsistentCut}
 use Rattle.rd_history.proofs.PartLaws.{take-take}
 use Rattle.rd_history.proofs.PruneLaws.{IsIn, in_flat_map}
 use Rattle.rd_history.proofs.Bridge.{cut_is_history, past_cut, in_cut, of_cut}
-use Rattle.rd_meanings.specs.ObservedRemove.{SetOperations, is_adding_by, is_live_by, touches_by, touches, is_live}
+use Rattle.rd_meanings.specs.ObservedRemove.{is_adding_by, is_live_by, touches_by, touches, is_live}
 use Rattle.rd_meanings.proofs.EquationsOfMeanings.{touches_equation}
-use Rattle.rd_kinds.specs.SixKinds.{set_operations, adds, removes}
+use Rattle.rd_kinds.specs.SixKinds.{set_operations}
 use Rattle.rd_kinds.specs.declared.operation.Op.{Op}
 use Rattle.rd_growing.specs.RecordedLaws.{any_at, any_of, belongs}
 use Rattle.rd_orset.specs.Tests.{two_of, both_true, both_ways, turned, eq_of, of_eq}

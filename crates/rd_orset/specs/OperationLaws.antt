@@ -1,5 +1,5 @@
 -- One operation more, and deltas of operations.
-use Rattle.std.proofs.Common.{◌≡◌, ◌⊎◌, ℕ, ◌+◌, ◌<◌, ◌≤◌, Bool, true, false, not, ◌&&◌, ◌||◌, List, arith, refl, ap, sym, ◌∙◌, subst, ⊎_elim, inl, inr}
+use Rattle.std.proofs.Common.{◌≡◌, ℕ, ◌+◌, ◌<◌, ◌≤◌, true, false, not, ◌&&◌, ◌||◌, arith, refl, ap, sym, ◌∙◌, subst, ⊎_elim, inl, inr}
 use Rattle.std.proofs.lemmas.Bool.{cases_lt, cases_Bool}
 use Rattle.std.specs.FinSet as set
 use Rattle.rd_history.specs.Texts.{Text}
@@ -19,7 +19,7 @@ use Rattle.rd_orset.specs.Dots.{Dots, is_of, is_named, fresh_of, set_combined, s
 use Rattle.rd_orset.specs.DotLaws.{key_parts, same_key, named_is, fresh_key, key_fresh, contains-applied, contains-seen, contains-combined, contains-both_seen}
 use Rattle.rd_orset.specs.Live.{Touches, Adds, IsLive, TouchesBy}
 use Rattle.rd_orset.specs.LiveLaws.{Touches-opens}
-use Rattle.rd_orset.specs.DataOf.{AreLiveDots, IsFresh, IsSeenOf, IsOfOne}
+use Rattle.rd_orset.specs.DataOf.{AreLiveDots, IsSeenOf, IsOfOne}
 use Rattle.rd_orset.specs.DataLaws.{live_not_gone}
 
 -- the next record touches what its operation touches

@@ -1,5 +1,5 @@
 -- A prune: the owner takes over what was live of the pruned identity.
-use Rattle.std.proofs.Common.{◌≡◌, ◌≢◌, ◌⊎◌, ℕ, ◌+◌, ◌<◌, ◌≤◌, Bool, true, false, not, ◌&&◌, List, [], ◌∷◌, cond, nat_eq, arith, refl, ap, sym, ◌∙◌, subst, ⊎_elim, inl, inr}
+use Rattle.std.proofs.Common.{◌≡◌, ◌≢◌, ℕ, ◌+◌, ◌<◌, ◌≤◌, Bool, true, false, not, ◌&&◌, List, [], ◌∷◌, cond, nat_eq, arith, refl, ap, sym, ◌∙◌, subst, ⊎_elim}
 use Rattle.std.proofs.lemmas.Bool.{cases_Bool}
 use Rattle.std.specs.List.{list_any}
 use Rattle.std.specs.Str.{bytes_eq}
@@ -15,7 +15,7 @@ use Rattle.rd_history.proofs.CutLaws.{with_at_is, with_at-le, with_member_is, wi
 use Rattle.rd_vectors.specs.declared.id.Dot.{Dot}
 use Rattle.rd_kinds.specs.declared.operation.Op.{Op}
 use Rattle.rd_growing.specs.Bits.{either_true, left_true, right_true}
-use Rattle.rd_growing.specs.TextLaws.{eq_texts, texts_eq}
+use Rattle.rd_bytes.proofs.TextLaws.{eq_texts, texts_eq}
 use Rattle.rd_orset.specs.Placing.{key}
 use Rattle.rd_orset.specs.Tests.{two_of, both_true, both_ways, turned, eq_of, of_eq}
 use Rattle.rd_orset.specs.Dots.{Dots, is_dot_of, has_dot_of, is_touched, moved, set_pruned}

@@ -1,6 +1,5 @@
 -- What the set shows and refuses is what its history means.
-use Rattle.std.proofs.Common.{◌≡◌, ◌⊎◌, ℕ, zero, suc, ◌+◌, ◌<◌, ◌≤◌, List, [], ◌∷◌, Bool, true, false, ◌&&◌, ◌||◌, Option, None, Some, map, arith, refl, ap, sym, ◌∙◌, subst, ⊎_elim}
-use Rattle.std.proofs.lemmas.Bool.{cases_Bool}
+use Rattle.std.proofs.Common.{◌≡◌, ℕ, zero, suc, ◌+◌, ◌<◌, List, [], ◌∷◌, Bool, true, false, ◌&&◌, ◌||◌, Option, None, Some, map, arith, refl, ap, sym, ◌∙◌, subst}
 use Rattle.std.specs.Prelude.{slice_get, filter, filter_map, if◌then◌else◌}
 use Rattle.std.specs.List.{list_any}
 use Rattle.std.specs.Str.{bytes_eq}
@@ -11,7 +10,6 @@ use Rattle.rd_history.specs.History.{Action, Stamped, History, size, cut, all_re
 use Rattle.rd_history.specs.History.Action.{Operation, Prune}
 use Rattle.rd_history.specs.Cuts.{action_of, past_of, record_at, IsConsistentCut, IsPrunedCut}
 use Rattle.rd_history.proofs.PastLaws.{past_is_shorter}
-use Rattle.rd_history.proofs.PruneLaws.{IsIn}
 use Rattle.rd_history.proofs.Bridge.{cut_is_history, past_cut, in_cut}
 use Rattle.rd_meanings.specs.Growing.{found}
 use Rattle.rd_meanings.specs.ObservedRemove.{is_live, live_elements}
@@ -20,9 +18,9 @@ use Rattle.rd_kinds.specs.SixKinds.{of_kind, set_operations, adds, added}
 use Rattle.rd_kinds.specs.declared.kind.Kind.TheVariants as Kind
 use Rattle.rd_kinds.specs.declared.operation.Op.{Op}
 use Rattle.rd_kinds.specs.declared.operation.Op.TheVariants.{Add, Remove}
-use Rattle.rd_growing.specs.Bits.{left_true, right_true, same_bits}
-use Rattle.rd_growing.specs.Texts.{IsBelowAll, IsRising}
-use Rattle.rd_growing.specs.TextLaws.{eq_texts, texts_eq}
+use Rattle.rd_growing.specs.Bits.{right_true, same_bits}
+use Rattle.rd_bytes.specs.TextOrder.{IsBelowAll, IsRising}
+use Rattle.rd_bytes.proofs.TextLaws.{eq_texts, texts_eq}
 use Rattle.rd_growing.specs.TextSetLaws.{same_texts, contains_set, rising_set}
 use Rattle.rd_orset.specs.Placing.{key}
 use Rattle.rd_orset.specs.Tests.{two_of, both_true}

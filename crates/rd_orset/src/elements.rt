@@ -2,7 +2,7 @@ ghost use Rattle.std.specs.Prelude.{◌≡◌, ◌<◌, ◌≤◌, ◌^◌, [], 
 ghost use Rattle.std.specs.List.{filter, list_any};
 ghost use Rattle.std.specs.Str.{bytes_eq};
 ghost use Rattle.rd_history.specs.Texts.{text_set, contains_text};
-ghost use Rattle.rd_growing.specs.Texts.{text_order, IsRising};
+ghost use Rattle.rd_bytes.specs.TextOrder.{text_order, IsRising};
 ghost use Rattle.rd_orset.specs.Placing.{AreDots};
 ghost use Rattle.rd_orset.specs.Keeping.{texts_of, is_other, at_dot, IsFirstOf};
 

@@ -37,7 +37,7 @@ fn counting(alloc: Global, id: Id, seq: u64) -> Result<VersionVector, Memory>
 }
 
 /// Each element with its dot, in the set's order.
-fn spelled(alloc: Global, state: &OrSet) -> Result<String, Fail> {
+pub(crate) fn spelled(alloc: Global, state: &OrSet) -> Result<String, Fail> {
     let mut line = String::new(alloc);
     for placed in &state.dots {
         let element = placed.element.as_str();

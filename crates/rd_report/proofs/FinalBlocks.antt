@@ -23,7 +23,7 @@ use Rattle.rd_kinds.specs.declared.shown.Shown.{Shown}
 use Rattle.rd_lattice.specs.declared.replica.Replica.{Ghosts}
 use Rattle.rd_node.specs.declared.key.KeyState.{KeyState}
 use Rattle.rd_node.specs.declared.node.Node.{Node}
-use Rattle.rd_node.specs.Members.{whole_entries, declared_by, StandsForKey, StandsForNode}
+use Rattle.rd_node.specs.Members.{delta_groups, declared_by, StandsForKey, StandsForNode}
 use Rattle.rd_world.specs.declared.world.World.{World}
 use Rattle.rd_world.specs.Standing.{StandsForWorld, StandsForRunning}
 use Rattle.rd_texts.proofs.Ranges.{range_more}
@@ -56,7 +56,7 @@ words_of_six : (a b c d e f : Text) → words (a ∷ b ∷ c ∷ d ∷ e ∷ f �
 words_of_six a b c d e f = simp append_assoc
 
 key_told : {Kind Op : Type 0} (data_type : DataType Kind Op Shown) (digest : Kind → Entry Op → List ℕ) (name : Text) (kind : Kind) (entry : Entry Op)
-    → key_line data_type name kind entry ≡ key_text (whole_entries data_type digest) shown_text (record { name = name; kind = kind; durable = false; entry = entry })
+    → key_line data_type name kind entry ≡ key_text (delta_groups data_type digest) shown_text (record { name = name; kind = kind; durable = false; entry = entry })
 unfolding has_records known_text marks_text
 key_told data_type digest name kind entry =
     ap line_of (sym (words_of_six name (value_text (data_type.shown kind) entry) (codes "known") (known_text entry) (codes "marks") (marks_text entry)))
@@ -67,7 +67,7 @@ module _ {T Kind Op Delta : Type 0} (data_type : DataType Kind Op Shown) where
   held_line node state = key_line data_type state.name state.kind (node.entries state.name)
 
   keys_told : (digest : Kind → Entry Op → List ℕ) (node : nodes.Node Kind Op Shown) (states : List (KeyState T Kind Op Delta))
-      → flat_map (held_line node) states ≡ flat_map (key_text (whole_entries data_type digest) shown_text) (map (state_of node) (map declared_by states))
+      → flat_map (held_line node) states ≡ flat_map (key_text (delta_groups data_type digest) shown_text) (map (state_of node) (map declared_by states))
   keys_told digest node [] = refl
   keys_told digest node (state ∷ states) = ap₂ (λ (a b : Text). a ++ b) (key_told data_type digest state.name state.kind (node.entries state.name)) (keys_told digest node states)
 
@@ -75,9 +75,9 @@ module _ {T Kind Op Delta : Type 0} (data_type : DataType Kind Op Shown) where
 
 module _ {Kind Op : Type 0} (data_type : DataType Kind Op Shown) (digest : Kind → Entry Op → List ℕ) where
   members_told : (world : worlds.World Kind Op Shown) (is : List ℕ)
-      → flat_map (λ i. member_text (whole_entries data_type digest) shown_text world (record { identity = i; place = i })) is ≡ flat_map (member_text (whole_entries data_type digest) shown_text world) (map (λ i. record { identity = i; place = i }) is)
+      → flat_map (λ i. member_text (delta_groups data_type digest) shown_text world (record { identity = i; place = i })) is ≡ flat_map (member_text (delta_groups data_type digest) shown_text world) (map (λ i. record { identity = i; place = i }) is)
   members_told world [] = refl
-  members_told world (i ∷ is) = ap (λ t. member_text (whole_entries data_type digest) shown_text world (record { identity = i; place = i }) ++ t) (members_told world is)
+  members_told world (i ∷ is) = ap (λ t. member_text (delta_groups data_type digest) shown_text world (record { identity = i; place = i }) ++ t) (members_told world is)
 
 no_view : codes "final view 0\n" ≡ line_of (codes "final view " ++ decimal 0)
 unfolding digits
@@ -86,17 +86,17 @@ no_view = refl
 module _ {T Kind Op Delta : Type 0} {ghosts : Ghosts T Kind Op Delta} (kind_of : T → Kind) (IsDataOf : T → History Op → VersionVector → IdentitySet → Type 0) (kinds : Text → Kind) (logs : Text → History Op) where
   -- a key of a member
   pub key_stands : (code : Node T Kind Op Delta ghosts) (node : nodes.Node Kind Op Shown) (states : List (KeyState T Kind Op Delta)) (i : ℕ) (state : KeyState T Kind Op Delta) → StandsForNode kind_of IsDataOf kinds logs code node → states ≡ code.keys.items → i < length states → state ≡ get_or states i state
-      → StandsForKey kind_of IsDataOf kinds logs state (node.entries state.name) (node.flushed state.name)
+      → StandsForKey kind_of IsDataOf ghosts.IsDeltaOf kinds logs state (node.entries state.name) (node.flushed state.name)
   key_stands code node states i state stands same here is =
       let here' : i < length code.keys.items = subst (λ (ss : List (KeyState T Kind Op Delta)). i < length ss) same here in
       let at : get_or code.keys.items i state ≡ state = ap (λ ss. get_or ss i state) (sym same) ∙ sym is in
-      subst (λ (s : KeyState T Kind Op Delta). StandsForKey kind_of IsDataOf kinds logs s (node.entries s.name) (node.flushed s.name)) at (stands.entries i state here')
+      subst (λ (s : KeyState T Kind Op Delta). StandsForKey kind_of IsDataOf ghosts.IsDeltaOf kinds logs s (node.entries s.name) (node.flushed s.name)) at (stands.entries i state here')
 
 module _ {T Kind Op Delta : Type 0} {ghosts : Ghosts T Kind Op Delta} (kind_of : T → Kind) (IsDataOf : T → History Op → VersionVector → IdentitySet → Type 0) (kinds : Text → Kind) (logs : Text → History Op) (data_type : DataType Kind Op Shown) (digest : Kind → Entry Op → List ℕ) where
   pub member_told : (place : ℕ) (code : Node T Kind Op Delta ghosts) (node : nodes.Node Kind Op Shown) (states : List (KeyState T Kind Op Delta)) (start mid new : List ℕ) → StandsForNode kind_of IsDataOf kinds logs code node
-      → states ≡ code.keys.items → mid ≡ start ++ member_line code.id place code.view → new ≡ mid ++ flat_map (held_line data_type node) states → new ≡ start ++ node_text (whole_entries data_type digest) shown_text place node
+      → states ≡ code.keys.items → mid ≡ start ++ member_line code.id place code.view → new ≡ mid ++ flat_map (held_line data_type node) states → new ≡ start ++ node_text (delta_groups data_type digest) shown_text place node
   member_told place code node states start mid new stands same begun grown =
-      let D = whole_entries data_type digest in
+      let D = delta_groups data_type digest in
       let keys : map (state_of node) (map declared_by states) ≡ key_states node = ap (λ ss. map (state_of node) (map declared_by ss)) same ∙ ap (map (state_of node)) (sym stands.keys) in
       let told = keys_told data_type digest node states ∙ ap (flat_map (key_text D shown_text)) keys in
       grown ∙ ap₂ (λ (a b : List ℕ). a ++ b) (begun ∙ ap₂ (λ id view. start ++ member_line id place view) (sym stands.identity) (sym stands.view)) told
@@ -104,18 +104,18 @@ module _ {T Kind Op Delta : Type 0} {ghosts : Ghosts T Kind Op Delta} (kind_of :
 
   -- the member at a place
   pub place_told : (code : World T Kind Op Delta ghosts) (world : worlds.World Kind Op Shown) (place : ℕ) (member : Node T Kind Op Delta ghosts) → StandsForWorld kind_of IsDataOf kinds logs code world → place < length code.nodes.items → member ≡ get_or code.nodes.items place member
-      → (node : nodes.Node Kind Op Shown) × StandsForNode kind_of IsDataOf kinds logs member node × (member_text (whole_entries data_type digest) shown_text world (record { identity = place; place = place }) ≡ node_text (whole_entries data_type digest) shown_text place node)
+      → (node : nodes.Node Kind Op Shown) × StandsForNode kind_of IsDataOf kinds logs member node × (member_text (delta_groups data_type digest) shown_text world (record { identity = place; place = place }) ≡ node_text (delta_groups data_type digest) shown_text place node)
   place_told code world place member stands here is =
-      let D = whole_entries data_type digest in
+      let D = delta_groups data_type digest in
       let found : slice_get code.nodes.items place ≡ Some member = slice_get-get_or code.nodes.items place member here ∙ ap Some (sym is) in
       let runs = subst (λ o. StandsForRunning kind_of IsDataOf kinds logs world.view o (world.nodes place)) found (stands.parts.running place) in
       (runs.0, runs.2.stands, ap (λ o. unwrap_or (option_map (node_text D shown_text place) o) []) runs.1)
 
   -- all members
   pub block_told : (code : World T Kind Op Delta ghosts) (world : worlds.World Kind Op Shown) (count : ℕ) (start mid new : List ℕ) → StandsForWorld kind_of IsDataOf kinds logs code world → count ≡ length code.nodes.items → mid ≡ start ++ codes "final view 0\n"
-      → new ≡ mid ++ flat_map (λ i. member_text (whole_entries data_type digest) shown_text world (record { identity = i; place = i })) (range_with_len 0 count) → new ≡ start ++ final_block (whole_entries data_type digest) shown_text world
+      → new ≡ mid ++ flat_map (λ i. member_text (delta_groups data_type digest) shown_text world (record { identity = i; place = i })) (range_with_len 0 count) → new ≡ start ++ final_block (delta_groups data_type digest) shown_text world
   block_told code world count start mid new stands same begun grown =
-      let D = whole_entries data_type digest in
+      let D = delta_groups data_type digest in
       let first : first_view count ≡ view_of world = ap first_view same ∙ sym stands.parts.view in
       grown ∙ ap₂ (λ (a b : List ℕ). a ++ b) begun (members_told data_type digest world (range_with_len 0 count)) ∙ append_assoc start (codes "final view 0\n") (flat_map (member_text D shown_text world) (first_view count).members)
       ∙ ap (λ t. start ++ (t ++ flat_map (member_text D shown_text world) (first_view count).members)) no_view

@@ -16,13 +16,13 @@ use Rattle.rd_runs.proofs.Playing.{IsQuietStep, step_is_run, all_append}
 use Rattle.rd_runs.proofs.ScriptLogs.{script_logs, script_unpruned}
 use Rattle.rd_script.specs.declared.script.Script.{Script}
 use Rattle.rd_script.specs.declared.script.Step.{Step}
-use Rattle.rd_script.specs.declared.script.Step.TheVariants.{Update, Get, Flush, Deliver, Lose, Round}
+use Rattle.rd_script.specs.declared.script.Step.TheVariants.{Update, Get, Flush, Gossip, Deliver, Lose, Round}
 use Rattle.rd_kinds.specs.ShownText.{shown_text}
 use Rattle.rd_kinds.specs.declared.kind.Kind.{Kind}
 use Rattle.rd_kinds.specs.declared.operation.Op.{Op}
 use Rattle.rd_kinds.specs.declared.shown.Shown.{Shown}
 use Rattle.rd_lattice.specs.declared.replica.Replica.{Ghosts}
-use Rattle.rd_node.specs.Members.{whole_entries}
+use Rattle.rd_node.specs.Members.{delta_groups}
 use Rattle.rd_world.specs.declared.world.World.{World}
 use Rattle.rd_world.specs.declared.event.Event.{Event}
 use Rattle.rd_world.specs.Lines.{IsLine, IsNextLine, AreNextLines}
@@ -41,24 +41,24 @@ module _ {T Delta : Type 0} {ghosts : Ghosts T Kind Op Delta} (kind_of : T → K
     (data_type : DataType Kind Op Shown) (digest : Kind → Entry Op → List ℕ) (first : worlds.World Kind Op Shown) (before : Playing Kind Op Shown) (s t : ScriptStep Op) (same : s ≡ t) (old new : World T Kind Op Delta ghosts) where
   -- what is asked of a step
   abbrev pub Asks : ScriptStep Op → Type 0 → Type 0
-  Asks step Claim = IsRun (whole_entries data_type digest) first before.events before.world → Throughout (whole_entries data_type digest) logs first (played (whole_entries data_type digest) before step) → StandsForWorld kind_of IsDataOf kinds logs old before.world → Claim
+  Asks step Claim = IsRun (delta_groups data_type digest) first before.events before.world → Throughout (delta_groups data_type digest) logs first (played (delta_groups data_type digest) before step) → StandsForWorld kind_of IsDataOf kinds logs old before.world → Claim
 
   -- a step with one event
-  pub by_event : (event : Event) {E : Type 0} (result : Result (List Event) E) → Asks t (StandsForWorld kind_of IsDataOf kinds logs new (played (whole_entries data_type digest) before t).world) → Asks t (IsNextLine event before (played (whole_entries data_type digest) before t))
-      → IfOk result (λ events. events ≡ event ∷ []) → Asks s (IfOk result (Plays kind_of IsDataOf kinds logs before (played (whole_entries data_type digest) before s) new))
+  pub by_event : (event : Event) {E : Type 0} (result : Result (List Event) E) → Asks t (StandsForWorld kind_of IsDataOf kinds logs new (played (delta_groups data_type digest) before t).world) → Asks t (IsNextLine event before (played (delta_groups data_type digest) before t))
+      → IfOk result (λ events. events ≡ event ∷ []) → Asks s (IfOk result (Plays kind_of IsDataOf kinds logs before (played (delta_groups data_type digest) before s) new))
   by_event event result stands told made =
-      subst (λ step. Asks step (IfOk result (Plays kind_of IsDataOf kinds logs before (played (whole_entries data_type digest) before step) new))) (sym same)
-      (λ is_run way start. if_ok (λ events. events ≡ event ∷ []) (Plays kind_of IsDataOf kinds logs before (played (whole_entries data_type digest) before t) new) result
-      (λ events is. subst (λ events. Plays kind_of IsDataOf kinds logs before (played (whole_entries data_type digest) before t) new events) (sym is) (let line = told is_run way start in record { stands = stands is_run way start; told = (line.0 ∷ [], line.1, (line.2, tt)) })) made)
+      subst (λ step. Asks step (IfOk result (Plays kind_of IsDataOf kinds logs before (played (delta_groups data_type digest) before step) new))) (sym same)
+      (λ is_run way start. if_ok (λ events. events ≡ event ∷ []) (Plays kind_of IsDataOf kinds logs before (played (delta_groups data_type digest) before t) new) result
+      (λ events is. subst (λ events. Plays kind_of IsDataOf kinds logs before (played (delta_groups data_type digest) before t) new events) (sym is) (let line = told is_run way start in record { stands = stands is_run way start; told = (line.0 ∷ [], line.1, (line.2, tt)) })) made)
 
   -- a step with a list of events
-  pub by_events : {E : Type 0} (result : Result (List Event) E) → Asks t (OnOk result (StandsForWorld kind_of IsDataOf kinds logs new (played (whole_entries data_type digest) before t).world)) → Asks t (IfOk result (λ events. AreNextLines events before (played (whole_entries data_type digest) before t)))
-      → Asks s (IfOk result (Plays kind_of IsDataOf kinds logs before (played (whole_entries data_type digest) before s) new))
+  pub by_events : {E : Type 0} (result : Result (List Event) E) → Asks t (OnOk result (StandsForWorld kind_of IsDataOf kinds logs new (played (delta_groups data_type digest) before t).world)) → Asks t (IfOk result (λ events. AreNextLines events before (played (delta_groups data_type digest) before t)))
+      → Asks s (IfOk result (Plays kind_of IsDataOf kinds logs before (played (delta_groups data_type digest) before s) new))
   by_events result stands told =
-      subst (λ step. Asks step (IfOk result (Plays kind_of IsDataOf kinds logs before (played (whole_entries data_type digest) before step) new))) (sym same)
+      subst (λ step. Asks step (IfOk result (Plays kind_of IsDataOf kinds logs before (played (delta_groups data_type digest) before step) new))) (sym same)
       (λ is_run way start. both_ok result (stands is_run way start) (told is_run way start))
     where
-      both_ok : {E : Type 0} (r : Result (List Event) E) → OnOk r (StandsForWorld kind_of IsDataOf kinds logs new (played (whole_entries data_type digest) before t).world) → IfOk r (λ events. AreNextLines events before (played (whole_entries data_type digest) before t)) → IfOk r (Plays kind_of IsDataOf kinds logs before (played (whole_entries data_type digest) before t) new)
+      both_ok : {E : Type 0} (r : Result (List Event) E) → OnOk r (StandsForWorld kind_of IsDataOf kinds logs new (played (delta_groups data_type digest) before t).world) → IfOk r (λ events. AreNextLines events before (played (delta_groups data_type digest) before t)) → IfOk r (Plays kind_of IsDataOf kinds logs before (played (delta_groups data_type digest) before t) new)
       both_ok (Ok events) p q = record { stands = p; told = q }
       both_ok (Err e) p q = tt
 
@@ -69,6 +69,7 @@ are_steps [] = tt
 are_steps (Update at key op ∷ steps) = (tt, are_steps steps)
 are_steps (Get at key ∷ steps) = (tt, are_steps steps)
 are_steps (Flush at ∷ steps) = (tt, are_steps steps)
+are_steps (Gossip at to ∷ steps) = (tt, are_steps steps)
 are_steps (Deliver from to index ∷ steps) = (tt, are_steps steps)
 are_steps (Lose from to ∷ steps) = (tt, are_steps steps)
 are_steps (Round ∷ steps) = (tt, are_steps steps)
@@ -81,6 +82,7 @@ are_quiet D [] = tt
 are_quiet D (Update at key op ∷ steps) = (tt, are_quiet D steps)
 are_quiet D (Get at key ∷ steps) = (tt, are_quiet D steps)
 are_quiet D (Flush at ∷ steps) = (tt, are_quiet D steps)
+are_quiet D (Gossip at to ∷ steps) = (tt, are_quiet D steps)
 are_quiet D (Deliver from to index ∷ steps) = (tt, are_quiet D steps)
 are_quiet D (Lose from to ∷ steps) = (tt, are_quiet D steps)
 are_quiet D (Round ∷ steps) = (tt, are_quiet D steps)
@@ -94,28 +96,28 @@ module _ (data_type : DataType Kind Op Shown) (digest : Kind → Entry Op → Li
 
   -- after the last step
   abbrev pub ending : Playing Kind Op Shown
-  ending = played_all (whole_entries data_type digest) opening (map step_of script.steps)
+  ending = played_all (delta_groups data_type digest) opening (map step_of script.steps)
 
   abbrev pub whole : Text
-  whole = report (whole_entries data_type digest) shown_text (λ place. []) script.members (map decl_of (in_order script.keys)) (map step_of script.steps)
+  whole = report (delta_groups data_type digest) shown_text (λ place. []) script.members (map decl_of (in_order script.keys)) (map step_of script.steps)
 
   -- the logs of the whole run
   pub record AreRunLogs (logs : Text → History Op) : Type 0 where
     pub histories : (key : Text) → IsHistory (logs key)
-    pub way : Throughout (whole_entries data_type digest) logs opening.world ending
+    pub way : Throughout (delta_groups data_type digest) logs opening.world ending
 
   -- the step with this number is the next, and these are left: the text so far and that of what is left are the whole
   pub record IsStage {T Delta : Type 0} {ghosts : Ghosts T Kind Op Delta} (kind_of : T → Kind) (IsDataOf : T → History Op → VersionVector → IdentitySet → Type 0) (kinds : Text → Kind) (logs : Text → History Op) (number : ℕ) (left : List Step) (code : World T Kind Op Delta ghosts) (text : List ℕ) (p : Playing Kind Op Shown) : Type 0 where
     pub fresh : p.lines ≡ []
-    pub is_run : IsRun (whole_entries data_type digest) opening.world p.events p.world
+    pub is_run : IsRun (delta_groups data_type digest) opening.world p.events p.world
     pub stands : StandsForWorld kind_of IsDataOf kinds logs code p.world
-    pub ends : played_all (whole_entries data_type digest) p (map step_of left) ≡ ending
-    pub told : text ++ (steps_text (whole_entries data_type digest) shown_text number (lines_of (whole_entries data_type digest) p (map step_of left)) ++ final_block (whole_entries data_type digest) shown_text ending.world) ≡ whole
+    pub ends : played_all (delta_groups data_type digest) p (map step_of left) ≡ ending
+    pub told : text ++ (steps_text (delta_groups data_type digest) shown_text number (lines_of (delta_groups data_type digest) p (map step_of left)) ++ final_block (delta_groups data_type digest) shown_text ending.world) ≡ whole
 
   -- there are such logs
   pub run_logs : script.members ≤ 8 → (logs : Text → History Op) × AreRunLogs logs
   run_logs few =
-      let D = whole_entries data_type digest in
+      let D = delta_groups data_type digest in
       let keys = map decl_of (in_order script.keys) in
       let steps = map step_of script.steps in
       let all = script_logs D script.members keys (λ place. []) steps (omega arith) (are_steps script.steps) in
@@ -132,24 +134,24 @@ module _ (data_type : DataType Kind Op Shown) (digest : Kind → Entry Op → Li
           is_run = record { leads = refl; lawful = tt };
           stands = stands;
           ends = refl;
-          told = ap (λ t. t ++ (steps_text (whole_entries data_type digest) shown_text 1 (lines_of (whole_entries data_type digest) opening (map step_of script.steps)) ++ final_block (whole_entries data_type digest) shown_text ending.world)) none;
+          told = ap (λ t. t ++ (steps_text (delta_groups data_type digest) shown_text 1 (lines_of (delta_groups data_type digest) opening (map step_of script.steps)) ++ final_block (delta_groups data_type digest) shown_text ending.world)) none;
         }
 
     -- the way to the end goes on over the next step
     pub way_on : (number : ℕ) (step : Step) (left : List Step) (code : World T Kind Op Delta ghosts) (text : List ℕ) (p : Playing Kind Op Shown) → IsStage kind_of IsDataOf kinds logs number (step ∷ left) code text p → AreRunLogs logs
-        → Throughout (whole_entries data_type digest) logs opening.world (played (whole_entries data_type digest) p (step_of step))
+        → Throughout (delta_groups data_type digest) logs opening.world (played (delta_groups data_type digest) p (step_of step))
     way_on number step left code text p stage all =
-        let D = whole_entries data_type digest in
+        let D = delta_groups data_type digest in
         let q = played D p (step_of step) in
         let later = all_append D (record q { lines = [] }) (map step_of left) (are_steps left) in
         let ends : ending.events ≡ q.events ++ later.0 = ap (λ (e : Playing Kind Op Shown). e.events) (sym stage.ends) ∙ later.1 in
         record { logged = λ before rest is. all.way.logged before (rest ++ later.0) (ends ∙ ap (λ es. es ++ later.0) is ∙ append_assoc before rest later.0); prune_free = all.way.prune_free }
 
     pub next_stage : (number : ℕ) (step : Step) (left : List Step) (code later : World T Kind Op Delta ghosts) (text more : List ℕ) (events : List Event) (p : Playing Kind Op Shown) → IsStage kind_of IsDataOf kinds logs number (step ∷ left) code text p
-        → Plays kind_of IsDataOf kinds logs p (played (whole_entries data_type digest) p (step_of step)) later events → ((told : List (Told Op Shown)) → AllZip IsLine events told → more ≡ text ++ flat_map (told_text (whole_entries data_type digest) shown_text number) told)
-        → IsStage kind_of IsDataOf kinds logs (number + 1) left later more (record (played (whole_entries data_type digest) p (step_of step)) { lines = [] })
+        → Plays kind_of IsDataOf kinds logs p (played (delta_groups data_type digest) p (step_of step)) later events → ((told : List (Told Op Shown)) → AllZip IsLine events told → more ≡ text ++ flat_map (told_text (delta_groups data_type digest) shown_text number) told)
+        → IsStage kind_of IsDataOf kinds logs (number + 1) left later more (record (played (delta_groups data_type digest) p (step_of step)) { lines = [] })
     next_stage number step left code later text more events p stage plays grown =
-        let D = whole_entries data_type digest in
+        let D = delta_groups data_type digest in
         let q = played D p (step_of step) in
         let rest = steps_text D shown_text (suc number) (lines_of D (record q { lines = [] }) (map step_of left)) in
         let lines : q.lines ≡ plays.told.0 = plays.told.1 ∙ ap (λ ls. ls ++ plays.told.0) stage.fresh in
@@ -167,5 +169,5 @@ module _ (data_type : DataType Kind Op Shown) (digest : Kind → Entry Op → Li
         }
 
     pub last_stage : (number : ℕ) (code : World T Kind Op Delta ghosts) (text more : List ℕ) (p : Playing Kind Op Shown) → IsStage kind_of IsDataOf kinds logs number [] code text p
-        → more ≡ text ++ final_block (whole_entries data_type digest) shown_text p.world → more ≡ whole
-    last_stage number code text more p stage grown = grown ∙ ap (λ (e : Playing Kind Op Shown). text ++ final_block (whole_entries data_type digest) shown_text e.world) stage.ends ∙ stage.told
+        → more ≡ text ++ final_block (delta_groups data_type digest) shown_text p.world → more ≡ whole
+    last_stage number code text more p stage grown = grown ∙ ap (λ (e : Playing Kind Op Shown). text ++ final_block (delta_groups data_type digest) shown_text e.world) stage.ends ∙ stage.told

@@ -56,6 +56,7 @@ module _ {Op : Type 0} where
   head_told (head.Update at key) told is = sym (ap report.head_words is)
   head_told (head.Get at key) told is = sym (ap report.head_words is)
   head_told (head.Flush at) told is = sym (ap report.head_words is)
+  head_told (head.Gossip at to) told is = sym (ap report.head_words is)
   head_told (head.Deliver from to index sketch) told is =
       ap (λ ws. codes "deliver" ∷ link_text from to index ∷ ws) (ap delivered_words is.2 ∙ delivered_told is.0) ∙ sym (ap report.head_words is.1)
   head_told (head.Lose from to index) told is = sym (ap report.head_words is)

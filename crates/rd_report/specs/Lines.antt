@@ -35,6 +35,7 @@ abbrev pub head_words : Head → List Text
 head_words (head.Update at key) = codes "update" ∷ decimal at ∷ key ∷ []
 head_words (head.Get at key) = codes "get" ∷ decimal at ∷ key ∷ []
 head_words (head.Flush at) = codes "flush" ∷ decimal at ∷ []
+head_words (head.Gossip at to) = codes "gossip" ∷ decimal at ∷ decimal to ∷ []
 head_words (head.Deliver from to index sketch) = codes "deliver" ∷ link_text from to index ∷ delivered_words sketch
 head_words (head.Lose from to index) = codes "lose" ∷ link_text from to index ∷ []
 head_words head.Round = codes "round" ∷ []

@@ -45,6 +45,7 @@ fn push_head(text: &mut String, head: &Head) -> Result<(), Memory>
         Head::Update { at, key } => write!(text, "update {at} {}", key.as_str())?,
         Head::Get { at, key } => write!(text, "get {at} {}", key.as_str())?,
         Head::Flush { at } => write!(text, "flush {at}")?,
+        Head::Gossip { at, to } => write!(text, "gossip {at} {to}")?,
         Head::Deliver {
             from,
             to,
@@ -86,6 +87,7 @@ fn push_reply(alloc: Global, text: &mut String, reply: &Reply) -> Result<(), Mem
             write!(text, "gap {lacking}")?;
         }
         Reply::NotFromMember => text.push_str("not from member")?,
+        Reply::NotAPeer => text.push_str("not a peer")?,
     }
     Ok(())
 }

@@ -7,7 +7,7 @@ ghost use Rattle.rd_model.specs.World.{World as Modelled};
 ghost use Rattle.rd_model.specs.Report.{node_text, final_block};
 ghost use Rattle.rd_kinds.specs.ShownText.{shown_text};
 ghost use Rattle.rd_kinds.specs.declared.shown.Shown.{Shown};
-ghost use Rattle.rd_node.specs.Members.{whole_entries, StandsForKey, StandsForNode};
+ghost use Rattle.rd_node.specs.Members.{delta_groups, StandsForKey, StandsForNode};
 ghost use Rattle.rd_world.specs.Standing.{StandsForWorld};
 ghost use Rattle.rd_report.specs.Finals.{key_line, member_line};
 
@@ -21,7 +21,7 @@ use std::alloc::Global;
 /// Adds the line of a key: its value, its records by identity, and its marks.
 fn push_key<T: Replica>(alloc: Global, text: &mut String, key: &KeyState<T>) -> Result<(), Memory>
     ensures { (kinds : Name → T.Kind) (logs : Name → History T.Op) (entry : Entry T.Op) (flushed : ℕ → ℕ)
-        → StandsForKey T.kind_of T.IsDataOf kinds logs key.now entry flushed
+        → StandsForKey T.kind_of T.IsDataOf T.IsDeltaOf kinds logs key.now entry flushed
         → OnOk result (string_bytes text.new ≡ string_bytes text.old ++ key_line T.data_type key.now.name key.now.kind entry) }
 {
     let entry = key.entry();
@@ -52,7 +52,7 @@ fn push_member<T: Replica>(
 ) -> Result<(), Memory>
     ensures { (digest : T.Kind → Entry T.Op → List ℕ) (kinds : Name → T.Kind) (logs : Name → History T.Op) (node : Member T.Kind T.Op Shown)
         → StandsForNode T.kind_of T.IsDataOf kinds logs member.now node
-        → OnOk result (string_bytes text.new ≡ string_bytes text.old ++ node_text (whole_entries T.data_type digest) shown_text place node) }
+        → OnOk result (string_bytes text.new ≡ string_bytes text.old ++ node_text (delta_groups T.data_type digest) shown_text place node) }
 {
     push_member_line(text, member.id().number(), place, member.view())?;
     for key in member.keys() {
@@ -69,7 +69,7 @@ pub(crate) fn push_final_block<T: Replica>(
 ) -> Result<(), Memory>
     ensures { (digest : T.Kind → Entry T.Op → List ℕ) (kinds : Name → T.Kind) (logs : Name → History T.Op) (end : Modelled T.Kind T.Op Shown)
         → StandsForWorld T.kind_of T.IsDataOf kinds logs world.now end
-        → OnOk result (string_bytes text.new ≡ string_bytes text.old ++ final_block (whole_entries T.data_type digest) shown_text end) }
+        → OnOk result (string_bytes text.new ≡ string_bytes text.old ++ final_block (delta_groups T.data_type digest) shown_text end) }
 {
     text.push_str("final view 0\n")?;
     for (place, member) in world.nodes().iter().enumerate() {

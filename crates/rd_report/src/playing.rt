@@ -1,12 +1,11 @@
 ghost use Rattle.std.specs.Prelude.{◌≡◌, ◌∷◌, [], ℕ, List, string_bytes, IfOk};
 ghost use Rattle.rd_history.specs.Texts.{Text as Name};
 ghost use Rattle.rd_history.specs.History.{History};
-ghost use Rattle.rd_model.specs.Entry.{Entry};
 ghost use Rattle.rd_model.specs.World.{World as Modelled};
 ghost use Rattle.rd_model.specs.Script.{Playing, IsRun, played};
 ghost use Rattle.rd_kinds.specs.declared.shown.Shown.{Shown};
-ghost use Rattle.rd_node.specs.Members.{whole_entries};
-ghost use Rattle.rd_script.specs.WellFormed.{IsWellFormed};
+ghost use Rattle.rd_node.specs.Members.{spelled_groups};
+ghost use Rattle.rd_script.specs.WellFormed.{IsStep, IsWellFormed};
 ghost use Rattle.rd_world.specs.Standing.{StandsForWorld};
 ghost use Rattle.rd_world.specs.Ways.{Throughout};
 ghost use Rattle.rd_report.specs.Run.{step_of, IsReport};
@@ -17,8 +16,9 @@ use crate::members::push_final_block;
 use crate::order::in_order;
 use rd_bytes::{Items, Memory};
 use rd_kinds::{Kind, Op};
-use rd_lattice::Replica;
+use rd_lattice::SpelledData;
 use rd_script::{Script, Step};
+use rd_vectors::Id;
 use rd_world::{Event, Events, World};
 use std::alloc::Global;
 
@@ -32,13 +32,14 @@ fn alone(alloc: Global, event: Event) -> Result<Events, Memory>
 }
 
 /// Plays a step of a script.
-fn play<T: Replica<Kind = Kind, Op = Op>>(
+fn play<T: SpelledData<Kind = Kind, Op = Op>>(
     alloc: Global,
     world: &mut World<T>,
     step: &Step,
 ) -> Result<Events, Memory>
-    ensures { (digest : Kind → Entry Op → List ℕ) (kinds : Name → Kind) (logs : Name → History Op) (first : Modelled Kind Op Shown) (before : Playing Kind Op Shown)
-        → let D = whole_entries T.data_type digest in let after = played D before (step_of step.now) in
+    requires { IsStep step.now }
+    ensures { (kinds : Name → Kind) (logs : Name → History Op) (first : Modelled Kind Op Shown) (before : Playing Kind Op Shown)
+        → let D = spelled_groups T.data_type T.byte_of T.history_spelled in let after = played D before (step_of step.now) in
         IsRun D first before.events before.world → Throughout D logs first after → StandsForWorld T.kind_of T.IsDataOf kinds logs world.old before.world
         → IfOk result (Plays T.kind_of T.IsDataOf kinds logs before after world.new) }
 {
@@ -46,6 +47,12 @@ fn play<T: Replica<Kind = Kind, Op = Op>>(
         Step::Update { at, key, op } => alone(alloc, world.update(*at, key, op)?),
         Step::Get { at, key } => alone(alloc, world.get(*at, key)?),
         Step::Flush { at } => alone(alloc, world.flush(*at)?),
+        Step::Gossip { at, to } => {
+            let Some(to) = Id::new(*to) else {
+                unreachable!()
+            };
+            alone(alloc, world.gossip(*at, to)?)
+        }
         Step::Deliver { from, to, index } => alone(alloc, world.deliver(*from, *to, *index)?),
         Step::Lose { from, to } => alone(alloc, world.lose(*from, *to)?),
         Step::Round => world.round(),
@@ -59,12 +66,12 @@ fn play<T: Replica<Kind = Kind, Op = Op>>(
 /// # Errors
 ///
 /// Memory was refused.
-pub fn report<T: Replica<Kind = Kind, Op = Op>>(
+pub fn report<T: SpelledData<Kind = Kind, Op = Op>>(
     alloc: Global,
     script: &Script,
 ) -> Result<String, Memory>
     requires { IsWellFormed script.now }
-    ensures { IfOk result (λ text. IsReport T.data_type script.now (string_bytes text)) }
+    ensures { IfOk result (λ text. IsReport T.data_type T.byte_of T.history_spelled script.now (string_bytes text)) }
 {
     let keys = in_order::<T>(alloc, script.keys.as_slice())?;
     let mut world: World<T> = World::start(alloc, script.members, &keys)?;

@@ -2,7 +2,7 @@
 use Rattle.std.proofs.Common.{refl}
 use Rattle.std.specs.Fmt.{digits}
 use Rattle.json.specs.Print.{escape_byte}
-use Rattle.rd_rows.specs.Rows.{Meanings, EmptyScript, OneMember, Repeats, AddWins, DeltaOvertakesItsCause, PrunedCounter, BlockedPrune, ReplacedDot, OwnerDeparts, LateMessages, RestartedMember, MajorityWriteAndRead, TimedOutWrite, RegisterWrites, Refusals, OtherKinds, FiftyDeltas, FiftyOneDeltas, Carts, FailingStore, FailingLoad, GeneratedScript, TwoMembers, RegisterByWholeEntries, AddWinsByWholeEntries, GossipedCounter, ThreeMembers}
+use Rattle.rd_rows.specs.Rows.{Meanings, EmptyScript, OneMember, Repeats, AddWins, DeltaOvertakesItsCause, PrunedCounter, BlockedPrune, ReplacedDot, OwnerDeparts, LateMessages, RestartedMember, MajorityWriteAndRead, TimedOutWrite, RegisterWrites, Refusals, OtherKinds, FiftyDeltas, FiftyOneDeltas, Carts, FailingStore, FailingLoad, GeneratedScript, TwoMembers, FlushedRegister, GossipedCounter, ThreeMembers}
 
 pub Meanings_holds : Meanings
 unfolding digits escape_byte
@@ -100,13 +100,9 @@ pub TwoMembers_holds : TwoMembers
 unfolding digits escape_byte
 TwoMembers_holds = refl
 
-pub RegisterByWholeEntries_holds : RegisterByWholeEntries
+pub FlushedRegister_holds : FlushedRegister
 unfolding digits escape_byte
-RegisterByWholeEntries_holds = refl
-
-pub AddWinsByWholeEntries_holds : AddWinsByWholeEntries
-unfolding digits escape_byte
-AddWinsByWholeEntries_holds = refl
+FlushedRegister_holds = refl
 
 pub GossipedCounter_holds : GossipedCounter
 unfolding digits escape_byte

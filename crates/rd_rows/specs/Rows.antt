@@ -31,12 +31,9 @@ mark_digest (Some mark) = (1 ∷ mark.view ∷ mark.owner ∷ members_of mark.se
 abbrev pub plain_digest : Kind → Entry Op → List ℕ
 plain_digest kind entry = map (versions entry.history) identities ++ flat_map (λ r. mark_digest (mark_at entry.marks r)) identities
 
--- the six kinds at members that keep so many own records for groups
-abbrev pub keeping : ℕ → Replication Kind Op Shown
-keeping log_length = record { data_type = six_kinds; digest = plain_digest; log_length = log_length }
-
+-- the six kinds at members that keep 50 own records for groups
 abbrev pub data_type : Replication Kind Op Shown
-data_type = keeping 50
+data_type = record { data_type = six_kinds; digest = plain_digest; log_length = 50 }
 
 abbrev pub key : Text → Kind → KeyDecl Kind
 key name kind = record { name = name; kind = kind; durable = false }
@@ -53,10 +50,6 @@ report_with = Report.report data_type shown_text
 
 abbrev pub report : ℕ → List (KeyDecl Kind) → List (ScriptStep Op) → Text
 report = report_with (λ place. [])
-
--- the same at members without a delta log, which send whole entries
-abbrev pub whole_report : ℕ → List (KeyDecl Kind) → List (ScriptStep Op) → Text
-whole_report = Report.report (keeping 0) shown_text (λ place. [])
 
 -- the final block alone
 abbrev pub final : ℕ → List (KeyDecl Kind) → List (ScriptStep Op) → Text
@@ -690,14 +683,14 @@ GeneratedScript =
 
 abbrev pub TwoMembers : Type 0
 TwoMembers =
-    whole_report 2 (key (codes "n") GCounter ∷ [])
+    report 2 (key (codes "n") GCounter ∷ [])
     (Update 0 (codes "n") (Increment 5) Local ∷ Update 1 (codes "n") (Increment 7) Local ∷ Flush 0 ∷ Deliver 0 1 None ∷ Deliver 0 1 (Some 0) ∷ Lose 0 1 ∷ Get 1 (codes "n") Local ∷ [])
     ≡ flat_map line_of
     (codes "1 update 0 n done"
     ∷ codes "2 update 1 n done"
-    ∷ codes "3 flush 0 done sent 1:deltas/0/1"
-    ∷ codes "4 deliver 0>1 0 deltas/0/1 taken"
-    ∷ codes "5 deliver 0>1 0 deltas/0/1 already"
+    ∷ codes "3 flush 0 done sent 1:deltas/1/0"
+    ∷ codes "4 deliver 0>1 0 deltas/1/0 taken"
+    ∷ codes "5 deliver 0>1 0 deltas/1/0 already"
     ∷ codes "6 lose 0>1 1 no such message"
     ∷ codes "7 get 1 n value 12"
     ∷ codes "final view 0"
@@ -707,17 +700,17 @@ TwoMembers =
     ∷ codes "n 12 known 0:1 1:1 marks -"
     ∷ [])
 
-abbrev pub RegisterByWholeEntries : Type 0
-RegisterByWholeEntries =
-    whole_report 2 (key (codes "r") LwwRegister ∷ [])
+abbrev pub FlushedRegister : Type 0
+FlushedRegister =
+    report 2 (key (codes "r") LwwRegister ∷ [])
     (Update 0 (codes "r") (Assign (codes "a") 100) Local ∷ Update 1 (codes "r") (Assign (codes "b") 100) Local ∷ Flush 0 ∷ Flush 1 ∷ Round ∷ Get 1 (codes "r") Local ∷ [])
     ≡ flat_map line_of
     (codes "1 update 0 r done"
     ∷ codes "2 update 1 r done"
-    ∷ codes "3 flush 0 done sent 1:deltas/0/1"
-    ∷ codes "4 flush 1 done sent 0:deltas/0/1"
-    ∷ codes "5 deliver 0>1 0 deltas/0/1 taken"
-    ∷ codes "5 deliver 1>0 0 deltas/0/1 taken"
+    ∷ codes "3 flush 0 done sent 1:deltas/1/0"
+    ∷ codes "4 flush 1 done sent 0:deltas/1/0"
+    ∷ codes "5 deliver 0>1 0 deltas/1/0 taken"
+    ∷ codes "5 deliver 1>0 0 deltas/1/0 taken"
     ∷ (codes "6 get 1 r value " ++ (34 ∷ []) ++ codes "a" ++ (34 ∷ []))
     ∷ codes "final view 0"
     ∷ codes "member 0 place 0 view 0"
@@ -726,30 +719,9 @@ RegisterByWholeEntries =
     ∷ (codes "r " ++ (34 ∷ []) ++ codes "a" ++ (34 ∷ []) ++ codes " known 0:1 1:1 marks -")
     ∷ [])
 
-abbrev pub AddWinsByWholeEntries : Type 0
-AddWinsByWholeEntries =
-    whole_report 2 (key (codes "s") OrSet ∷ [])
-    (Update 0 (codes "s") (Add (codes "x")) Local ∷ Flush 0 ∷ Deliver 0 1 None ∷ Update 0 (codes "s") (Remove (codes "x")) Local ∷ Update 1 (codes "s") (Add (codes "x")) Local ∷ Flush 0 ∷ Flush 1 ∷ Round ∷ [])
-    ≡ flat_map line_of
-    (codes "1 update 0 s done"
-    ∷ codes "2 flush 0 done sent 1:deltas/0/1"
-    ∷ codes "3 deliver 0>1 0 deltas/0/1 taken"
-    ∷ codes "4 update 0 s done"
-    ∷ codes "5 update 1 s done"
-    ∷ codes "6 flush 0 done sent 1:deltas/0/1"
-    ∷ codes "7 flush 1 done sent 0:deltas/0/1"
-    ∷ codes "8 deliver 0>1 1 deltas/0/1 taken"
-    ∷ codes "8 deliver 1>0 0 deltas/0/1 taken"
-    ∷ codes "final view 0"
-    ∷ codes "member 0 place 0 view 0"
-    ∷ (codes "s {" ++ (34 ∷ []) ++ codes "x" ++ (34 ∷ []) ++ codes "} known 0:2 1:1 marks -")
-    ∷ codes "member 1 place 1 view 0"
-    ∷ (codes "s {" ++ (34 ∷ []) ++ codes "x" ++ (34 ∷ []) ++ codes "} known 0:2 1:1 marks -")
-    ∷ [])
-
 abbrev pub GossipedCounter : Type 0
 GossipedCounter =
-    whole_report 2 (key (codes "n") GCounter ∷ [])
+    report 2 (key (codes "n") GCounter ∷ [])
     (Update 0 (codes "n") (Increment 5) Local ∷ Gossip 1 0 ∷ Round ∷ Round ∷ Gossip 1 0 ∷ Round ∷ Get 1 (codes "n") Local ∷ [])
     ≡ flat_map line_of
     (codes "1 update 0 n done"
@@ -768,17 +740,17 @@ GossipedCounter =
 
 abbrev pub ThreeMembers : Type 0
 ThreeMembers =
-    whole_report 3 (key (codes "n") GCounter ∷ [])
+    report 3 (key (codes "n") GCounter ∷ [])
     (Update 0 (codes "n") (Increment 1) Local ∷ Update 1 (codes "n") (Increment 2) Local ∷ Flush 0 ∷ Flush 1 ∷ Lose 0 2 ∷ Round ∷ Get 2 (codes "n") Local ∷ Round ∷ [])
     ≡ flat_map line_of
     (codes "1 update 0 n done"
     ∷ codes "2 update 1 n done"
-    ∷ codes "3 flush 0 done sent 1:deltas/0/1 2:deltas/0/1"
-    ∷ codes "4 flush 1 done sent 0:deltas/0/1 2:deltas/0/1"
+    ∷ codes "3 flush 0 done sent 1:deltas/1/0 2:deltas/1/0"
+    ∷ codes "4 flush 1 done sent 0:deltas/1/0 2:deltas/1/0"
     ∷ codes "5 lose 0>2 0 lost"
-    ∷ codes "6 deliver 0>1 0 deltas/0/1 taken"
-    ∷ codes "6 deliver 1>0 0 deltas/0/1 taken"
-    ∷ codes "6 deliver 1>2 0 deltas/0/1 taken"
+    ∷ codes "6 deliver 0>1 0 deltas/1/0 taken"
+    ∷ codes "6 deliver 1>0 0 deltas/1/0 taken"
+    ∷ codes "6 deliver 1>2 0 deltas/1/0 taken"
     ∷ codes "7 get 2 n value 2"
     ∷ codes "8 round nothing"
     ∷ codes "final view 0"

@@ -1,4 +1,4 @@
-ghost use Rattle.rd_rows.specs.Rows.{Meanings, EmptyScript, OneMember, Repeats, AddWins, DeltaOvertakesItsCause, PrunedCounter, BlockedPrune, ReplacedDot, OwnerDeparts, LateMessages, RestartedMember, MajorityWriteAndRead, TimedOutWrite, RegisterWrites, Refusals, OtherKinds, FiftyDeltas, FiftyOneDeltas, Carts, FailingStore, FailingLoad, GeneratedScript, TwoMembers, RegisterByWholeEntries, AddWinsByWholeEntries, GossipedCounter, ThreeMembers};
+ghost use Rattle.rd_rows.specs.Rows.{Meanings, EmptyScript, OneMember, Repeats, AddWins, DeltaOvertakesItsCause, PrunedCounter, BlockedPrune, ReplacedDot, OwnerDeparts, LateMessages, RestartedMember, MajorityWriteAndRead, TimedOutWrite, RegisterWrites, Refusals, OtherKinds, FiftyDeltas, FiftyOneDeltas, Carts, FailingStore, FailingLoad, GeneratedScript, TwoMembers, FlushedRegister, GossipedCounter, ThreeMembers};
 
 /// What the model makes of worked scripts.
 pub fn worked_rows()
@@ -26,8 +26,7 @@ pub fn worked_rows()
     ensures failing_load { FailingLoad }
     ensures generated_script { GeneratedScript }
     ensures two_members { TwoMembers }
-    ensures register_by_whole_entries { RegisterByWholeEntries }
-    ensures add_wins_by_whole_entries { AddWinsByWholeEntries }
+    ensures flushed_register { FlushedRegister }
     ensures gossiped_counter { GossipedCounter }
     ensures three_members { ThreeMembers }
 {}

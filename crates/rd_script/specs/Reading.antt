@@ -11,7 +11,7 @@ use Rattle.rd_script.specs.declared.fault.Rule.{Rule}
 use Rattle.rd_script.specs.declared.script.Script.{Script}
 use Rattle.rd_script.specs.declared.script.ScriptKey.{ScriptKey}
 use Rattle.rd_script.specs.declared.script.Step.{Step}
-use Rattle.rd_script.specs.declared.script.Step.TheVariants.{Update, Get, Flush, Deliver, Lose, Round}
+use Rattle.rd_script.specs.declared.script.Step.TheVariants.{Update, Get, Flush, Gossip, Deliver, Lose, Round}
 use Rattle.rd_script.specs.Fields.{rule, ◌>>=◌, guard, required, are_objects, has_names, names_of, identity_of, index_of, if_given, whole_of, text_of, list_of, key_of}
 use Rattle.rd_script.specs.Operations.{op_named, update_names, op_of}
 
@@ -41,6 +41,13 @@ flush_of step d = do
   at ← identity_of step (get (codes "at") d)
   Ok (Flush at)
 
+unfoldable pub gossip_of : ℕ → Data → Result Step Rule
+gossip_of step d = do
+  names ← names_of step (codes "at" ∷ codes "do" ∷ codes "to" ∷ []) [] d
+  at ← identity_of step (get (codes "at") d)
+  to ← identity_of step (get (codes "to") d)
+  Ok (Gossip at to)
+
 unfoldable pub deliver_of : ℕ → Data → Result Step Rule
 deliver_of step d = do
   names ← names_of step (codes "do" ∷ codes "from" ∷ codes "to" ∷ []) (codes "index" ∷ []) d
@@ -67,10 +74,11 @@ step_by step d name =
     if bytes_eq name (codes "update") then update_of step d else (
     if bytes_eq name (codes "get") then get_of step d else (
     if bytes_eq name (codes "flush") then flush_of step d else (
+    if bytes_eq name (codes "gossip") then gossip_of step d else (
     if bytes_eq name (codes "deliver") then deliver_of step d else (
     if bytes_eq name (codes "lose") then lose_of step d else (
     if bytes_eq name (codes "round") then round_of step d else
-    Err (rule step 5))))))
+    Err (rule step 5)))))))
 
 unfoldable pub step_of : ℕ → Data → Result Step Rule
 step_of step d = text_of (rule step 5) (get (codes "do") d) >>= step_by step d

@@ -4,7 +4,7 @@ use Rattle.rd_kinds.specs.declared.operation.Op.{Op}
 use Rattle.rd_kinds.specs.declared.operation.Op.TheVariants.{Increment, Decrement, Add, Remove, Enable, Assign}
 use Rattle.rd_script.specs.declared.script.Script.{Script}
 use Rattle.rd_script.specs.declared.script.Step.{Step}
-use Rattle.rd_script.specs.declared.script.Step.TheVariants.{Update, Get, Flush, Deliver, Lose, Round}
+use Rattle.rd_script.specs.declared.script.Step.TheVariants.{Update, Get, Flush, Gossip, Deliver, Lose, Round}
 
 -- what a counter takes at once
 abbrev pub IsAmount : ℕ → Type 0
@@ -34,6 +34,7 @@ abbrev pub IsStep : Step → Type 0
 IsStep (Update at key op) = IsIdentity at × IsOperation op
 IsStep (Get at key) = IsIdentity at
 IsStep (Flush at) = IsIdentity at
+IsStep (Gossip at to) = IsIdentity at × IsIdentity to
 IsStep (Deliver from to index) = IsIdentity from × IsIdentity to
 IsStep (Lose from to) = IsIdentity from × IsIdentity to
 IsStep Round = ⊤

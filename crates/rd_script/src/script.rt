@@ -30,6 +30,11 @@ pub enum Step {
     Flush {
         at: u8,
     },
+    /// A member is to send another the digests of its entries.
+    Gossip {
+        at: u8,
+        to: u8,
+    },
     /// The message of this number on a link is delivered, or the next one where no number is given.
     Deliver {
         from: u8,

@@ -1,7 +1,7 @@
 ghost use Rattle.std.specs.Prelude.{◌≡◌, ◌+◌, ◌≤◌, [], length, All, IfOk};
 ghost use Rattle.serde_json.specs.View.{view, items_view};
 ghost use Rattle.rd_script.specs.Fields.{Gives};
-ghost use Rattle.rd_script.specs.Reading.{update_of, get_of, flush_of, deliver_of, lose_of, round_of, step_of, steps_after};
+ghost use Rattle.rd_script.specs.Reading.{update_of, get_of, flush_of, gossip_of, deliver_of, lose_of, round_of, step_of, steps_after};
 ghost use Rattle.rd_script.specs.WellFormed.{IsStep};
 
 use crate::fault::{Fault, Rule};
@@ -52,6 +52,17 @@ fn flush(step: u32, value: &Value) -> Result<Step, Rule>
     Ok(Step::Flush { at })
 }
 
+#[tactic(auto, unfolding(crate::specs::Reading::gossip_of))]
+fn gossip(step: u32, value: &Value) -> Result<Step, Rule>
+    ensures value { result ≡ gossip_of step (view value.now) }
+    ensures bounds { IfOk result IsStep }
+{
+    step_names(value, &["at", "do", "to"], &[], step)?;
+    let at = identity(value, "at", step)?;
+    let to = identity(value, "to", step)?;
+    Ok(Step::Gossip { at, to })
+}
+
 #[tactic(auto, unfolding(crate::specs::Reading::deliver_of))]
 fn deliver(step: u32, value: &Value) -> Result<Step, Rule>
     ensures value { result ≡ deliver_of step (view value.now) }
@@ -93,6 +104,7 @@ fn one_step(alloc: Global, step: u32, value: &Value) -> Result<Step, Fault>
         "update" => update(alloc, step, value),
         "get" => get(alloc, step, value),
         "flush" => Ok(flush(step, value)?),
+        "gossip" => Ok(gossip(step, value)?),
         "deliver" => Ok(deliver(step, value)?),
         "lose" => Ok(lose(step, value)?),
         "round" => Ok(round(step, value)?),

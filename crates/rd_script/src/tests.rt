@@ -37,6 +37,7 @@ step 1 rule 5: {"do":"tick","at":0}
 step 2 rule 6: {"do":"round"},{"do":"round","at":0}
 step 1 rule 6: {"do":"get","at":64}
 step 1 rule 6: {"do":"get","at":0,"key":"n","level":"local"}
+step 1 rule 6: {"do":"gossip","at":0}
 step 1 rule 6: {"do":"lose","from":0,"to":1,"index":0}
 step 1 rule 6: {"do":"update","op":"enable","at":0,"key":"n","by":1}
 step 1 rule 6: {"do":"update","op":"decrement","at":0,"key":"n","element":"a"}
@@ -50,6 +51,7 @@ step 1 rule 7: {"do":"deliver","from":0,"to":1,"index":null}
 step 1 rule 7: {"do":"deliver","from":0,"to":1,"index":4294967296}
 step 1 rule 7: {"do":"deliver","from":64,"to":1}
 step 1 rule 7: {"do":"lose","from":0,"to":64}
+step 1 rule 7: {"do":"gossip","at":0,"to":64}
 step 1 rule 8: {"do":"get","at":0,"key":"N"}
 step 1 rule 8: {"do":"get","at":0,"key":"abcdefghijklmnopqrstuvwxyz0123456"}
 step 1 rule 8: {"do":"update","op":"increment","at":0,"key":"","by":0}
@@ -81,6 +83,7 @@ update 0 n assign a now 9223372036854775807: {"at":0,"do":"update","key":"n","no
 update 0 n assign  now 0: {"at":0,"do":"update","key":"n","now":0,"op":"assign","text":""}
 get 0 zz: {"at":0,"do":"get","key":"zz"}
 flush 1: {"at":1,"do":"flush"}
+gossip 1 2: {"at":1,"do":"gossip","to":2}
 deliver 1 2: {"do":"deliver","from":1,"to":2}
 deliver 2 1 index 4294967295: {"do":"deliver","from":2,"index":4294967295,"to":1}
 lose 1 2: {"do":"lose","from":1,"to":2}
@@ -125,6 +128,7 @@ fn line(alloc: Global, step: &Step) -> Result<String, Fail> {
         }
         Step::Get { at, key } => format!(in alloc; "get {at} {}", key.as_str())?,
         Step::Flush { at } => format!(in alloc; "flush {at}")?,
+        Step::Gossip { at, to } => format!(in alloc; "gossip {at} {to}")?,
         Step::Deliver { from, to, index } => match index {
             Some(index) => format!(in alloc; "deliver {from} {to} index {index}")?,
             None => format!(in alloc; "deliver {from} {to}")?,

@@ -6,6 +6,7 @@ use Rattle.rd_outside.specs.Transfers.{ReadsToEnd, ReadsCount}
 use Rattle.rd_script.specs.declared.script.Script.{Script}
 use Rattle.rd_script.specs.declared.fault.Rule.{Rule}
 use Rattle.rd_script.specs.Reading.{Spells, Breaks, HasNoReading}
+use Rattle.rd_value.specs.Spelled.{byte_of, history_spelled}
 use Rattle.rd_report.specs.Run.{IsReport}
 use Rattle.rd_top.specs.declared.status.Status.{Status}
 use Rattle.rd_top.specs.declared.status.Status.TheVariants.{Done, NotJson, NotAScript, ReadFailed, WriteFailed, TooLong, Memory}
@@ -32,14 +33,14 @@ pub record Reports (old new : Option (List ℕ)) (text : List ℕ) : Type 0 wher
   pub script : Script
   pub read : ReadsScript old new bytes
   pub spelled : Spells bytes script
-  pub reported : IsReport six_kinds script text
+  pub reported : IsReport six_kinds byte_of history_spelled script text
 
 -- Told bytes were all read and spell a script, and the report of the script's run stands behind what was written before.
 pub record IsReported (bytes before : List ℕ) (left written : Option (List ℕ)) : Type 0 where
   pub script : Script
   pub text : List ℕ
   pub spelled : Spells bytes script
-  pub reported : IsReport six_kinds script text
+  pub reported : IsReport six_kinds byte_of history_spelled script text
   pub all_read : left ≡ Some []
   pub all_written : written ≡ Some (before ++ text)
 

@@ -46,8 +46,7 @@ const OTHER_KINDS: &str = r#"{"members":1,"keys":[{"key":"c","kind":"pncounter"}
     {"do":"get","at":0,"key":"g"},
     {"do":"update","at":0,"key":"c","op":"decrement","by":9223372036854775807}]}"#;
 
-const REGISTER_BY_WHOLE_ENTRIES: &str =
-    r#"{"members":2,"keys":[{"key":"r","kind":"lwwregister"}],"steps":[
+const FLUSHED_REGISTER: &str = r#"{"members":2,"keys":[{"key":"r","kind":"lwwregister"}],"steps":[
     {"do":"update","at":0,"key":"r","op":"assign","text":"a","now":100},
     {"do":"update","at":1,"key":"r","op":"assign","text":"b","now":100},
     {"do":"flush","at":0},
@@ -55,8 +54,7 @@ const REGISTER_BY_WHOLE_ENTRIES: &str =
     {"do":"round"},
     {"do":"get","at":1,"key":"r"}]}"#;
 
-const ADD_WINS_BY_WHOLE_ENTRIES: &str =
-    r#"{"members":2,"keys":[{"key":"s","kind":"orset"}],"steps":[
+const ADD_WINS: &str = r#"{"members":2,"keys":[{"key":"s","kind":"orset"}],"steps":[
     {"do":"update","at":0,"key":"s","op":"add","element":"x"},
     {"do":"flush","at":0},
     {"do":"deliver","from":0,"to":1},
@@ -65,6 +63,33 @@ const ADD_WINS_BY_WHOLE_ENTRIES: &str =
     {"do":"flush","at":0},
     {"do":"flush","at":1},
     {"do":"round"}]}"#;
+
+const DELTA_OVERTAKES_ITS_CAUSE: &str =
+    r#"{"members":3,"keys":[{"key":"s","kind":"orset"}],"steps":[
+    {"do":"update","at":1,"key":"s","op":"add","element":"x"},
+    {"do":"flush","at":1},
+    {"do":"deliver","from":1,"to":0},
+    {"do":"update","at":0,"key":"s","op":"remove","element":"x"},
+    {"do":"flush","at":0},
+    {"do":"deliver","from":0,"to":2},
+    {"do":"deliver","from":2,"to":0},
+    {"do":"deliver","from":0,"to":2},
+    {"do":"get","at":2,"key":"s"},
+    {"do":"deliver","from":1,"to":2}]}"#;
+
+const GOSSIP: &str = r#"{"members":2,"keys":[{"key":"n","kind":"gcounter"}],"steps":[
+    {"do":"update","at":0,"key":"n","op":"increment","by":5},
+    {"do":"gossip","at":1,"to":0},
+    {"do":"round"},
+    {"do":"round"},
+    {"do":"gossip","at":1,"to":0},
+    {"do":"round"},
+    {"do":"get","at":1,"key":"n"}]}"#;
+
+const GOSSIP_TO_NO_PEER: &str = r#"{"members":2,"keys":[{"key":"n","kind":"gcounter"}],"steps":[
+    {"do":"gossip","at":0,"to":0},
+    {"do":"gossip","at":0,"to":2},
+    {"do":"gossip","at":2,"to":0}]}"#;
 
 const REFUSED: &str =
     r#"{"members":1,"keys":[{"key":"r","kind":"lwwregister"},{"key":"n","kind":"gcounter"}],"steps":[
@@ -86,9 +111,9 @@ const ONE_MEMBER_REPORT: &str = "1 update 0 n done\n\
 
 const TWO_MEMBERS_REPORT: &str = "1 update 0 n done\n\
     2 update 1 n done\n\
-    3 flush 0 done sent 1:deltas/0/1\n\
-    4 deliver 0>1 0 deltas/0/1 taken\n\
-    5 deliver 0>1 0 deltas/0/1 already\n\
+    3 flush 0 done sent 1:deltas/1/0\n\
+    4 deliver 0>1 0 deltas/1/0 taken\n\
+    5 deliver 0>1 0 deltas/1/0 already\n\
     6 lose 0>1 1 no such message\n\
     7 get 1 n value 12\n\
     final view 0\n\
@@ -99,12 +124,12 @@ const TWO_MEMBERS_REPORT: &str = "1 update 0 n done\n\
 
 const THREE_MEMBERS_REPORT: &str = "1 update 0 n done\n\
     2 update 1 n done\n\
-    3 flush 0 done sent 1:deltas/0/1 2:deltas/0/1\n\
-    4 flush 1 done sent 0:deltas/0/1 2:deltas/0/1\n\
+    3 flush 0 done sent 1:deltas/1/0 2:deltas/1/0\n\
+    4 flush 1 done sent 0:deltas/1/0 2:deltas/1/0\n\
     5 lose 0>2 0 lost\n\
-    6 deliver 0>1 0 deltas/0/1 taken\n\
-    6 deliver 1>0 0 deltas/0/1 taken\n\
-    6 deliver 1>2 0 deltas/0/1 taken\n\
+    6 deliver 0>1 0 deltas/1/0 taken\n\
+    6 deliver 1>0 0 deltas/1/0 taken\n\
+    6 deliver 1>2 0 deltas/1/0 taken\n\
     7 get 2 n value 2\n\
     8 round nothing\n\
     final view 0\n\
@@ -131,12 +156,12 @@ f true known 0:1 marks -
 g {"a","b"} known 0:2 marks -
 "#;
 
-const REGISTER_BY_WHOLE_ENTRIES_REPORT: &str = r#"1 update 0 r done
+const FLUSHED_REGISTER_REPORT: &str = r#"1 update 0 r done
 2 update 1 r done
-3 flush 0 done sent 1:deltas/0/1
-4 flush 1 done sent 0:deltas/0/1
-5 deliver 0>1 0 deltas/0/1 taken
-5 deliver 1>0 0 deltas/0/1 taken
+3 flush 0 done sent 1:deltas/1/0
+4 flush 1 done sent 0:deltas/1/0
+5 deliver 0>1 0 deltas/1/0 taken
+5 deliver 1>0 0 deltas/1/0 taken
 6 get 1 r value "a"
 final view 0
 member 0 place 0 view 0
@@ -145,20 +170,63 @@ member 1 place 1 view 0
 r "a" known 0:1 1:1 marks -
 "#;
 
-const ADD_WINS_BY_WHOLE_ENTRIES_REPORT: &str = r#"1 update 0 s done
-2 flush 0 done sent 1:deltas/0/1
-3 deliver 0>1 0 deltas/0/1 taken
+const ADD_WINS_REPORT: &str = r#"1 update 0 s done
+2 flush 0 done sent 1:deltas/1/0
+3 deliver 0>1 0 deltas/1/0 taken
 4 update 0 s done
 5 update 1 s done
-6 flush 0 done sent 1:deltas/0/1
-7 flush 1 done sent 0:deltas/0/1
-8 deliver 0>1 1 deltas/0/1 taken
-8 deliver 1>0 0 deltas/0/1 taken
+6 flush 0 done sent 1:deltas/1/0
+7 flush 1 done sent 0:deltas/1/0
+8 deliver 0>1 1 deltas/1/0 taken
+8 deliver 1>0 0 deltas/1/0 taken
 final view 0
 member 0 place 0 view 0
 s {"x"} known 0:2 1:1 marks -
 member 1 place 1 view 0
 s {"x"} known 0:2 1:1 marks -
+"#;
+
+const DELTA_OVERTAKES_ITS_CAUSE_REPORT: &str = r#"1 update 1 s done
+2 flush 1 done sent 0:deltas/1/0 2:deltas/1/0
+3 deliver 1>0 0 deltas/1/0 taken
+4 update 0 s done
+5 flush 0 done sent 1:deltas/1/0 2:deltas/1/0
+6 deliver 0>2 0 deltas/1/0 gap 1 sent 0:nack/1
+7 deliver 2>0 0 nack/1 taken sent 2:gossip/1/0
+8 deliver 0>2 1 gossip/1/0 taken
+9 get 2 s value {}
+10 deliver 1>2 0 deltas/1/0 already
+final view 0
+member 0 place 0 view 0
+s {} known 0:1 1:1 marks -
+member 1 place 1 view 0
+s {"x"} known 1:1 marks -
+member 2 place 2 view 0
+s {} known 0:1 1:1 marks -
+"#;
+
+const GOSSIP_REPORT: &str = r#"1 update 0 n done
+2 gossip 1 0 done sent 0:status/0
+3 deliver 1>0 0 status/0 taken sent 1:gossip/1/0
+4 deliver 0>1 0 gossip/1/0 taken
+5 gossip 1 0 done sent 0:status/1
+6 deliver 1>0 1 status/1 taken
+7 get 1 n value 5
+final view 0
+member 0 place 0 view 0
+n 5 known 0:1 marks -
+member 1 place 1 view 0
+n 5 known 0:1 marks -
+"#;
+
+const GOSSIP_TO_NO_PEER_REPORT: &str = r#"1 gossip 0 0 not a peer
+2 gossip 0 2 not a peer
+3 gossip 2 0 gone
+final view 0
+member 0 place 0 view 0
+n - known - marks -
+member 1 place 1 view 0
+n - known - marks -
 "#;
 
 const REFUSED_REPORT: &str = r#"1 update 0 n wrong kind
@@ -204,14 +272,61 @@ fn prints_the_report(rt: HostRuntime) -> Result<(), Fail> {
         (TWO_MEMBERS, TWO_MEMBERS_REPORT),
         (THREE_MEMBERS, THREE_MEMBERS_REPORT),
         (OTHER_KINDS, OTHER_KINDS_REPORT),
-        (REGISTER_BY_WHOLE_ENTRIES, REGISTER_BY_WHOLE_ENTRIES_REPORT),
-        (ADD_WINS_BY_WHOLE_ENTRIES, ADD_WINS_BY_WHOLE_ENTRIES_REPORT),
+        (FLUSHED_REGISTER, FLUSHED_REGISTER_REPORT),
+        (ADD_WINS, ADD_WINS_REPORT),
+        (DELTA_OVERTAKES_ITS_CAUSE, DELTA_OVERTAKES_ITS_CAUSE_REPORT),
+        (GOSSIP, GOSSIP_REPORT),
+        (GOSSIP_TO_NO_PEER, GOSSIP_TO_NO_PEER_REPORT),
         (REFUSED, REFUSED_REPORT),
     ];
     for (script, report) in rows {
         let (code, sink) = answer(alloc, "plain", script, &[], &[])?;
         assert_eq!(rt; code, u8::from(Status::Done), "at {script}");
         assert_eq!(rt; sink.bytes(), report.as_bytes(), "at {script}");
+    }
+    Ok(())
+}
+
+// A script of so many increments and a flush.
+fn increments(alloc: Global, count: u64) -> Result<String, Fail> {
+    let mut script = String::from_str(
+        alloc,
+        r#"{"members":2,"keys":[{"key":"n","kind":"gcounter"}],"steps":["#,
+    )?;
+    for _ in 0..count {
+        script.push_str(r#"{"do":"update","at":0,"key":"n","op":"increment","by":1},"#)?;
+    }
+    script.push_str(r#"{"do":"flush","at":0}]}"#)?;
+    Ok(script)
+}
+
+// What it prints, if the flush sends this.
+fn increments_report(alloc: Global, count: u64, sent: &str) -> Result<String, Fail> {
+    let mut report = String::new(alloc);
+    let mut step: u64 = 1;
+    for _ in 0..count {
+        write!(report, "{step} update 0 n done\n")?;
+        step = step.saturating_add(1);
+    }
+    write!(report, "{step} flush 0 done sent 1:{sent}\nfinal view 0\n")?;
+    write!(
+        report,
+        "member 0 place 0 view 0\nn {count} known 0:{count} marks -\n"
+    )?;
+    report.push_str("member 1 place 1 view 0\nn - known - marks -\n")?;
+    Ok(report)
+}
+
+#[test]
+fn fifty_records_go_as_a_group_and_fifty_one_as_the_entry(rt: HostRuntime) -> Result<(), Fail> {
+    let alloc = rt.alloc();
+    let rows = [(50, "deltas/1/0"), (51, "deltas/0/1")];
+    for (count, sent) in rows {
+        let script = increments(alloc, count)?;
+        let (code, sink) = answer(alloc, "plain", &script, &[], &[])?;
+        let report = increments_report(alloc, count, sent)?;
+        assert_eq!(rt; code, u8::from(Status::Done), "at {count}");
+        assert_eq!(rt; sink.bytes(), report.as_bytes(), "at {count}");
     }
     Ok(())
 }

@@ -10,4 +10,6 @@ mod random;
 #[cfg(test)]
 mod shown;
 #[cfg(test)]
+mod spellings;
+#[cfg(test)]
 mod tests;

@@ -1,5 +1,5 @@
 -- The laws of values: each is the law of the value's kind.
-use Rattle.std.proofs.Common.{◌≡◌, ℕ, ◌+◌, ◌<◌, ◌≤◌, true, false, Option, None, refl, ap}
+use Rattle.std.proofs.Common.{◌≡◌, ℕ, ◌+◌, ◌<◌, ◌≤◌, true, false, None, refl, ap}
 use Rattle.rd_history.specs.Table.{with_at}
 use Rattle.rd_history.specs.Vector.{VersionVector, IdentitySet, join, with_member}
 use Rattle.rd_history.specs.History.{History, cut}
@@ -20,7 +20,7 @@ use Rattle.rd_value.specs.declared.value.Data.{Data}
 use Rattle.rd_value.specs.declared.value.Data.TheVariants.{GCounter, PnCounter, GSet, OrSet, Flag, LwwRegister}
 use Rattle.rd_value.specs.declared.value.Delta.{Delta}
 use Rattle.rd_value.specs.declared.value.Delta.TheVariants as changes
-use Rattle.rd_value.specs.Values.{kind_of, kind_of_delta, are_same, fits_kind, IsOfOrigin, AreApart, empty_of, applied, delta_of, apply_refusal, joined, absorbed, combined, cleaned, pruned, prune_refusal, mentioned, shown, IsDataOf, IsDeltaOf, IsWithin}
+use Rattle.rd_value.specs.Values.{kind_of, fits_kind, IsOfOrigin, AreApart, empty_of, applied, delta_of, apply_refusal, joined, absorbed, combined, cleaned, pruned, prune_refusal, mentioned, shown, IsDataOf, IsDeltaOf, IsWithin}
 
 pub kind_empty : (kind : Kind) → kind_of (empty_of kind) ≡ kind
 kind_empty kinds.GCounter = refl

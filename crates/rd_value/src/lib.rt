@@ -2,6 +2,7 @@
 #![tactic(auto)]
 
 mod replica;
+mod spelled;
 #[cfg(test)]
 mod tests;
 mod value;

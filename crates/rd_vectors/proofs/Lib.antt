@@ -4,3 +4,5 @@ pub mod Joins
 pub mod Sets
 pub mod Walks
 pub mod Seqs
+pub mod Readings
+pub mod Spellings

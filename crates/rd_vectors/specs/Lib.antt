@@ -2,3 +2,6 @@ pub mod Vectors
 pub mod Kept
 pub mod IdSets
 pub mod Orders
+pub mod Fields
+pub mod FieldLaws
+pub mod Spelling

@@ -1,9 +1,13 @@
-ghost use Rattle.std.specs.Prelude.{◌≡◌, ◌↔◌, ◌<◌, ◌^◌, ℕ, false, bit_or, IsTrue};
+ghost use Rattle.std.specs.Prelude.{◌≡◌, ◌↔◌, ◌<◌, ◌≤◌, ◌^◌, ◌++◌, ℕ, false, bit_or, IsTrue, OnOk};
 ghost use Rattle.rd_history.specs.Table.{identity_limit};
 ghost use Rattle.rd_history.specs.Vector.{with_member, united};
+ghost use Rattle.rd_bytes.specs.Fields.{Gives};
 ghost use Rattle.rd_vectors.specs.IdSets.{members_in, member_count};
+ghost use Rattle.rd_vectors.specs.Spelling.{ids_spelled, ids_in};
 
-use crate::id::Id;
+use crate::id::{IDENTITIES, Id};
+use crate::reading::read_ids;
+use rd_bytes::{FieldError, Memory};
 use std::marker::Model;
 
 /// A set of identities. Contracts see the number whose bits are its members.
@@ -27,7 +31,8 @@ impl Model for IdSet {
 impl IdSet {
     /// The set without a member.
     pub fn empty() -> IdSet
-        ensures { (i : ℕ) → members_in result i ≡ false }
+        ensures bits { result ≡ 0 }
+        ensures members { (i : ℕ) → members_in result i ≡ false }
     {
         IdSet { bits: 0 }
     }
@@ -61,7 +66,8 @@ impl IdSet {
 
     /// How many members there are.
     pub fn len(self) -> u32
-        ensures { result ≡ member_count (members_in self) }
+        ensures value { result ≡ member_count (members_in self) }
+        ensures range { result ≤ identity_limit }
     {
         self.bits.count_ones()
     }
@@ -71,5 +77,28 @@ impl IdSet {
         ensures { IsTrue result ↔ ((i : ℕ) → i < identity_limit → members_in self i ≡ members_in other i) }
     {
         self.bits == other.bits
+    }
+
+    /// Appends how many members there are, and the members, rising. After a refusal a part of it may have been appended.
+    pub fn spell(self, into: &mut Vec<u8>) -> Result<(), Memory>
+        ensures range { self < 2 ^ 64 }
+        ensures ok { OnOk result (into.new.items ≡ into.old.items ++ ids_spelled (members_in self)) }
+    {
+        into.push(self.len() as u8)?;
+        for number in 0..IDENTITIES {
+            if let Some(id) = Id::new(number) {
+                if self.has(id) {
+                    into.push(number)?;
+                }
+            }
+        }
+        Ok(())
+    }
+
+    /// The set at the front of these bytes, which has a member; and the bytes after it.
+    pub fn read(bytes: &[u8]) -> Result<(IdSet, &[u8]), FieldError>
+        ensures { Gives (λ x. (x.0, x.1.now)) result (ids_in bytes.now) }
+    {
+        read_ids(bytes)
     }
 }

@@ -1,9 +1,15 @@
-ghost use Rattle.std.specs.Prelude.{◌≡◌, ℕ, ◌≤◌, OnOk, OnErr, IfOk};
+ghost use Rattle.std.specs.Prelude.{◌≡◌, ℕ, ◌≤◌, ◌++◌, length, OnOk, OnErr, IfOk};
+ghost use Rattle.std.specs.List.{flat_map};
 ghost use Rattle.std.specs.FinMap as map;
+ghost use Rattle.rd_bytes.specs.Fields.{Gives};
+ghost use Rattle.rd_vectors.specs.IdSets.{members_in};
 ghost use Rattle.rd_vectors.specs.Vectors.{IsNormal, number_at, raised, joined, removed};
+ghost use Rattle.rd_vectors.specs.Spelling.{pairs_of, pair_spelled, numbers_spelled, numbers_in, AreSpellable};
 
 use crate::id::{IDENTITIES, Id};
-use rd_bytes::Memory;
+use crate::id_set::IdSet;
+use crate::reading::read_numbers;
+use rd_bytes::{FieldError, Memory};
 use std::alloc::Global;
 use std::collections::BTreeMap;
 use std::marker::Model;
@@ -98,5 +104,59 @@ impl Numbers {
             Ok(numbers) => Ok(Numbers { alloc, numbers }),
             Err(_) => Err(Memory),
         }
+    }
+
+    /// How many identities have a number.
+    fn count(&self) -> u8
+        ensures { result ≡ length (pairs_of (number_at self.now)) }
+    {
+        let mut count = 0;
+        for number in 0..IDENTITIES {
+            if let Some(id) = Id::new(number) {
+                if self.at(id) > 0 {
+                    count += 1;
+                }
+            }
+        }
+        count
+    }
+
+    /// Appends each identity that has a number, and the number.
+    fn spell_pairs(&self, into: &mut Vec<u8>) -> Result<(), Memory>
+        ensures ok { OnOk result (into.new.items ≡ into.old.items ++ flat_map pair_spelled (pairs_of (number_at self.now))) }
+    {
+        for number in 0..IDENTITIES {
+            if let Some(id) = Id::new(number) {
+                let value = self.at(id);
+                if value > 0 {
+                    into.push(number)?;
+                    into.extend_from_slice(&value.to_be_bytes())?;
+                }
+            }
+        }
+        Ok(())
+    }
+
+    /// Appends how many identities have a number, and these, rising, each with its number. After a refusal a part of it
+    /// may have been appended.
+    pub fn spell(&self, into: &mut Vec<u8>) -> Result<(), Memory>
+        ensures ok { OnOk result (into.new.items ≡ into.old.items ++ numbers_spelled (number_at self.now)) }
+    {
+        into.push(self.count())?;
+        self.spell_pairs(into)
+    }
+
+    /// The numbers at the front of these bytes, each from 1 to a greatest one and none at a barred identity; and the
+    /// bytes after them.
+    pub fn read(
+        alloc: Global,
+        most: u64,
+        barred: IdSet,
+        bytes: &[u8],
+    ) -> Result<(Numbers, &[u8]), FieldError>
+        ensures exact { Gives (λ x. (x.0, x.1.now)) result (numbers_in most (members_in barred) bytes.now) }
+        ensures sound { IfOk result (λ x. AreSpellable most x.0) }
+    {
+        read_numbers(alloc, most, barred, bytes)
     }
 }

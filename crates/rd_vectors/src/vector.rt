@@ -1,12 +1,16 @@
-ghost use Rattle.std.specs.Prelude.{◌≡◌, ℕ, ◌<◌, ◌≤◌, ◌^◌, ◌↔◌, IsTrue, IsSome, IfSome, IfNone, OnOk, OnErr, IfOk};
+ghost use Rattle.std.specs.Prelude.{◌≡◌, ℕ, ◌<◌, ◌≤◌, ◌^◌, ◌++◌, ◌↔◌, IsTrue, IsSome, IfSome, IfNone, OnOk, OnErr, IfOk};
 ghost use Rattle.std.specs.FinMap as map;
 ghost use Rattle.rd_history.specs.Vector.{Covers};
 ghost use Rattle.rd_vectors.specs.Vectors.{IsNormal, number_at, raised, joined, removed, IsFirstLacking};
 ghost use Rattle.rd_vectors.specs.Orders.{reaches, is_reached};
+ghost use Rattle.rd_bytes.specs.Fields.{Gives};
+ghost use Rattle.rd_vectors.specs.IdSets.{members_in};
+ghost use Rattle.rd_vectors.specs.Spelling.{numbers_spelled, numbers_in, AreSpellable};
 
 use crate::id::{Dot, IDENTITIES, Id, Seq};
+use crate::id_set::IdSet;
 use crate::numbers::Numbers;
-use rd_bytes::Memory;
+use rd_bytes::{FieldError, Memory};
 use std::alloc::Global;
 use std::marker::Model;
 
@@ -145,12 +149,32 @@ impl VersionVector {
         let numbers = self.numbers.copy(alloc)?;
         Ok(VersionVector { numbers })
     }
+
+    /// Appends how many origins have a record, and these, rising, each with its greatest record number. After a refusal a
+    /// part of it may have been appended.
+    pub fn spell(&self, into: &mut Vec<u8>) -> Result<(), Memory>
+        ensures sound { AreSpellable (2 ^ 62) self.now }
+        ensures ok { OnOk result (into.new.items ≡ into.old.items ++ numbers_spelled (number_at self.now)) }
+    {
+        self.numbers.spell(into)
+    }
+
+    /// The vector at the front of these bytes, without a barred identity; and the bytes after it.
+    pub fn read(
+        alloc: Global,
+        barred: IdSet,
+        bytes: &[u8],
+    ) -> Result<(VersionVector, &[u8]), FieldError>
+        ensures { Gives (λ x. (x.0, x.1.now)) result (numbers_in (2 ^ 62) (members_in barred) bytes.now) }
+    {
+        let (numbers, rest) = Numbers::read(alloc, 1 << 62, barred, bytes)?;
+        Ok((VersionVector { numbers }, rest))
+    }
 }
 
 #[cfg(test)]
 mod tests {
     use super::*;
-    use crate::id_set::IdSet;
     use std::test::Fail;
 
     #[test]

@@ -1,7 +1,8 @@
 -- A delivery: the message is handed to its receiver, and passed where it was the next one due.
-use Rattle.std.proofs.Common.{◌≡◌, ℕ, zero, suc, ◌<◌, ◌≤◌, List, [], ◌∷◌, length, get_or, set, refl, sym, ap, subst, ◌∙◌, arith, false, Option, Some, None, Ok, length-set}
-use Rattle.std.specs.Prelude.{nat_lt, ◌&&◌, if◌then◌else◌, is_some}
+use Rattle.std.proofs.Common.{◌≡◌, ℕ, zero, suc, ◌<◌, ◌≤◌, List, [], ◌∷◌, length, get_or, refl, sym, ap, subst, ◌∙◌, arith, false, Option, Some, None}
+use Rattle.std.specs.Prelude.{nat_lt, ◌&&◌, if◌then◌else◌, is_some, map}
 use Rattle.std.proofs.lemmas.Bool.Decides.{nat_tests}
+use Rattle.std.proofs.lemmas.List.{length-map}
 use Rattle.std.proofs.lemmas.Option.{slice_get_within}
 use Rattle.rd_history.specs.Table.{identity_limit}
 use Rattle.rd_history.specs.Texts.{Text}
@@ -12,7 +13,6 @@ use Rattle.rd_model.specs.Message.{Message as Sent}
 use Rattle.rd_model.specs.Node as nodes
 use Rattle.rd_model.specs.Node.{Input}
 use Rattle.rd_model.specs.Node.Fate.{NoStore}
-use Rattle.rd_model.specs.Step.{step}
 use Rattle.rd_model.specs.World as worlds
 use Rattle.rd_model.specs.World.{Link, moved_on, message_at, happens, delivered, stepped_at, after_step}
 use Rattle.rd_model.specs.World.Event.{Delivery}
@@ -21,26 +21,24 @@ use Rattle.rd_model.specs.Script.{Playing, IsRun, told, deliver, deliver_message
 use Rattle.rd_kinds.specs.declared.shown.Shown.{Shown}
 use Rattle.rd_lattice.specs.declared.replica.Replica.{Ghosts}
 use Rattle.rd_messages.specs.declared.message.Message.{Message}
-use Rattle.rd_messages.specs.declared.message.Message.TheVariants.{Deltas, Nack, Gossip}
+use Rattle.rd_messages.specs.declared.message.Message.TheVariants.{Deltas, Nack, Status, Gossip}
 use Rattle.rd_node.specs.declared.node.Node.{Node}
-use Rattle.rd_node.specs.declared.reply.Reply.{Reply}
 use Rattle.rd_node.specs.Members.{StandsForKeyed, StandsForKeyedGroup, StandsForMessage}
 use Rattle.rd_messages.specs.Sketches.{sketch_of}
+use Rattle.rd_messages.specs.Standing.{digest_told}
 use Rattle.rd_messages.specs.declared.sketch.MessageKind.TheVariants as kind
 use Rattle.rd_world.specs.declared.world.World.{World}
 use Rattle.rd_world.specs.declared.event.Head.TheVariants as head
 use Rattle.rd_world.specs.declared.event.Answer.{Answer}
 use Rattle.rd_world.specs.declared.event.Answer.TheVariants as answer
-use Rattle.rd_world.specs.Channels.{Channel, Channels, channel_at, next_on, count_on, message_on, passed, ChangesOne}
-use Rattle.rd_world.specs.Standing.{StandsForParts, StandsForWorld}
+use Rattle.rd_world.specs.Channels.{Channel, channel_at, next_on, count_on, message_on}
+use Rattle.rd_world.specs.Standing.{StandsForWorld}
 use Rattle.rd_world.specs.Lines.{meant_answer, sketched, IsHead, IsNextLine}
-use Rattle.rd_world.specs.Ways.{Throughout}
-use Rattle.rd_world.proofs.Quiet.{IsPlain, deltas_taken, nack_taken, gossip_taken}
+use Rattle.rd_world.proofs.Quiet.{IsPlain, deltas_taken, nack_taken, status_taken, gossip_taken}
 use Rattle.rd_world.proofs.Pairs.{IsPair, both, neither, zip_length}
 use Rattle.rd_world.proofs.Standings.{IsRunning, running_at, gone_past}
-use Rattle.rd_world.proofs.Steppings.{IsDone}
-use Rattle.rd_world.proofs.Inputs.{IsBefore, told_plainly, full_tells, reply_stands, reply_tells}
-use Rattle.rd_world.proofs.Moving.{link_next, link_message, stands_moved}
+use Rattle.rd_world.proofs.Inputs.{told_plainly, full_tells}
+use Rattle.rd_world.proofs.Moving.{link_next, link_message}
 
 item_at : {X : Type 0} (xs : List X) (k : ℕ) → k < length xs → (x : X) × (x ≡ get_or xs k x)
 item_at [] k within = absurd (omega arith)
@@ -57,6 +55,7 @@ module _ {T Kind Op Delta : Type 0} (kind_of : T → Kind) (IsDataOf : T → His
   pub plain_message : {ghosts : Ghosts T Kind Op Delta} → (message : Message T Kind Op Delta ghosts) (sent : Sent Op) (from : ℕ) → StandsForMessage kind_of IsDataOf kinds logs message sent → IsPlain (Input.Take from sent)
   plain_message (Deltas groups entries) sent from s = subst (λ (m : Sent Op). IsPlain (Input.Take from m)) (sym s.is) (deltas_taken from s.sent_groups s.sent_entries)
   plain_message (Nack keys) sent from s = subst (λ (m : Sent Op). IsPlain (Input.Take from m)) (sym s) (nack_taken from keys)
+  plain_message (Status digests) sent from s = subst (λ (m : Sent Op). IsPlain (Input.Take from m)) (sym s) (status_taken from (map digest_told digests))
   plain_message (Gossip entries wants) sent from s = subst (λ (m : Sent Op). IsPlain (Input.Take from m)) (sym s.is) (gossip_taken from s.sent_entries wants)
 
   -- and is printed alike
@@ -69,6 +68,7 @@ module _ {T Kind Op Delta : Type 0} (kind_of : T → Kind) (IsDataOf : T → His
       })
       ∙ sym (ap sketched s.is)
   same_sketch (Nack keys) sent s = sym (ap sketched s)
+  same_sketch (Status digests) sent s = (λ i. record { kind = kind.Status; first = sym (length-map digests digest_told) i; second = 0 }) ∙ sym (ap sketched s)
   same_sketch (Gossip entries wants) sent s =
       (λ i. record { kind = kind.Gossip; first = zip_length (StandsForKeyed kind_of IsDataOf kinds logs) entries s.sent_entries s.entries_stand i; second = length wants }) ∙ sym (ap sketched s.is)
 

@@ -24,7 +24,7 @@ use Rattle.rd_lattice.specs.declared.replica.Replica.{Ghosts}
 use Rattle.rd_messages.specs.declared.message.Message.{Message}
 use Rattle.rd_node.specs.declared.node.Node.{Node}
 use Rattle.rd_node.specs.declared.reply.Reply.TheVariants as reply
-use Rattle.rd_node.specs.Members.{whole_entries, StandsForNode, StandsForPost, AreTakenFrom}
+use Rattle.rd_node.specs.Members.{delta_groups, StandsForNode, StandsForPost, AreTakenFrom}
 use Rattle.rd_world.specs.declared.event.Head.TheVariants as head
 use Rattle.rd_world.specs.declared.event.Answer.TheVariants as answer
 use Rattle.rd_world.specs.declared.event.SentTo.{SentTo}
@@ -45,10 +45,10 @@ use Rattle.rd_world.proofs.Flushing.{posts_below, posts_few, told_alike, links_s
 module _ {T Kind Op Delta : Type 0} (data_type : DataType Kind Op Shown) (kind_of : T → Kind) (IsDataOf : T → History Op → VersionVector → IdentitySet → Type 0) (ghosts : Ghosts T Kind Op Delta) (digest : Kind → Entry Op → List ℕ) (kinds : Text → Kind) (logs : Text → History Op) (code : World T Kind Op Delta ghosts) (p : Playing Kind Op Shown)
     (stands : StandsForWorld kind_of IsDataOf kinds logs code p.world) (i : ℕ) (old : Node T Kind Op Delta ghosts) (within : i < length code.nodes.items) (is : old ≡ get_or code.nodes.items i old) where
   abbrev D : Replication Kind Op Shown
-  D = whole_entries data_type digest
+  D = delta_groups data_type digest
 
   abbrev pub flushed : Playing Kind Op Shown
-  flushed = given (whole_entries data_type digest) p (script.Head.FlushHead i) i Input.Flush
+  flushed = given (delta_groups data_type digest) p (script.Head.FlushHead i) i Input.Flush
 
   running : IsRunning kind_of IsDataOf kinds logs ghosts p.world i old
   running = running_at kind_of IsDataOf kinds logs ghosts code.nodes.items code.links p.world stands.parts i old within is
@@ -57,8 +57,8 @@ module _ {T Kind Op Delta : Type 0} (data_type : DataType Kind Op Shown) (kind_o
   flush_full full = gives_full kind_of IsDataOf kinds logs ghosts D code.nodes.items code.links p stands.parts (script.Head.FlushHead i) (InputAt i Input.Flush) i Input.Flush old running full
 
   module _ (new : Node T Kind Op Delta ghosts) (links : Channels (Message T Kind Op Delta ghosts)) (sent : List SentTo) (room : old.steps ≡ 16384 → ⊥)
-      (becomes : (node : nodes.Node Kind Op Shown) → StandsForNode kind_of IsDataOf kinds logs old node → AreTakenFrom logs (step (whole_entries data_type digest) node Input.Flush NoStore).node → StandsForNode kind_of IsDataOf kinds logs new (step (whole_entries data_type digest) node Input.Flush NoStore).node)
-      (sends : IsSentFrom (AreFlushed data_type kind_of IsDataOf old) i code.members code.links links sent) (first : worlds.World Kind Op Shown) (run : IsRun (whole_entries data_type digest) first flushed.events flushed.world) (through : Throughout (whole_entries data_type digest) logs first flushed) where
+      (becomes : (node : nodes.Node Kind Op Shown) → StandsForNode kind_of IsDataOf kinds logs old node → AreTakenFrom logs (step (delta_groups data_type digest) node Input.Flush NoStore).node → StandsForNode kind_of IsDataOf kinds logs new (step (delta_groups data_type digest) node Input.Flush NoStore).node)
+      (sends : IsSentFrom (AreFlushed data_type kind_of IsDataOf old) i code.members code.links links sent) (first : worlds.World Kind Op Shown) (run : IsRun (delta_groups data_type digest) first flushed.events flushed.world) (through : Throughout (delta_groups data_type digest) logs first flushed) where
     node : nodes.Node Kind Op Shown
     node = running.node
 

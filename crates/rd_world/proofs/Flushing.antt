@@ -49,7 +49,7 @@ filter_fewer p (x ∷ xs) = go (p x) (filter_fewer p xs)
     go true rest = omega arith
     go false rest = omega arith
 
-range_below : (a n : ℕ) → AllByRecursion (λ i. i < a + n) (range_with_len a n)
+pub range_below : (a n : ℕ) → AllByRecursion (λ i. i < a + n) (range_with_len a n)
 range_below a zero = tt
 range_below a (suc n) = (omega arith, subst (λ m. AllByRecursion (λ i. i < m) (range_with_len (a + 1) n)) (let e : a + 1 + n ≡ a + suc n = omega arith in e) (range_below (a + 1) n))
 

@@ -17,6 +17,7 @@ pub mod Rooms
 pub mod Sendings
 pub mod Flushing
 pub mod FlushCalls
+pub mod GossipCalls
 pub mod TakeCalls
 pub mod DueLists
 pub mod Prefixes

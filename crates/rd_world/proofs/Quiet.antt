@@ -1,13 +1,13 @@
 -- What a member's local inputs and messages leave as it is: its view and its keys. Operations and reads send nothing. With no durable key nothing is to be stored.
 use Rattle.std.proofs.Common.{◌≡◌, ℕ, List, [], ◌∷◌, refl, sym, ap, subst, ◌∙◌, Bool, true, false, Option, Some, None, map}
-use Rattle.std.specs.Prelude.{if◌then◌else◌, filter, fold, nat_le, not}
+use Rattle.std.specs.Prelude.{◌==◌, ◌||◌, if◌then◌else◌, filter, fold, nat_le, not}
 use Rattle.std.specs.List.{AllByRecursion}
 use Rattle.rd_model.specs.View.{is_member}
 use Rattle.rd_model.specs.Entry.{Entry, Group, Judgement, judged, is_unchanged}
 use Rattle.rd_model.specs.Entry.Judgement.{Wanted, Stale, Missing}
 use Rattle.rd_model.specs.DataType.{Replication}
 use Rattle.rd_model.specs.Message.{Keyed}
-use Rattle.rd_model.specs.Message.Message.{Deltas, Nack, Gossip}
+use Rattle.rd_model.specs.Message.Message.{Deltas, Nack, Status, Gossip}
 use Rattle.rd_meanings.specs.Refusal.{Refusal}
 use Rattle.rd_history.specs.Texts.{Text}
 use Rattle.rd_model.specs.Node.{KeyDecl, KeyState, Node, Input, Fate, Level, Stepped, key_state, state_of, one_step_later, needed}
@@ -31,12 +31,14 @@ pub data IsQuiet {Op : Type 0} : Input Op → Type 0 where
   local_update : (key : Text) (op : Op) → IsQuiet (Input.Update key op Level.Local)
   local_get : (key : Text) → IsQuiet (Input.Get key Level.Local)
 
--- or a flush, or one of these messages
+-- or a flush, or gossip, or one of these messages
 pub data IsPlain {Op : Type 0} : Input Op → Type 0 where
   quiet : {input : Input Op} → IsQuiet input → IsPlain input
   flush : IsPlain Input.Flush
+  gossip : (to : ℕ) → IsPlain (Input.GossipTo to)
   deltas_taken : (from : ℕ) (groups : List (Keyed (Group Op))) (entries : List (Keyed (Entry Op))) → IsPlain (Input.Take from (Deltas groups entries))
   nack_taken : (from : ℕ) (keys : List Text) → IsPlain (Input.Take from (Nack keys))
+  status_taken : (from : ℕ) (digests : List (Keyed (List ℕ))) → IsPlain (Input.Take from (Status digests))
   gossip_taken : (from : ℕ) (entries : List (Keyed (Entry Op))) (wants : List Text) → IsPlain (Input.Take from (Gossip entries wants))
 
 module _ {Kind Op Shown : Type 0} where
@@ -110,6 +112,11 @@ module _ {Kind Op Shown : Type 0} (D : Replication Kind Op Shown) where
       (if_holds (λ (s : Stepped Kind Op Shown). IsSame (one_step_later node) s.node) (is_member node.view from) _ _ (same_trans later mid _ (same_groups groups (record { node = later; gaps = [] })) (same_entries entries mid)) (same later))
   same_step node _ fate (nack_taken from keys) =
       same_trans node (one_step_later node) _ (after_one node) (if_holds (λ (s : Stepped Kind Op Shown). IsSame (one_step_later node) s.node) (is_member node.view from) _ _ (same (one_step_later node)) (same (one_step_later node)))
+  same_step node _ fate (status_taken from digests) =
+      same_trans node (one_step_later node) _ (after_one node) (if_holds (λ (s : Stepped Kind Op Shown). IsSame (one_step_later node) s.node) (is_member node.view from) _ _ (same (one_step_later node)) (same (one_step_later node)))
+  same_step node _ fate (gossip to) =
+      same_trans node (one_step_later node) _ (after_one node)
+      (if_holds (λ (s : Stepped Kind Op Shown). IsSame (one_step_later node) s.node) ((to == node.identity) || not (is_member node.view to)) _ _ (same (one_step_later node)) (same (one_step_later node)))
   same_step node _ fate (gossip_taken from entries wants) =
       same_trans node (one_step_later node) _ (after_one node)
       (if_holds (λ (s : Stepped Kind Op Shown). IsSame (one_step_later node) s.node) (is_member node.view from) _ _ (same_entries entries (one_step_later node)) (same (one_step_later node)))

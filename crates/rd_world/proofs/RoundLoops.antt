@@ -11,7 +11,7 @@ use Rattle.rd_model.specs.World as worlds
 use Rattle.rd_model.specs.Script.{Playing, IsRun, deliver, deliver_due}
 use Rattle.rd_kinds.specs.declared.shown.Shown.{Shown}
 use Rattle.rd_lattice.specs.declared.replica.Replica.{Ghosts}
-use Rattle.rd_node.specs.Members.{whole_entries}
+use Rattle.rd_node.specs.Members.{delta_groups}
 use Rattle.rd_world.specs.declared.rounds.Due.{Due}
 use Rattle.rd_world.specs.declared.event.Event.{Event}
 use Rattle.rd_world.specs.declared.world.World.{World}
@@ -23,34 +23,34 @@ use Rattle.rd_world.proofs.Pairs.{zip_push}
 use Rattle.rd_world.proofs.Prefixes.{throughout_earlier}
 use Rattle.rd_world.proofs.RoundSteps.{upto_start, upto_more, upto_run, upto_since, upto_until}
 
-module _ {T Kind Op Delta : Type 0} (data_type : DataType Kind Op Shown) (kind_of : T → Kind) (IsDataOf : T → History Op → VersionVector → IdentitySet → Type 0) (ghosts : Ghosts T Kind Op Delta) where
+module _ {T Kind Op Delta : Type 0} (data_type : DataType Kind Op Shown) (digest : Kind → Entry Op → List ℕ) (kind_of : T → Kind) (IsDataOf : T → History Op → VersionVector → IdentitySet → Type 0) (ghosts : Ghosts T Kind Op Delta) where
   -- the messages of a link up to a number were delivered
   pub record IsDeliveredUpto (due : Due) (index : ℕ) (start : World T Kind Op Delta ghosts) (before : List Event) (now : World T Kind Op Delta ghosts) (events : List Event) : Type 0 where
-    pub stands : (digest : Kind → Entry Op → List ℕ) (kinds : Text → Kind) (logs : Text → History Op) (first : worlds.World Kind Op Shown) (p : Playing Kind Op Shown)
-        → let D = whole_entries data_type digest in
+    pub stands : (kinds : Text → Kind) (logs : Text → History Op) (first : worlds.World Kind Op Shown) (p : Playing Kind Op Shown)
+        → let D = delta_groups data_type digest in
         IsRun D first p.events p.world → Throughout D logs first (deliver_due D p (meant_due due)) → StandsForWorld kind_of IsDataOf kinds logs start p.world → StandsForWorld kind_of IsDataOf kinds logs now (delivered_upto D p due index).world
-    pub told : (digest : Kind → Entry Op → List ℕ) (kinds : Text → Kind) (logs : Text → History Op) (first : worlds.World Kind Op Shown) (opening p : Playing Kind Op Shown)
-        → let D = whole_entries data_type digest in
+    pub told : (kinds : Text → Kind) (logs : Text → History Op) (first : worlds.World Kind Op Shown) (opening p : Playing Kind Op Shown)
+        → let D = delta_groups data_type digest in
         IsRun D first p.events p.world → Throughout D logs first (deliver_due D p (meant_due due)) → StandsForWorld kind_of IsDataOf kinds logs start p.world → AreNextLines before opening p → AreNextLines events opening (delivered_upto D p due index)
 
   -- what a delivery leaves, and what it tells
   abbrev pub Delivers : ℕ → ℕ → ℕ → World T Kind Op Delta ghosts → World T Kind Op Delta ghosts → Type 0
   Delivers from to index now later =
-      (digest : Kind → Entry Op → List ℕ) (kinds : Text → Kind) (logs : Text → History Op) (first : worlds.World Kind Op Shown) (p : Playing Kind Op Shown)
-      → let D = whole_entries data_type digest in
+      (kinds : Text → Kind) (logs : Text → History Op) (first : worlds.World Kind Op Shown) (p : Playing Kind Op Shown)
+      → let D = delta_groups data_type digest in
       IsRun D first p.events p.world → Throughout D logs first (deliver D p from to index) → StandsForWorld kind_of IsDataOf kinds logs now p.world → StandsForWorld kind_of IsDataOf kinds logs later (deliver D p from to index).world
 
   abbrev pub Tells : ℕ → ℕ → ℕ → World T Kind Op Delta ghosts → Event → Type 0
   Tells from to index now event =
-      (digest : Kind → Entry Op → List ℕ) (kinds : Text → Kind) (logs : Text → History Op) (first : worlds.World Kind Op Shown) (p : Playing Kind Op Shown)
-      → let D = whole_entries data_type digest in
+      (kinds : Text → Kind) (logs : Text → History Op) (first : worlds.World Kind Op Shown) (p : Playing Kind Op Shown)
+      → let D = delta_groups data_type digest in
       IsRun D first p.events p.world → Throughout D logs first (deliver D p from to index) → StandsForWorld kind_of IsDataOf kinds logs now p.world → IsNextLine event p (deliver D p from to index)
 
   pub none_delivered : (due : Due) (start : World T Kind Op Delta ghosts) (before : List Event) → IsDeliveredUpto due due.first start before start before
   none_delivered due start before =
       record {
-        stands = λ digest kinds logs first p run through st. subst (λ (q : Playing Kind Op Shown). StandsForWorld kind_of IsDataOf kinds logs start q.world) (sym (upto_start (whole_entries data_type digest) p due)) st;
-        told = λ digest kinds logs first opening p run through st lines. subst (AreNextLines before opening) (sym (upto_start (whole_entries data_type digest) p due)) lines;
+        stands = λ kinds logs first p run through st. subst (λ (q : Playing Kind Op Shown). StandsForWorld kind_of IsDataOf kinds logs start q.world) (sym (upto_start (delta_groups data_type digest) p due)) st;
+        told = λ kinds logs first opening p run through st lines. subst (AreNextLines before opening) (sym (upto_start (delta_groups data_type digest) p due)) lines;
       }
 
   next_line : (events : List Event) (event : Event) (opening now later : Playing Kind Op Shown) → AreNextLines events opening now → IsNextLine event now later → AreNextLines (events ++ event ∷ []) opening later
@@ -68,31 +68,31 @@ module _ {T Kind Op Delta : Type 0} (data_type : DataType Kind Op Shown) (kind_o
     pub one_delivered : IsDeliveredUpto due (index + 1) start before later (events ++ event ∷ [])
     one_delivered =
         record {
-          stands = λ digest kinds logs first p run through st.
-              let D = whole_entries data_type digest in
+          stands = λ kinds logs first p run through st.
+              let D = delta_groups data_type digest in
               subst (λ (q : Playing Kind Op Shown). StandsForWorld kind_of IsDataOf kinds logs later q.world) (sym (upto_more D p due index since))
-              (delivers digest kinds logs first (delivered_upto D p due index) (upto_run D p due first index run) (through_next D logs first p through) (upto.stands digest kinds logs first p run through st));
-          told = λ digest kinds logs first opening p run through st lines.
-              let D = whole_entries data_type digest in
+              (delivers kinds logs first (delivered_upto D p due index) (upto_run D p due first index run) (through_next D logs first p through) (upto.stands kinds logs first p run through st));
+          told = λ kinds logs first opening p run through st lines.
+              let D = delta_groups data_type digest in
               subst (AreNextLines (events ++ event ∷ []) opening) (sym (upto_more D p due index since))
-              (next_line events event opening (delivered_upto D p due index) (deliver D (delivered_upto D p due index) due.from due.to index) (upto.told digest kinds logs first opening p run through st lines)
-              (tells digest kinds logs first (delivered_upto D p due index) (upto_run D p due first index run) (through_next D logs first p through) (upto.stands digest kinds logs first p run through st)));
+              (next_line events event opening (delivered_upto D p due index) (deliver D (delivered_upto D p due index) due.from due.to index) (upto.told kinds logs first opening p run through st lines)
+              (tells kinds logs first (delivered_upto D p due index) (upto_run D p due first index run) (through_next D logs first p through) (upto.stands kinds logs first p run through st)));
         }
 
   -- what stands when memory is refused
   abbrev pub StandsAmid : World T Kind Op Delta ghosts → Due → World T Kind Op Delta ghosts → Type 0
   StandsAmid start due now =
-      (digest : Kind → Entry Op → List ℕ) (kinds : Text → Kind) (logs : Text → History Op) (first : worlds.World Kind Op Shown) (p : Playing Kind Op Shown)
-      → let D = whole_entries data_type digest in
+      (kinds : Text → Kind) (logs : Text → History Op) (first : worlds.World Kind Op Shown) (p : Playing Kind Op Shown)
+      → let D = delta_groups data_type digest in
       IsRun D first p.events p.world → Throughout D logs first (deliver_due D p (meant_due due)) → StandsForWorld kind_of IsDataOf kinds logs start p.world
       → (r : Playing Kind Op Shown) × IsBetween D first p r (deliver_due D p (meant_due due)) × StandsForWorld kind_of IsDataOf kinds logs now r.world
 
   pub amid : (due : Due) (index : ℕ) (start now : World T Kind Op Delta ghosts) (before events : List Event) → due.first ≤ index → index ≤ due.end → IsDeliveredUpto due index start before now events → StandsAmid start due now
-  amid due index start now before events since until upto digest kinds logs first p run through st =
-      let D = whole_entries data_type digest in (
+  amid due index start now before events since until upto kinds logs first p run through st =
+      let D = delta_groups data_type digest in (
         delivered_upto D p due index,
         record { run = upto_run D p due first index run; since = upto_since D p due index; until = upto_until D p due index due.end since until },
-        upto.stands digest kinds logs first p run through st,
+        upto.stands kinds logs first p run through st,
       )
 
   -- all were delivered

@@ -15,7 +15,7 @@ use Rattle.rd_model.specs.Script as script
 use Rattle.rd_model.specs.Script.{Playing, IsRun, deliver, deliver_due, round_of, due_now, told}
 use Rattle.rd_kinds.specs.declared.shown.Shown.{Shown}
 use Rattle.rd_lattice.specs.declared.replica.Replica.{Ghosts}
-use Rattle.rd_node.specs.Members.{whole_entries}
+use Rattle.rd_node.specs.Members.{delta_groups}
 use Rattle.rd_runs.proofs.Playing.{due_appends, played_appends}
 use Rattle.rd_world.specs.declared.rounds.Due.{Due}
 use Rattle.rd_world.specs.declared.event.Event.{Event}
@@ -60,33 +60,33 @@ module _ {Kind Op Shown : Type 0} (D : Replication Kind Op Shown) where
   round_some p [] some = absurd (some refl)
   round_some p (due ∷ dues) some = refl
 
-module _ {T Kind Op Delta : Type 0} (data_type : DataType Kind Op Shown) (kind_of : T → Kind) (IsDataOf : T → History Op → VersionVector → IdentitySet → Type 0) (ghosts : Ghosts T Kind Op Delta) where
+module _ {T Kind Op Delta : Type 0} (data_type : DataType Kind Op Shown) (digest : Kind → Entry Op → List ℕ) (kind_of : T → Kind) (IsDataOf : T → History Op → VersionVector → IdentitySet → Type 0) (ghosts : Ghosts T Kind Op Delta) where
   -- what was due on the first links was delivered
   pub record IsTurnedUpto (dues : List Due) (count : ℕ) (start now : World T Kind Op Delta ghosts) (events : List Event) : Type 0 where
-    pub stands : (digest : Kind → Entry Op → List ℕ) (kinds : Text → Kind) (logs : Text → History Op) (first : worlds.World Kind Op Shown) (p : Playing Kind Op Shown)
-        → let D = whole_entries data_type digest in
+    pub stands : (kinds : Text → Kind) (logs : Text → History Op) (first : worlds.World Kind Op Shown) (p : Playing Kind Op Shown)
+        → let D = delta_groups data_type digest in
         IsRun D first p.events p.world → Throughout D logs first (turned D p dues) → StandsForWorld kind_of IsDataOf kinds logs start p.world → StandsForWorld kind_of IsDataOf kinds logs now (turned D p (take count dues)).world
-    pub told : (digest : Kind → Entry Op → List ℕ) (kinds : Text → Kind) (logs : Text → History Op) (first : worlds.World Kind Op Shown) (p : Playing Kind Op Shown)
-        → let D = whole_entries data_type digest in
+    pub told : (kinds : Text → Kind) (logs : Text → History Op) (first : worlds.World Kind Op Shown) (p : Playing Kind Op Shown)
+        → let D = delta_groups data_type digest in
         IsRun D first p.events p.world → Throughout D logs first (turned D p dues) → StandsForWorld kind_of IsDataOf kinds logs start p.world → AreNextLines events p (turned D p (take count dues))
 
   abbrev pub DueDelivers : Due → World T Kind Op Delta ghosts → World T Kind Op Delta ghosts → Type 0
   DueDelivers due now later =
-      (digest : Kind → Entry Op → List ℕ) (kinds : Text → Kind) (logs : Text → History Op) (first : worlds.World Kind Op Shown) (p : Playing Kind Op Shown)
-      → let D = whole_entries data_type digest in
+      (kinds : Text → Kind) (logs : Text → History Op) (first : worlds.World Kind Op Shown) (p : Playing Kind Op Shown)
+      → let D = delta_groups data_type digest in
       IsRun D first p.events p.world → Throughout D logs first (deliver_due D p (meant_due due)) → StandsForWorld kind_of IsDataOf kinds logs now p.world → StandsForWorld kind_of IsDataOf kinds logs later (deliver_due D p (meant_due due)).world
 
   abbrev pub DueTells : Due → World T Kind Op Delta ghosts → List Event → List Event → Type 0
   DueTells due now before events =
-      (digest : Kind → Entry Op → List ℕ) (kinds : Text → Kind) (logs : Text → History Op) (first : worlds.World Kind Op Shown) (opening p : Playing Kind Op Shown)
-      → let D = whole_entries data_type digest in
+      (kinds : Text → Kind) (logs : Text → History Op) (first : worlds.World Kind Op Shown) (opening p : Playing Kind Op Shown)
+      → let D = delta_groups data_type digest in
       IsRun D first p.events p.world → Throughout D logs first (deliver_due D p (meant_due due)) → StandsForWorld kind_of IsDataOf kinds logs now p.world → AreNextLines before opening p → AreNextLines events opening (deliver_due D p (meant_due due))
 
   pub none_turned : (dues : List Due) (start : World T Kind Op Delta ghosts) → IsTurnedUpto dues 0 start start []
   none_turned dues start =
       record {
-        stands = λ digest kinds logs first p run through st. st;
-        told = λ digest kinds logs first p run through st. ([], sym (append_nothing p.lines), tt);
+        stands = λ kinds logs first p run through st. st;
+        told = λ kinds logs first p run through st. ([], sym (append_nothing p.lines), tt);
       }
 
   module _ (dues : List Due) (k : ℕ) (start now : World T Kind Op Delta ghosts) (before : List Event) (due : Due) (within : k < length dues) (is : due ≡ get_or dues k due) (upto : IsTurnedUpto dues k start now before) where
@@ -97,26 +97,26 @@ module _ {T Kind Op Delta : Type 0} (data_type : DataType Kind Op Shown) (kind_o
     pub one_turned : (later : World T Kind Op Delta ghosts) (events : List Event) → DueDelivers due now later → DueTells due now before events → IsTurnedUpto dues (k + 1) start later events
     one_turned later events delivers tells =
         record {
-          stands = λ digest kinds logs first p run through st.
-              let D = whole_entries data_type digest in
+          stands = λ kinds logs first p run through st.
+              let D = delta_groups data_type digest in
               subst (λ (q : Playing Kind Op Shown). StandsForWorld kind_of IsDataOf kinds logs later q.world) (sym (one_turn D p dues k due within is))
-              (delivers digest kinds logs first (turned D p (take k dues)) (turned_run D first (map meant_due (take k dues)) p run) (through_turn D logs first p through) (upto.stands digest kinds logs first p run through st));
-          told = λ digest kinds logs first p run through st.
-              let D = whole_entries data_type digest in
+              (delivers kinds logs first (turned D p (take k dues)) (turned_run D first (map meant_due (take k dues)) p run) (through_turn D logs first p through) (upto.stands kinds logs first p run through st));
+          told = λ kinds logs first p run through st.
+              let D = delta_groups data_type digest in
               subst (AreNextLines events p) (sym (one_turn D p dues k due within is))
-              (tells digest kinds logs first p (turned D p (take k dues)) (turned_run D first (map meant_due (take k dues)) p run) (through_turn D logs first p through) (upto.stands digest kinds logs first p run through st) (upto.told digest kinds logs first p run through st));
+              (tells kinds logs first p (turned D p (take k dues)) (turned_run D first (map meant_due (take k dues)) p run) (through_turn D logs first p through) (upto.stands kinds logs first p run through st) (upto.told kinds logs first p run through st));
         }
 
     -- memory was refused amid a link
-    pub amid_turn : (digest : Kind → Entry Op → List ℕ) (kinds : Text → Kind) (logs : Text → History Op) (first : worlds.World Kind Op Shown) (p : Playing Kind Op Shown) (later : World T Kind Op Delta ghosts) → IsRun (whole_entries data_type digest) first p.events p.world
-        → Throughout (whole_entries data_type digest) logs first (turned (whole_entries data_type digest) p dues) → StandsForWorld kind_of IsDataOf kinds logs start p.world
-        → ((q : Playing Kind Op Shown) → IsRun (whole_entries data_type digest) first q.events q.world → Throughout (whole_entries data_type digest) logs first (deliver_due (whole_entries data_type digest) q (meant_due due)) → StandsForWorld kind_of IsDataOf kinds logs now q.world
-        → (r : Playing Kind Op Shown) × IsBetween (whole_entries data_type digest) first q r (deliver_due (whole_entries data_type digest) q (meant_due due)) × StandsForWorld kind_of IsDataOf kinds logs later r.world)
-        → (r : Playing Kind Op Shown) × IsBetween (whole_entries data_type digest) first p r (turned (whole_entries data_type digest) p dues) × StandsForWorld kind_of IsDataOf kinds logs later r.world
-    amid_turn digest kinds logs first p later run through st amid =
-        let D = whole_entries data_type digest in
+    pub amid_turn : (kinds : Text → Kind) (logs : Text → History Op) (first : worlds.World Kind Op Shown) (p : Playing Kind Op Shown) (later : World T Kind Op Delta ghosts) → IsRun (delta_groups data_type digest) first p.events p.world
+        → Throughout (delta_groups data_type digest) logs first (turned (delta_groups data_type digest) p dues) → StandsForWorld kind_of IsDataOf kinds logs start p.world
+        → ((q : Playing Kind Op Shown) → IsRun (delta_groups data_type digest) first q.events q.world → Throughout (delta_groups data_type digest) logs first (deliver_due (delta_groups data_type digest) q (meant_due due)) → StandsForWorld kind_of IsDataOf kinds logs now q.world
+        → (r : Playing Kind Op Shown) × IsBetween (delta_groups data_type digest) first q r (deliver_due (delta_groups data_type digest) q (meant_due due)) × StandsForWorld kind_of IsDataOf kinds logs later r.world)
+        → (r : Playing Kind Op Shown) × IsBetween (delta_groups data_type digest) first p r (turned (delta_groups data_type digest) p dues) × StandsForWorld kind_of IsDataOf kinds logs later r.world
+    amid_turn kinds logs first p later run through st amid =
+        let D = delta_groups data_type digest in
         let here = turned D p (take k dues) in
-        let found = amid here (turned_run D first (map meant_due (take k dues)) p run) (through_turn D logs first p through) (upto.stands digest kinds logs first p run through st) in
+        let found = amid here (turned_run D first (map meant_due (take k dues)) p run) (through_turn D logs first p through) (upto.stands kinds logs first p run through st) in
         let between = found.1 in
         let rest = subst (λ (q : Playing Kind Op Shown). IsPrefix q.events (turned D p dues).events) (one_turn D p dues k due within is) (turns_until D p dues (k + 1)) in (
           found.0,
@@ -133,32 +133,32 @@ module _ {T Kind Op Delta : Type 0} (data_type : DataType Kind Op Shown) (kind_o
 module _ {T Kind Op Delta : Type 0} (data_type : DataType Kind Op Shown) (kind_of : T → Kind) (IsDataOf : T → History Op → VersionVector → IdentitySet → Type 0) (ghosts : Ghosts T Kind Op Delta) (digest : Kind → Entry Op → List ℕ) (kinds : Text → Kind) (logs : Text → History Op) (code : World T Kind Op Delta ghosts) (p : Playing Kind Op Shown) (stands : StandsForWorld kind_of IsDataOf kinds logs code p.world)
     (dues : List Due) (are : dues ≡ dues_of code.links code.members) where
   abbrev round_played : Playing Kind Op Shown
-  round_played = round_of (whole_entries data_type digest) p (due_now (whole_entries data_type digest) p)
+  round_played = round_of (delta_groups data_type digest) p (due_now (delta_groups data_type digest) p)
 
-  dues_now : map meant_due dues ≡ due_now (whole_entries data_type digest) p
-  dues_now = ap (map meant_due) are ∙ dues_alike kind_of IsDataOf kinds logs ghosts (whole_entries data_type digest) code p stands
+  dues_now : map meant_due dues ≡ due_now (delta_groups data_type digest) p
+  dues_now = ap (map meant_due) are ∙ dues_alike kind_of IsDataOf kinds logs ghosts (delta_groups data_type digest) code p stands
 
   -- something was due
-  pub round_turned : 0 < length dues → round_of (whole_entries data_type digest) p (due_now (whole_entries data_type digest) p) ≡ turned (whole_entries data_type digest) p dues
+  pub round_turned : 0 < length dues → round_of (delta_groups data_type digest) p (due_now (delta_groups data_type digest) p) ≡ turned (delta_groups data_type digest) p dues
   round_turned some =
-      ap (round_of (whole_entries data_type digest) p) (sym dues_now) ∙ round_some (whole_entries data_type digest) p (map meant_due dues) (not_empty dues some)
+      ap (round_of (delta_groups data_type digest) p) (sym dues_now) ∙ round_some (delta_groups data_type digest) p (map meant_due dues) (not_empty dues some)
     where
       not_empty : (ds : List Due) → 0 < length ds → map meant_due ds ≡ [] → ⊥
       not_empty [] h e = absurd (omega arith)
       not_empty (d ∷ ds) h e = cc e
 
   -- nothing was due
-  pub round_nothing : length dues ≡ 0 → round_of (whole_entries data_type digest) p (due_now (whole_entries data_type digest) p) ≡ told p script.Head.RoundHead script.Answer.Nothing
-  round_nothing none = ap (round_of (whole_entries data_type digest) p) (sym dues_now ∙ ap (map meant_due) (empty dues none))
+  pub round_nothing : length dues ≡ 0 → round_of (delta_groups data_type digest) p (due_now (delta_groups data_type digest) p) ≡ told p script.Head.RoundHead script.Answer.Nothing
+  round_nothing none = ap (round_of (delta_groups data_type digest) p) (sym dues_now ∙ ap (map meant_due) (empty dues none))
     where
       empty : (ds : List Due) → length ds ≡ 0 → ds ≡ []
       empty [] e = refl
       empty (d ∷ ds) e = absurd (omega arith)
 
-  pub nothing_stands : length dues ≡ 0 → StandsForWorld kind_of IsDataOf kinds logs code (round_of (whole_entries data_type digest) p (due_now (whole_entries data_type digest) p)).world
+  pub nothing_stands : length dues ≡ 0 → StandsForWorld kind_of IsDataOf kinds logs code (round_of (delta_groups data_type digest) p (due_now (delta_groups data_type digest) p)).world
   nothing_stands none = subst (λ (w : worlds.World Kind Op Shown). StandsForWorld kind_of IsDataOf kinds logs code w) (sym (ap (λ (q : Playing Kind Op Shown). q.world) (round_nothing none))) stands
 
-  pub nothing_told : length dues ≡ 0 → AreNextLines (record { head = head.Round; answer = answer.Nothing; sent = [] } ∷ []) p (round_of (whole_entries data_type digest) p (due_now (whole_entries data_type digest) p))
+  pub nothing_told : length dues ≡ 0 → AreNextLines (record { head = head.Round; answer = answer.Nothing; sent = [] } ∷ []) p (round_of (delta_groups data_type digest) p (due_now (delta_groups data_type digest) p))
   nothing_told none = (
     record { head = script.Head.RoundHead; answer = script.Answer.Nothing; posts = []; ended = None } ∷ [],
     ap (λ (q : Playing Kind Op Shown). q.lines) (round_nothing none),

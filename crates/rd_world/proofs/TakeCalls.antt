@@ -1,6 +1,6 @@
 -- The world's call of a member that takes a message: the message is passed, and the answers go to the ends of the links.
 use Rattle.std.proofs.Common.{◌≡◌, ℕ, ◌<◌, ◌≤◌, List, [], ◌∷◌, length, get_or, set, refl, sym, ap, subst, ◌∙◌, arith, Bool, true, false, Option, Some, None, inl, inr, length-set, length-append}
-use Rattle.std.specs.Prelude.{is_some, nat_lt, ◌&&◌, ◌==◌, if◌then◌else◌, option_map, map}
+use Rattle.std.specs.Prelude.{is_some, nat_lt, ◌&&◌, ◌==◌, if◌then◌else◌, option_map}
 use Rattle.std.specs.List.{AllByRecursion, AllZip}
 use Rattle.std.proofs.lemmas.Bool.{cases_lt}
 use Rattle.std.proofs.lemmas.Bool.Decides.{nat_tests}
@@ -25,19 +25,19 @@ use Rattle.rd_runs.proofs.Keeping.{if_holds}
 use Rattle.rd_kinds.specs.declared.shown.Shown.{Shown}
 use Rattle.rd_lattice.specs.declared.replica.Replica.{Ghosts}
 use Rattle.rd_messages.specs.declared.message.Message.{Message}
-use Rattle.rd_messages.specs.declared.message.Message.TheVariants.{Deltas, Nack, Gossip}
+use Rattle.rd_messages.specs.declared.message.Message.TheVariants.{Deltas, Nack, Status, Gossip}
 use Rattle.rd_messages.specs.declared.message.Post.{Post}
 use Rattle.rd_messages.specs.Sketches.{sketch_of}
 use Rattle.rd_node.specs.declared.node.Node.{Node}
 use Rattle.rd_node.specs.declared.reply.Reply.{Reply}
-use Rattle.rd_node.specs.Members.{whole_entries, meant, StandsForNode, StandsForMessage, StandsForPost, AreTakenFrom, ArePruneFree}
+use Rattle.rd_node.specs.Members.{delta_groups, meant, StandsForNode, StandsForMessage, StandsForPost, AreTakenFrom}
 use Rattle.rd_node.proofs.Quiet.{take-ends_nothing}
 use Rattle.rd_world.specs.declared.event.Head.TheVariants as head
 use Rattle.rd_world.specs.declared.event.Answer.TheVariants as answer
 use Rattle.rd_world.specs.declared.event.SentTo.{SentTo}
 use Rattle.rd_world.specs.declared.world.World.{World}
-use Rattle.rd_world.specs.Channels.{Channel, Channels, channel_at, count_on, message_on, passed, ChangesOne}
-use Rattle.rd_world.specs.Sending.{extended, messages_to, told_of, Sends, AreAnswers, IsSentFrom}
+use Rattle.rd_world.specs.Channels.{Channel, Channels, channel_at, count_on, passed, ChangesOne}
+use Rattle.rd_world.specs.Sending.{extended, messages_to, AreAnswers, IsSentFrom}
 use Rattle.rd_world.specs.Standing.{StandsForLink, StandsForParts, StandsForWorld}
 use Rattle.rd_world.specs.Lines.{IsNextLine}
 use Rattle.rd_world.specs.Ways.{Throughout}
@@ -69,6 +69,9 @@ module _ {Kind Op : Type 0} (D : Replication Kind Op Shown) (node : nodes.Node K
       subst (λ (m : Sent Op). AreBelow (step D node (Input.Take from m) NoStore).output.posts) (sym s.is)
       (if_holds (λ (stepped : nodes.Stepped Kind Op Shown). AreBelow stepped.output.posts) (is_member node.view from) _ _ (nack_below _) tt)
   answers_below kind_of IsDataOf kinds logs (Nack keys) sent s =
+      subst (λ (m : Sent Op). AreBelow (step D node (Input.Take from m) NoStore).output.posts) (sym s)
+      (if_holds (λ (stepped : nodes.Stepped Kind Op Shown). AreBelow stepped.output.posts) (is_member node.view from) _ _ (gossip_below _ _) tt)
+  answers_below kind_of IsDataOf kinds logs (Status digests) sent s =
       subst (λ (m : Sent Op). AreBelow (step D node (Input.Take from m) NoStore).output.posts) (sym s)
       (if_holds (λ (stepped : nodes.Stepped Kind Op Shown). AreBelow stepped.output.posts) (is_member node.view from) _ _ (gossip_below _ _) tt)
   answers_below kind_of IsDataOf kinds logs (Gossip entries wants) sent s =
@@ -106,10 +109,10 @@ sent_within_still at from to index Are old new sent few sends gone h = elim (cas
 -- THE CALL
 
 module _ {T Kind Op Delta : Type 0} (data_type : DataType Kind Op Shown) (kind_of : T → Kind) (IsDataOf : T → History Op → VersionVector → IdentitySet → Type 0) (ghosts : Ghosts T Kind Op Delta) (digest : Kind → Entry Op → List ℕ) (kinds : Text → Kind) (logs : Text → History Op) (code : World T Kind Op Delta ghosts) (p : Playing Kind Op Shown)
-    (stands : StandsForWorld kind_of IsDataOf kinds logs code p.world) (from to index : ℕ) (within : to < length code.nodes.items) (old : Node T Kind Op Delta ghosts) (is : old ≡ get_or code.nodes.items to old) (message : Message T Kind Op Delta ghosts) (found : IsSent kind_of IsDataOf kinds logs ghosts (whole_entries data_type digest) code p stands from to index message)
+    (stands : StandsForWorld kind_of IsDataOf kinds logs code p.world) (from to index : ℕ) (within : to < length code.nodes.items) (old : Node T Kind Op Delta ghosts) (is : old ≡ get_or code.nodes.items to old) (message : Message T Kind Op Delta ghosts) (found : IsSent kind_of IsDataOf kinds logs ghosts (delta_groups data_type digest) code p stands from to index message)
     (due : index < count_on (channel_at code.links from to)) where
   abbrev D : Replication Kind Op Shown
-  D = whole_entries data_type digest
+  D = delta_groups data_type digest
 
   abbrev input : Input Op
   input = Input.Take from found.sent
@@ -117,7 +120,7 @@ module _ {T Kind Op Delta : Type 0} (data_type : DataType Kind Op Shown) (kind_o
   module _ (new : Node T Kind Op Delta ghosts) (mid links : Channels (Message T Kind Op Delta ghosts)) (reply : Reply) (sent : List SentTo) (room : old.steps ≡ 16384 → ⊥)
       (becomes : (node : nodes.Node Kind Op Shown) → StandsForNode kind_of IsDataOf kinds logs old node → AreTakenFrom logs (step D node input NoStore).node → StandsForNode kind_of IsDataOf kinds logs new (step D node input NoStore).node)
       (says : (node : nodes.Node Kind Op Shown) → StandsForNode kind_of IsDataOf kinds logs old node → AreTakenFrom logs (step D node input NoStore).node → meant reply ≡ (step D node input NoStore).output.reply)
-      (sends : IsSentFrom (AreAnswers data_type kind_of IsDataOf old from message) to 2 code.links mid sent) (changes : ChangesOne (passed index) from to mid links)
+      (sends : IsSentFrom (AreAnswers data_type digest kind_of IsDataOf old from message) to 2 code.links mid sent) (changes : ChangesOne (passed index) from to mid links)
       (first : worlds.World Kind Op Shown) (run : IsRun D first (deliver D p from to index).events (deliver D p from to index).world) (through : Throughout D logs first (deliver D p from to index)) where
     at_work : IsRunning kind_of IsDataOf kinds logs ghosts p.world to old
     at_work = running kind_of IsDataOf kinds logs ghosts D code p stands from to index within old is
@@ -146,7 +149,7 @@ module _ {T Kind Op Delta : Type 0} (data_type : DataType Kind Op Shown) (kind_o
         (subst (λ (q : Playing Kind Op Shown). IsRun D first q.events q.world) same_play run) (subst (Throughout D logs first) same_play through)
 
     posts_stand : AllZip (StandsForPost kind_of IsDataOf kinds logs) sends.0 (step D at_work.node input NoStore).output.posts
-    posts_stand = sends.1.0 digest kinds logs at_work.node found.sent at_work.member.stands through.prune_free found.stands_for taken
+    posts_stand = sends.1.0 kinds logs at_work.node found.sent at_work.member.stands through.prune_free found.stands_for taken
 
     -- the sender is a member
     sender : from < length code.nodes.items

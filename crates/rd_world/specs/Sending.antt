@@ -14,7 +14,7 @@ use Rattle.rd_lattice.specs.declared.replica.Replica.{Ghosts}
 use Rattle.rd_messages.specs.declared.message.Message.{Message}
 use Rattle.rd_messages.specs.declared.message.Post.{Post}
 use Rattle.rd_node.specs.declared.node.Node.{Node}
-use Rattle.rd_node.specs.Members.{whole_entries, AreTakenFrom, ArePruneFree, StandsForNode, StandsForMessage, StandsForPosts}
+use Rattle.rd_node.specs.Members.{delta_groups, AreTakenFrom, ArePruneFree, StandsForNode, StandsForMessage, StandsForPosts}
 use Rattle.rd_messages.specs.Sketches.{sketch_of}
 use Rattle.rd_world.specs.declared.links.Link.{Link}
 use Rattle.rd_world.specs.declared.event.SentTo.{SentTo}
@@ -47,14 +47,21 @@ module _ {T Kind Op Delta : Type 0} {ghosts : Ghosts T Kind Op Delta} where
 abbrev pub AreFlushed : {T Kind Op Delta : Type 0} (data_type : DataType Kind Op Shown) (kind_of : T → Kind) (IsDataOf : T → History Op → VersionVector → IdentitySet → Type 0) {ghosts : Ghosts T Kind Op Delta} → Node T Kind Op Delta ghosts → List (Post T Kind Op Delta ghosts) → Type 0
 AreFlushed {Kind = Kind} {Op = Op} data_type kind_of IsDataOf code posts =
     (digest : Kind → Entry Op → List ℕ) (kinds : Text → Kind) (logs : Text → History Op) (node : nodes.Node Kind Op Shown) → StandsForNode kind_of IsDataOf kinds logs code node
-    → let next = step (whole_entries data_type digest) node nodes.Input.Flush nodes.Fate.NoStore in
+    → let next = step (delta_groups data_type digest) node nodes.Input.Flush nodes.Fate.NoStore in
     AreTakenFrom logs next.node → StandsForPosts kind_of IsDataOf kinds logs posts next.output.posts
 
 -- the answers of a member that took a message
-abbrev pub AreAnswers : {T Kind Op Delta : Type 0} (data_type : DataType Kind Op Shown) (kind_of : T → Kind) (IsDataOf : T → History Op → VersionVector → IdentitySet → Type 0) {ghosts : Ghosts T Kind Op Delta} → Node T Kind Op Delta ghosts → ℕ → Message T Kind Op Delta ghosts → List (Post T Kind Op Delta ghosts) → Type 0
-AreAnswers {Kind = Kind} {Op = Op} data_type kind_of IsDataOf code from message posts =
-    ((digest : Kind → Entry Op → List ℕ) (kinds : Text → Kind) (logs : Text → History Op) (node : nodes.Node Kind Op Shown) (sent : Sent Op) → StandsForNode kind_of IsDataOf kinds logs code node → ArePruneFree logs → StandsForMessage kind_of IsDataOf kinds logs message sent
-    → let next = step (whole_entries data_type digest) node (nodes.Input.Take from sent) nodes.Fate.NoStore in
+abbrev pub AreAnswers : {T Kind Op Delta : Type 0} (data_type : DataType Kind Op Shown) (digest : Kind → Entry Op → List ℕ) (kind_of : T → Kind) (IsDataOf : T → History Op → VersionVector → IdentitySet → Type 0) {ghosts : Ghosts T Kind Op Delta} → Node T Kind Op Delta ghosts → ℕ → Message T Kind Op Delta ghosts → List (Post T Kind Op Delta ghosts) → Type 0
+AreAnswers {Kind = Kind} {Op = Op} data_type digest kind_of IsDataOf code from message posts =
+    ((kinds : Text → Kind) (logs : Text → History Op) (node : nodes.Node Kind Op Shown) (sent : Sent Op) → StandsForNode kind_of IsDataOf kinds logs code node → ArePruneFree logs → StandsForMessage kind_of IsDataOf kinds logs message sent
+    → let next = step (delta_groups data_type digest) node (nodes.Input.Take from sent) nodes.Fate.NoStore in
+    AreTakenFrom logs next.node → StandsForPosts kind_of IsDataOf kinds logs posts next.output.posts) × (length posts ≤ 2)
+
+-- what a member sends that tells another the digests of its entries
+abbrev pub AreGossiped : {T Kind Op Delta : Type 0} (data_type : DataType Kind Op Shown) (digest : Kind → Entry Op → List ℕ) (kind_of : T → Kind) (IsDataOf : T → History Op → VersionVector → IdentitySet → Type 0) {ghosts : Ghosts T Kind Op Delta} → Node T Kind Op Delta ghosts → ℕ → List (Post T Kind Op Delta ghosts) → Type 0
+AreGossiped {Kind = Kind} {Op = Op} data_type digest kind_of IsDataOf code to posts =
+    ((kinds : Text → Kind) (logs : Text → History Op) (node : nodes.Node Kind Op Shown) → StandsForNode kind_of IsDataOf kinds logs code node
+    → let next = step (delta_groups data_type digest) node (nodes.Input.GossipTo to) nodes.Fate.NoStore in
     AreTakenFrom logs next.node → StandsForPosts kind_of IsDataOf kinds logs posts next.output.posts) × (length posts ≤ 2)
 
 module _ {T Kind Op Delta : Type 0} {ghosts : Ghosts T Kind Op Delta} (Are : List (Post T Kind Op Delta ghosts) → Type 0) where

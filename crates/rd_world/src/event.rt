@@ -19,6 +19,11 @@ pub enum Head {
     Flush {
         at: u8,
     },
+    /// A member told another the digests of its entries.
+    Gossip {
+        at: u8,
+        to: u8,
+    },
     /// A message was handed to its receiver. There is a sketch where there are the receiver and the message.
     Deliver {
         from: u8,

@@ -1,17 +1,16 @@
 ghost use Rattle.std.specs.Prelude.{◌≡◌, ℕ, List, ◌++◌, ◌∷◌, [], map, OnOk, OnErr, IfOk};
 ghost use Rattle.rd_history.specs.Texts.{Text as Name};
 ghost use Rattle.rd_history.specs.History.{History};
-ghost use Rattle.rd_model.specs.Entry.{Entry};
 ghost use Rattle.rd_model.specs.World.{World as Modelled};
 ghost use Rattle.rd_model.specs.Script as script;
 ghost use Rattle.rd_model.specs.Script.{Playing, ScriptStep, IsRun, played};
 ghost use Rattle.rd_kinds.specs.declared.shown.Shown.{Shown};
-ghost use Rattle.rd_node.specs.Members.{whole_entries};
+ghost use Rattle.rd_node.specs.Members.{spelled_groups};
 
 use crate::event::{Answer, Events, Head};
 use crate::world::{World, line};
 use rd_bytes::{Items, Memory};
-use rd_lattice::Replica;
+use rd_lattice::SpelledData;
 
 /// Messages that are due on a link: those from one number on, before another.
 #[derive(Clone, Copy, Debug, PartialEq, Eq)]
@@ -22,7 +21,7 @@ pub(crate) struct Due {
     pub(crate) end: usize,
 }
 
-impl<T: Replica> World<T> {
+impl<T: SpelledData> World<T> {
     ghost use Rattle.rd_world.specs.Dues.{dues_from, dues_of, meant_due};
     ghost use Rattle.rd_world.specs.Standing.{StandsForWorld};
     ghost use Rattle.rd_world.specs.Lines.{AreNextLines};
@@ -31,14 +30,14 @@ impl<T: Replica> World<T> {
     /// Delivers all messages that are due when the round begins: by senders, then by receivers, each link's in their order.
     /// Where memory is refused, what was delivered stands.
     pub fn round(&mut self) -> Result<Events, Memory>
-        ensures stands { (digest : T.Kind → Entry T.Op → List ℕ) (kinds : Name → T.Kind) (logs : Name → History T.Op) (first : Modelled T.Kind T.Op Shown) (p : Playing T.Kind T.Op Shown)
-            → let D = whole_entries T.data_type digest in let q = played D p ScriptStep.Round in
+        ensures stands { (kinds : Name → T.Kind) (logs : Name → History T.Op) (first : Modelled T.Kind T.Op Shown) (p : Playing T.Kind T.Op Shown)
+            → let D = spelled_groups T.data_type T.byte_of T.history_spelled in let q = played D p ScriptStep.Round in
             IsRun D first p.events p.world → Throughout D logs first q → StandsForWorld T.kind_of T.IsDataOf kinds logs self.old p.world → OnOk result (StandsForWorld T.kind_of T.IsDataOf kinds logs self.new q.world) }
-        ensures told { (digest : T.Kind → Entry T.Op → List ℕ) (kinds : Name → T.Kind) (logs : Name → History T.Op) (first : Modelled T.Kind T.Op Shown) (p : Playing T.Kind T.Op Shown)
-            → let D = whole_entries T.data_type digest in let q = played D p ScriptStep.Round in
+        ensures told { (kinds : Name → T.Kind) (logs : Name → History T.Op) (first : Modelled T.Kind T.Op Shown) (p : Playing T.Kind T.Op Shown)
+            → let D = spelled_groups T.data_type T.byte_of T.history_spelled in let q = played D p ScriptStep.Round in
             IsRun D first p.events p.world → Throughout D logs first q → StandsForWorld T.kind_of T.IsDataOf kinds logs self.old p.world → IfOk result (λ events. AreNextLines events p q) }
-        ensures err { (digest : T.Kind → Entry T.Op → List ℕ) (kinds : Name → T.Kind) (logs : Name → History T.Op) (first : Modelled T.Kind T.Op Shown) (p : Playing T.Kind T.Op Shown)
-            → let D = whole_entries T.data_type digest in let q = played D p ScriptStep.Round in
+        ensures err { (kinds : Name → T.Kind) (logs : Name → History T.Op) (first : Modelled T.Kind T.Op Shown) (p : Playing T.Kind T.Op Shown)
+            → let D = spelled_groups T.data_type T.byte_of T.history_spelled in let q = played D p ScriptStep.Round in
             IsRun D first p.events p.world → Throughout D logs first q → StandsForWorld T.kind_of T.IsDataOf kinds logs self.old p.world
             → OnErr result ((r : Playing T.Kind T.Op Shown) × IsBetween D first p r q × StandsForWorld T.kind_of T.IsDataOf kinds logs self.new r.world) }
     {
@@ -86,14 +85,14 @@ impl<T: Replica> World<T> {
 
     /// Delivers what is due on a link, and adds the events.
     fn deliver_due(&mut self, due: Due, events: &mut Events) -> Result<(), Memory>
-        ensures stands { (digest : T.Kind → Entry T.Op → List ℕ) (kinds : Name → T.Kind) (logs : Name → History T.Op) (first : Modelled T.Kind T.Op Shown) (p : Playing T.Kind T.Op Shown)
-            → let D = whole_entries T.data_type digest in let q = script.deliver_due D p (meant_due due) in
+        ensures stands { (kinds : Name → T.Kind) (logs : Name → History T.Op) (first : Modelled T.Kind T.Op Shown) (p : Playing T.Kind T.Op Shown)
+            → let D = spelled_groups T.data_type T.byte_of T.history_spelled in let q = script.deliver_due D p (meant_due due) in
             IsRun D first p.events p.world → Throughout D logs first q → StandsForWorld T.kind_of T.IsDataOf kinds logs self.old p.world → OnOk result (StandsForWorld T.kind_of T.IsDataOf kinds logs self.new q.world) }
-        ensures told { (digest : T.Kind → Entry T.Op → List ℕ) (kinds : Name → T.Kind) (logs : Name → History T.Op) (first : Modelled T.Kind T.Op Shown) (start p : Playing T.Kind T.Op Shown)
-            → let D = whole_entries T.data_type digest in let q = script.deliver_due D p (meant_due due) in
+        ensures told { (kinds : Name → T.Kind) (logs : Name → History T.Op) (first : Modelled T.Kind T.Op Shown) (start p : Playing T.Kind T.Op Shown)
+            → let D = spelled_groups T.data_type T.byte_of T.history_spelled in let q = script.deliver_due D p (meant_due due) in
             IsRun D first p.events p.world → Throughout D logs first q → StandsForWorld T.kind_of T.IsDataOf kinds logs self.old p.world → AreNextLines events.old start p → OnOk result (AreNextLines events.new start q) }
-        ensures err { (digest : T.Kind → Entry T.Op → List ℕ) (kinds : Name → T.Kind) (logs : Name → History T.Op) (first : Modelled T.Kind T.Op Shown) (p : Playing T.Kind T.Op Shown)
-            → let D = whole_entries T.data_type digest in let q = script.deliver_due D p (meant_due due) in
+        ensures err { (kinds : Name → T.Kind) (logs : Name → History T.Op) (first : Modelled T.Kind T.Op Shown) (p : Playing T.Kind T.Op Shown)
+            → let D = spelled_groups T.data_type T.byte_of T.history_spelled in let q = script.deliver_due D p (meant_due due) in
             IsRun D first p.events p.world → Throughout D logs first q → StandsForWorld T.kind_of T.IsDataOf kinds logs self.old p.world
             → OnErr result ((r : Playing T.Kind T.Op Shown) × IsBetween D first p r q × StandsForWorld T.kind_of T.IsDataOf kinds logs self.new r.world) }
     {

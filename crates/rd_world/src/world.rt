@@ -8,14 +8,14 @@ ghost use Rattle.rd_model.specs.Script.{Playing, ScriptStep, IsRun, played, deli
 ghost use Rattle.rd_kinds.specs.declared.shown.Shown.{Shown};
 ghost use Rattle.rd_world.specs.Lines.{answer_of};
 ghost use Rattle.rd_world.specs.declared.event.Head.TheVariants as head;
-ghost use Rattle.rd_node.specs.Members.{AreDistinct, AreOfKinds, declared, whole_entries};
+ghost use Rattle.rd_node.specs.Members.{AreDistinct, AreOfKinds, declared, delta_groups, spelled_groups};
 
 use crate::event::{Answer, Event, Head, Sketches};
 use crate::links::Links;
-use crate::sending::{Answered, flush, take};
+use crate::sending::{Answered, flush, gossip, take};
 use crate::start::{identities, new_nodes};
 use rd_bytes::{Items, Memory, Text};
-use rd_lattice::Replica;
+use rd_lattice::{Replica, SpelledData};
 use rd_node::{KeyDecl, Message, Node, Reply, StepError};
 use rd_vectors::Id;
 use std::alloc::Global;
@@ -63,10 +63,10 @@ impl<T: Replica> World<T> {
     /// Gives a member an operation on a key.
     pub fn update(&mut self, at: u8, key: &Text, op: &T::Op) -> Result<Event, Memory>
         ensures stands { (digest : T.Kind → Entry T.Op → List ℕ) (kinds : Name → T.Kind) (logs : Name → History T.Op) (first : Modelled T.Kind T.Op Shown) (p : Playing T.Kind T.Op Shown)
-            → let D = whole_entries T.data_type digest in let q = played D p (ScriptStep.Update at key.now op.now Level.Local) in
+            → let D = delta_groups T.data_type digest in let q = played D p (ScriptStep.Update at key.now op.now Level.Local) in
             IsRun D first p.events p.world → Throughout D logs first q → StandsForWorld T.kind_of T.IsDataOf kinds logs self.old p.world → OnOk result (StandsForWorld T.kind_of T.IsDataOf kinds logs self.new q.world) }
         ensures told { (digest : T.Kind → Entry T.Op → List ℕ) (kinds : Name → T.Kind) (logs : Name → History T.Op) (first : Modelled T.Kind T.Op Shown) (p : Playing T.Kind T.Op Shown)
-            → let D = whole_entries T.data_type digest in let q = played D p (ScriptStep.Update at key.now op.now Level.Local) in
+            → let D = delta_groups T.data_type digest in let q = played D p (ScriptStep.Update at key.now op.now Level.Local) in
             IsRun D first p.events p.world → Throughout D logs first q → StandsForWorld T.kind_of T.IsDataOf kinds logs self.old p.world → IfOk result (λ event. IsNextLine event p q) }
         ensures err { OnErr result (self.new ≡ self.old) }
     {
@@ -85,10 +85,10 @@ impl<T: Replica> World<T> {
     /// Asks a member for the value of a key.
     pub fn get(&mut self, at: u8, key: &Text) -> Result<Event, Memory>
         ensures stands { (digest : T.Kind → Entry T.Op → List ℕ) (kinds : Name → T.Kind) (logs : Name → History T.Op) (first : Modelled T.Kind T.Op Shown) (p : Playing T.Kind T.Op Shown)
-            → let D = whole_entries T.data_type digest in let q = played D p (ScriptStep.Get at key.now Level.Local) in
+            → let D = delta_groups T.data_type digest in let q = played D p (ScriptStep.Get at key.now Level.Local) in
             IsRun D first p.events p.world → Throughout D logs first q → StandsForWorld T.kind_of T.IsDataOf kinds logs self.old p.world → OnOk result (StandsForWorld T.kind_of T.IsDataOf kinds logs self.new q.world) }
         ensures told { (digest : T.Kind → Entry T.Op → List ℕ) (kinds : Name → T.Kind) (logs : Name → History T.Op) (first : Modelled T.Kind T.Op Shown) (p : Playing T.Kind T.Op Shown)
-            → let D = whole_entries T.data_type digest in let q = played D p (ScriptStep.Get at key.now Level.Local) in
+            → let D = delta_groups T.data_type digest in let q = played D p (ScriptStep.Get at key.now Level.Local) in
             IsRun D first p.events p.world → Throughout D logs first q → StandsForWorld T.kind_of T.IsDataOf kinds logs self.old p.world → IfOk result (λ event. IsNextLine event p q) }
         ensures err { OnErr result (self.new ≡ self.old) }
     {
@@ -107,10 +107,10 @@ impl<T: Replica> World<T> {
     /// Drops the next message due on a link.
     pub fn lose(&mut self, from: u8, to: u8) -> Result<Event, Memory>
         ensures stands { (digest : T.Kind → Entry T.Op → List ℕ) (kinds : Name → T.Kind) (logs : Name → History T.Op) (p : Playing T.Kind T.Op Shown)
-            → let D = whole_entries T.data_type digest in let q = played D p (ScriptStep.Lose from to) in
+            → let D = delta_groups T.data_type digest in let q = played D p (ScriptStep.Lose from to) in
             StandsForWorld T.kind_of T.IsDataOf kinds logs self.old p.world → OnOk result (StandsForWorld T.kind_of T.IsDataOf kinds logs self.new q.world) }
         ensures told { (digest : T.Kind → Entry T.Op → List ℕ) (kinds : Name → T.Kind) (logs : Name → History T.Op) (p : Playing T.Kind T.Op Shown)
-            → let D = whole_entries T.data_type digest in let q = played D p (ScriptStep.Lose from to) in
+            → let D = delta_groups T.data_type digest in let q = played D p (ScriptStep.Lose from to) in
             StandsForWorld T.kind_of T.IsDataOf kinds logs self.old p.world → IfOk result (λ event. IsNextLine event p q) }
         ensures err { OnErr result (self.new ≡ self.old) }
     {
@@ -126,10 +126,10 @@ impl<T: Replica> World<T> {
     /// Makes a member send what it has not sent yet. Each message goes to the end of its link.
     pub fn flush(&mut self, at: u8) -> Result<Event, Memory>
         ensures stands { (digest : T.Kind → Entry T.Op → List ℕ) (kinds : Name → T.Kind) (logs : Name → History T.Op) (first : Modelled T.Kind T.Op Shown) (p : Playing T.Kind T.Op Shown)
-            → let D = whole_entries T.data_type digest in let q = played D p (ScriptStep.Flush at) in
+            → let D = delta_groups T.data_type digest in let q = played D p (ScriptStep.Flush at) in
             IsRun D first p.events p.world → Throughout D logs first q → StandsForWorld T.kind_of T.IsDataOf kinds logs self.old p.world → OnOk result (StandsForWorld T.kind_of T.IsDataOf kinds logs self.new q.world) }
         ensures told { (digest : T.Kind → Entry T.Op → List ℕ) (kinds : Name → T.Kind) (logs : Name → History T.Op) (first : Modelled T.Kind T.Op Shown) (p : Playing T.Kind T.Op Shown)
-            → let D = whole_entries T.data_type digest in let q = played D p (ScriptStep.Flush at) in
+            → let D = delta_groups T.data_type digest in let q = played D p (ScriptStep.Flush at) in
             IsRun D first p.events p.world → Throughout D logs first q → StandsForWorld T.kind_of T.IsDataOf kinds logs self.old p.world → IfOk result (λ event. IsNextLine event p q) }
         ensures err { OnErr result (self.new ≡ self.old) }
     {
@@ -154,15 +154,53 @@ impl<T: Replica> World<T> {
             Err(StepError::Memory) => Err(Memory),
         }
     }
+}
+
+impl<T: SpelledData> World<T> {
+    ghost use Rattle.rd_world.specs.Standing.{StandsForWorld};
+    ghost use Rattle.rd_world.specs.Lines.{IsNextLine};
+    ghost use Rattle.rd_world.specs.Ways.{Throughout};
+
+    /// Makes a member tell another the digests of its entries. The message goes to the end of its link.
+    pub fn gossip(&mut self, at: u8, to: Id) -> Result<Event, Memory>
+        ensures stands { (kinds : Name → T.Kind) (logs : Name → History T.Op) (first : Modelled T.Kind T.Op Shown) (p : Playing T.Kind T.Op Shown)
+            → let D = spelled_groups T.data_type T.byte_of T.history_spelled in let q = played D p (ScriptStep.Gossip at to) in
+            IsRun D first p.events p.world → Throughout D logs first q → StandsForWorld T.kind_of T.IsDataOf kinds logs self.old p.world → OnOk result (StandsForWorld T.kind_of T.IsDataOf kinds logs self.new q.world) }
+        ensures told { (kinds : Name → T.Kind) (logs : Name → History T.Op) (first : Modelled T.Kind T.Op Shown) (p : Playing T.Kind T.Op Shown)
+            → let D = spelled_groups T.data_type T.byte_of T.history_spelled in let q = played D p (ScriptStep.Gossip at to) in
+            IsRun D first p.events p.world → Throughout D logs first q → StandsForWorld T.kind_of T.IsDataOf kinds logs self.old p.world → IfOk result (λ event. IsNextLine event p q) }
+        ensures err { OnErr result (self.new ≡ self.old) }
+    {
+        let head = Head::Gossip {
+            at,
+            to: to.number(),
+        };
+        let index = usize::from(at);
+        if index >= self.nodes.len() {
+            return Ok(line(self.alloc, head, Answer::Gone));
+        }
+        match gossip(self.alloc, &mut self.nodes[index], &mut self.links, at, to) {
+            Ok(answered) => {
+                let Answered { reply, sent } = answered;
+                Ok(Event {
+                    head,
+                    answer: Answer::Reply(reply),
+                    sent,
+                })
+            }
+            Err(StepError::HistoryFull) => Ok(line(self.alloc, head, Answer::HistoryFull)),
+            Err(StepError::Memory) => Err(Memory),
+        }
+    }
 
     /// Hands a message to its receiver: the one of this number, or the next one due. A message may be handed over any
     /// number of times.
     pub fn deliver(&mut self, from: u8, to: u8, index: Option<u32>) -> Result<Event, Memory>
-        ensures stands { (digest : T.Kind → Entry T.Op → List ℕ) (kinds : Name → T.Kind) (logs : Name → History T.Op) (first : Modelled T.Kind T.Op Shown) (p : Playing T.Kind T.Op Shown)
-            → let D = whole_entries T.data_type digest in let q = played D p (ScriptStep.Deliver from to index) in
+        ensures stands { (kinds : Name → T.Kind) (logs : Name → History T.Op) (first : Modelled T.Kind T.Op Shown) (p : Playing T.Kind T.Op Shown)
+            → let D = spelled_groups T.data_type T.byte_of T.history_spelled in let q = played D p (ScriptStep.Deliver from to index) in
             IsRun D first p.events p.world → Throughout D logs first q → StandsForWorld T.kind_of T.IsDataOf kinds logs self.old p.world → OnOk result (StandsForWorld T.kind_of T.IsDataOf kinds logs self.new q.world) }
-        ensures told { (digest : T.Kind → Entry T.Op → List ℕ) (kinds : Name → T.Kind) (logs : Name → History T.Op) (first : Modelled T.Kind T.Op Shown) (p : Playing T.Kind T.Op Shown)
-            → let D = whole_entries T.data_type digest in let q = played D p (ScriptStep.Deliver from to index) in
+        ensures told { (kinds : Name → T.Kind) (logs : Name → History T.Op) (first : Modelled T.Kind T.Op Shown) (p : Playing T.Kind T.Op Shown)
+            → let D = spelled_groups T.data_type T.byte_of T.history_spelled in let q = played D p (ScriptStep.Deliver from to index) in
             IsRun D first p.events p.world → Throughout D logs first q → StandsForWorld T.kind_of T.IsDataOf kinds logs self.old p.world → IfOk result (λ event. IsNextLine event p q) }
         ensures err { OnErr result (self.new ≡ self.old) }
     {
@@ -175,11 +213,11 @@ impl<T: Replica> World<T> {
 
     /// Hands the message of this number to its receiver.
     pub(crate) fn deliver_at(&mut self, from: u8, to: u8, index: usize) -> Result<Event, Memory>
-        ensures stands { (digest : T.Kind → Entry T.Op → List ℕ) (kinds : Name → T.Kind) (logs : Name → History T.Op) (first : Modelled T.Kind T.Op Shown) (p : Playing T.Kind T.Op Shown)
-            → let D = whole_entries T.data_type digest in let q = deliver D p from to index in
+        ensures stands { (kinds : Name → T.Kind) (logs : Name → History T.Op) (first : Modelled T.Kind T.Op Shown) (p : Playing T.Kind T.Op Shown)
+            → let D = spelled_groups T.data_type T.byte_of T.history_spelled in let q = deliver D p from to index in
             IsRun D first p.events p.world → Throughout D logs first q → StandsForWorld T.kind_of T.IsDataOf kinds logs self.old p.world → OnOk result (StandsForWorld T.kind_of T.IsDataOf kinds logs self.new q.world) }
-        ensures told { (digest : T.Kind → Entry T.Op → List ℕ) (kinds : Name → T.Kind) (logs : Name → History T.Op) (first : Modelled T.Kind T.Op Shown) (p : Playing T.Kind T.Op Shown)
-            → let D = whole_entries T.data_type digest in let q = deliver D p from to index in
+        ensures told { (kinds : Name → T.Kind) (logs : Name → History T.Op) (first : Modelled T.Kind T.Op Shown) (p : Playing T.Kind T.Op Shown)
+            → let D = spelled_groups T.data_type T.byte_of T.history_spelled in let q = deliver D p from to index in
             IsRun D first p.events p.world → Throughout D logs first q → StandsForWorld T.kind_of T.IsDataOf kinds logs self.old p.world → IfOk result (λ event. IsNextLine event p q) }
         ensures err { OnErr result (self.new ≡ self.old) }
     {

@@ -1,7 +1,6 @@
-use Rattle.std.proofs.Common.{◌≡◌, ◌+◌, ◌++◌, ◌∷◌, [], sym, ap, ◌∙◌, subst, arith, take, take_all, true, false}
+use Rattle.std.proofs.Common.{◌≡◌, ◌++◌, ◌∷◌, [], sym, ap, ◌∙◌, subst, arith, take, take_all, true, false}
 use Rattle.std.specs.Prelude.{◌&&◌}
 use Rattle.std.specs.List.{AllZip}
-use Rattle.rd_history.specs.Texts.{contains_text}
 use Rattle.rd_model.specs.Entry.{has_records}
 use Rattle.rd_model.specs.Node.{state_of}
 use Rattle.rd_model.specs.Step.{keyed_entry}
@@ -9,7 +8,7 @@ use Rattle.rd_messages.specs.declared.message.Keyed.{Keyed}
 use Rattle.rd_envelope.specs.declared.envelope.Envelope.{Envelope}
 use Rattle.rd_messages.specs.Standing.{StandsForKeyed}
 use Rattle.rd_node.specs.Keys.{declared_by}
-use Rattle.rd_node.specs.Replies.{whole_entries}
+use Rattle.rd_node.specs.Replies.{delta_groups}
 use Rattle.rd_node.proofs.Lists.{one_more, zip_push}
 use Rattle.rd_node.proofs.Naming.{named_of, named_all, named_one, named_none, is_asked, entry_now, keyed_now}
 use Rattle.rd_node.proofs.answering.named.Goals as goal
@@ -18,7 +17,7 @@ use Rattle.rd_node.proofs.answering.named.Goals.{then-contains+then-has_records+
 pub loop-index-preserved : goal.loop-index-preserved
 loop-index-preserved g c = λ digest kinds logs id view before node held kept work.
     let R = g.T.Replica in
-    let D = whole_entries R.data_type digest in
+    let D = delta_groups R.data_type digest in
     let S = StandsForKeyed R.kind_of R.IsDataOf kinds logs in
     let keys = c.args.keys.now in
     let names = c.args.names.now in
@@ -52,7 +51,7 @@ loop-index-preserved g c = λ digest kinds logs id view before node held kept wo
 pub returns : goal.returns
 returns g c = λ digest kinds logs id view before node held kept work.
     let R = g.T.Replica in
-    let D = whole_entries R.data_type digest in
+    let D = delta_groups R.data_type digest in
     subst (λ ys. AllZip (StandsForKeyed R.kind_of R.IsDataOf kinds logs) c.loop-index.entries ys)
     (ap (named_of D node c.args.names.now) (take_all c.loop-index.index c.args.keys.now (omega arith)) ∙ named_all D node c.args.names.now c.args.keys.now work.declares)
     (c.loop-index.invariant digest kinds logs id view before node held kept work)

@@ -7,7 +7,7 @@ use Rattle.rd_model.specs.Node.{Node as Member}
 use Rattle.rd_kinds.specs.declared.shown.Shown.{Shown}
 use Rattle.rd_messages.specs.Standing.{StandsForKeyed}
 use Rattle.rd_node.specs.Changes.{AreMade}
-use Rattle.rd_node.specs.Replies.{whole_entries}
+use Rattle.rd_node.specs.Replies.{delta_groups}
 use Rattle.rd_node.specs.Taking.{IsKept, AreHeld, IsAtWork}
 use Rattle.rd_node.proofs.Naming.{named_of}
 use Rattle.rd_node.proofs.answering.named.Given as goal
@@ -15,4 +15,4 @@ use Rattle.rd_node.proofs.answering.named.Given as goal
 abbrev pub invariant-loop-index : goal.invariant-loop-index
 invariant-loop-index g l = (digest : g.row.T-Kind.Denot → Entry g.row.T-Op.Denot → List ℕ) (kinds : Text → g.row.T-Kind.Denot) (logs : Text → History g.row.T-Op.Denot) (id view : ℕ) (before : Text → Entry g.row.T-Op.Denot) (node : Member g.row.T-Kind.Denot g.row.T-Op.Denot Shown)
     → AreHeld g.T.Replica.kind_of g.T.Replica.IsDataOf kinds logs id l.keys before → AreMade (IsKept g.T.Replica.kind_of id) l.keys l.changes → IsAtWork g.T.Replica.kind_of g.T.Replica.IsDataOf kinds logs id l.keys view before l.changes node
-    → AllZip (StandsForKeyed g.T.Replica.kind_of g.T.Replica.IsDataOf kinds logs) l.entries (named_of (whole_entries g.T.Replica.data_type digest) node l.names (take l.index l.keys))
+    → AllZip (StandsForKeyed g.T.Replica.kind_of g.T.Replica.IsDataOf kinds logs) l.entries (named_of (delta_groups g.T.Replica.data_type digest) node l.names (take l.index l.keys))

@@ -1,6 +1,5 @@
 use Rattle.std.proofs.Common.{◌≡◌, take}
 use Rattle.std.specs.Prelude.{map}
-use Rattle.rd_node.specs.declared.change.Change.{Change}
 use Rattle.rd_node.specs.declared.change.Change.TheVariants.{Same}
 use Rattle.rd_node.proofs.change.unchanged.Given as goal
 

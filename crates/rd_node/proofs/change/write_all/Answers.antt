@@ -1,4 +1,4 @@
-use Rattle.std.proofs.Common.{◌≡◌, ◌<◌, ◌+◌, ◌≤◌, length, take, sym, ap, ◌∙◌, subst, arith, vec_len, length-set}
+use Rattle.std.proofs.Common.{◌≡◌, ◌<◌, ◌+◌, ◌≤◌, length, take, get_or, refl, sym, ap, ◌∙◌, subst, arith, vec_len, length-set}
 use Rattle.rd_node.specs.Changes.{changed}
 use Rattle.rd_node.proofs.Written.{still_unwritten, written_more, last_left, rest_left}
 use Rattle.rd_node.proofs.change.write_all.Goals as goal
@@ -15,16 +15,17 @@ loop-change-preserved g c =
     let first = c.args.keys.now in
     let within : n < length first = (let few = inv.few in omega arith) in
     let taken = last_left c.loop-change.changes.items c.args.changes.items n m c.in-Some.change counted inv.left (λ d. popped.value d (omega arith)) in
+    let written = c.write_at.ensures in
     record {
-      same_length = length-set c.loop-change.keys n c.write.new.state ∙ inv.same_length;
+      same_length = ap length written.2 ∙ length-set c.loop-change.keys n (changed written.0 c.in-Some.change) ∙ inv.same_length;
       few = (let few = inv.few in omega arith);
       left = rest_left c.loop-change.changes.items c.args.changes.items c.pop.new.self.items n m counted inv.left popped.rest ∙ ap (λ k. take k c.args.changes.items) place;
-      unwritten = λ k d below.
-          still_unwritten changed first c.loop-change.keys c.args.changes.items n c.write.new.state c.index-keys-index.result c.in-Some.change within inv.same_length
-          (λ k d below. inv.unwritten k d (subst (λ j. k < j) (sym counted) below)) (λ k d e above. inv.written k d e (subst (λ j. j ≤ k) (sym counted) above)) c.index-keys-index.is (c.write.ensures ∙ ap (λ state. changed state c.in-Some.change) (sym c.index-keys-index.is)) taken k d (subst (λ j. k < j) (sym place) below);
-      written = λ k d e above.
-          written_more changed first c.loop-change.keys c.args.changes.items n c.write.new.state c.index-keys-index.result c.in-Some.change within inv.same_length
-          (λ k d below. inv.unwritten k d (subst (λ j. k < j) (sym counted) below)) (λ k d e above. inv.written k d e (subst (λ j. j ≤ k) (sym counted) above)) c.index-keys-index.is (c.write.ensures ∙ ap (λ state. changed state c.in-Some.change) (sym c.index-keys-index.is)) taken k d e (subst (λ j. j ≤ k) (sym place) above);
+      unwritten = λ k d below. ap (λ xs. get_or xs k d) written.2 ∙
+          still_unwritten changed first c.loop-change.keys c.args.changes.items n (changed written.0 c.in-Some.change) written.0 c.in-Some.change within inv.same_length
+          (λ k d below. inv.unwritten k d (subst (λ j. k < j) (sym counted) below)) (λ k d e above. inv.written k d e (subst (λ j. j ≤ k) (sym counted) above)) written.1 refl taken k d (subst (λ j. k < j) (sym place) below);
+      written = λ k d e above inside. ap (λ xs. get_or xs k d) written.2 ∙
+          written_more changed first c.loop-change.keys c.args.changes.items n (changed written.0 c.in-Some.change) written.0 c.in-Some.change within inv.same_length
+          (λ k d below. inv.unwritten k d (subst (λ j. k < j) (sym counted) below)) (λ k d e above. inv.written k d e (subst (λ j. j ≤ k) (sym counted) above)) written.1 refl taken k d e (subst (λ j. j ≤ k) (sym place) above) inside;
     }
 
 pub returns : goal.returns

@@ -1,4 +1,4 @@
-use Rattle.std.proofs.Common.{◌≡◌, ℕ, List, take}
+use Rattle.std.proofs.Common.{List, take}
 use Rattle.std.specs.List.{AllZip}
 use Rattle.rd_history.specs.Texts.{Text}
 use Rattle.rd_history.specs.History.{History}

@@ -1,6 +1,6 @@
-use Rattle.std.proofs.Common.{◌≡◌, sym, ap, ◌∙◌, subst, false, true, None, Some}
+use Rattle.std.proofs.Common.{◌≡◌, sym, ap, ◌∙◌, subst, false, true}
 use Rattle.std.specs.Prelude.{if◌then◌else◌}
-use Rattle.rd_model.specs.Entry.{Judgement, judged}
+use Rattle.rd_model.specs.Entry.{judged}
 use Rattle.rd_model.specs.Entry.Judgement.{Wanted, Stale, Missing}
 use Rattle.rd_envelope.specs.Images.{StandsFor}
 use Rattle.rd_envelope.specs.Words.{parts_of}

@@ -51,3 +51,18 @@ put-requires g c =
     let found = position-found (λ state. bytes_eq state.name c.args.keyed.now.key) c.args.keys.now c.in-Some.index c.in-Some.ensures in
     let inside = found.within in
     omega (arith, inside, c.requires)
+
+pub offset_bounds-keys-index : goal.offset_bounds-keys-index
+offset_bounds-keys-index g c =
+    let found = position-found (λ state. bytes_eq state.name c.args.keyed.now.key) c.args.keys.now c.in-Some.index c.in-Some.ensures in
+    let inside : c.in-Some.index < length c.args.keys.now = found.within in
+    search rules
+
+pub bounds-keys-index : goal.bounds-keys-index
+bounds-keys-index g c = (position-found (λ state. bytes_eq state.name c.args.keyed.now.key) c.args.keys.now c.in-Some.index c.in-Some.ensures).within
+
+pub bounds-changes-index : goal.bounds-changes-index
+bounds-changes-index g c =
+    let found = position-found (λ state. bytes_eq state.name c.args.keyed.now.key) c.args.keys.now c.in-Some.index c.in-Some.ensures in
+    let inside = found.within in
+    omega (arith, inside, c.requires)

@@ -1,11 +1,27 @@
-use Rattle.std.proofs.Common.{arith}
-use Rattle.std.proofs.lemmas.Grind.{common_steps}
+use Rattle.std.proofs.Common.{◌≡◌, true, false, take, ap, sym, ◌∙◌, arith}
 use Rattle.std.proofs.lemmas.Bool.Decides.{nat_tests}
+use Rattle.std.specs.Prelude.{◌==◌, if◌then◌else◌}
+use Rattle.rd_vectors.specs.Vectors.{number_at}
+use Rattle.rd_node.specs.Sending.{flushed_to, peers_of}
+use Rattle.rd_node.proofs.Lists.{one_more}
+use Rattle.rd_node.proofs.Flushes.{flushed_to-peer, flushed_to-itself}
 use Rattle.rd_node.proofs.sending.flushed.Goals as goal
 use Rattle.rd_node.proofs.sending.flushed.Goals.{then-ne+in_ok-set_flushed, else-ne}
 
 pub loop-peer-preserved : goal.loop-peer-preserved
-loop-peer-preserved g c = λ i. elim c.if-ne.branch [
-  | then-ne+in_ok-set_flushed w ↦ grind (arith, nat_tests, common_steps, c.loop-peer.invariant i, w.in_ok-set_flushed.ensures i)
-  | else-ne w ↦ grind (arith, nat_tests, common_steps, c.loop-peer.invariant i)
-]
+loop-peer-preserved g c = λ i.
+    let id = c.args.id in
+    let own = c.own_number-own.result in
+    let before = number_at c.args.state.now.flushed i in
+    let so_far = take c.loop-peer.peer-index c.args.members.now in
+    let peer = c.peer-item.result in
+    let more = ap (λ ms. flushed_to own (peers_of id ms) before i) (one_more c.args.members.now c.loop-peer.peer-index peer c.loop-peer-test.true c.peer-item.is) in
+    elim c.if-ne.branch [
+      | then-ne+in_ok-set_flushed w ↦
+          let other : (c.peer-item.result == c.args.id) ≡ false = grind (arith, nat_tests) in
+          ap (λ m. number_at m i) w.flushed-is ∙ w.in_ok-set_flushed.ensures i ∙ ap (λ n. if peer == i then own else n) (c.loop-peer.invariant i)
+          ∙ sym (more ∙ flushed_to-peer id own before i so_far peer other)
+      | else-ne w ↦
+          let same : (c.peer-item.result == c.args.id) ≡ true = grind (arith, nat_tests) in
+          ap (λ m. number_at m i) w.flushed-is ∙ c.loop-peer.invariant i ∙ sym (more ∙ flushed_to-itself id own before i so_far peer same)
+    ]

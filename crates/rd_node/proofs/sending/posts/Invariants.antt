@@ -1,6 +1,21 @@
 use Rattle.std.proofs.Common.{◌≡◌, take}
-use Rattle.rd_node.specs.Sending.{posts_of}
+use Rattle.std.specs.Prelude.{map, All}
+use Rattle.std.specs.List.{AllZip}
+use Rattle.rd_history.specs.Texts.{Text}
+use Rattle.rd_history.specs.History.{History}
+use Rattle.rd_model.specs.DataType.{Replication}
+use Rattle.rd_model.specs.Node as nodes
+use Rattle.rd_kinds.specs.declared.shown.Shown.{Shown}
+use Rattle.rd_messages.specs.Standing.{StandsForPost}
+use Rattle.rd_node.specs.Keys.{declared_by}
+use Rattle.rd_node.specs.Sending.{IsHeldBy}
+use Rattle.rd_node.proofs.Flushes.{posts_to}
 use Rattle.rd_node.proofs.sending.posts.Given as goal
 
+-- the members so far were sent to
 abbrev pub invariant-loop-peer : goal.invariant-loop-peer
-invariant-loop-peer g l = l.posts ≡ posts_of l.id l.keys (take l.peer-index l.members)
+invariant-loop-peer g l =
+    let R = g.T.Replica in
+    (D : Replication g.row.T-Kind.Denot g.row.T-Op.Denot Shown) (kinds : Text → g.row.T-Kind.Denot) (logs : Text → History g.row.T-Op.Denot) (node : nodes.Node g.row.T-Kind.Denot g.row.T-Op.Denot Shown)
+    → D.log_length ≡ 50 → All (IsHeldBy R.kind_of R.IsDataOf R.IsDeltaOf kinds logs l.id node) l.keys → node.keys ≡ map declared_by l.keys
+    → AllZip (StandsForPost {ghosts = R} R.kind_of R.IsDataOf kinds logs) l.posts (posts_to D node l.id (take l.peer-index l.members))

@@ -1,80 +1,8 @@
-use Rattle.std.proofs.Common.{◌≡◌, ◌≤◌, [], ◌++◌, length, sym, ap, ◌∙◌, subst}
-use Rattle.std.specs.Prelude.{map, if◌then◌else◌}
-use Rattle.std.specs.List.{AllZip, list_any}
-use Rattle.std.specs.Vec.{with_items}
-use Rattle.rd_model.specs.Entry.{is_unchanged}
-use Rattle.rd_model.specs.Node.{Node as Member}
-use Rattle.rd_model.specs.Node.Fate.{NoStore}
-use Rattle.rd_model.specs.Step.{AfterGroups, after_groups, after_entries, is_changed, named_entries, taken, nack_to, gossip_to}
-use Rattle.rd_model.proofs.Taking.{after_entries-only}
-use Rattle.rd_kinds.specs.declared.shown.Shown.{Shown}
-use Rattle.rd_messages.specs.Sketches.{names_of}
-use Rattle.rd_messages.specs.Standing.{StandsForKeyed, StandsForKeyedGroup, StandsForPosts}
-use Rattle.rd_node.specs.Replies.{whole_entries}
-use Rattle.rd_node.specs.Changes.{AreMade}
-use Rattle.rd_node.specs.Answers.{reply_to, only_asks, answers_of}
-use Rattle.rd_node.specs.Taking.{IsKept, LeadsTo, IsAtWork}
-use Rattle.rd_node.proofs.Working.{kept_first, leads_first, items_back}
-use Rattle.rd_node.proofs.GroupSteps.{groups-only}
-use Rattle.rd_node.proofs.Replying.{brings, replies, answers_stand, changed_is, few_answers}
+use Rattle.rd_envelope_codec.specs.Entries.{entry_digest}
+use Rattle.rd_node.proofs.GossipSteps.{no_status}
 use Rattle.rd_node.proofs.taking.taken.Goals as goal
 
-pub returns-clause-kept : goal.returns-clause-kept
-returns-clause-kept g c =
-    let Kept = IsKept g.T.Replica.kind_of c.args.id in
-    let keys = c.args.keys.now in
-    let first = c.in_ok-changes.changes in
-    let one = c.take_groups.new.changes in
-    let two = c.take_entries.new.changes in
-    let k0 = kept_first g.T.Replica.kind_of c.args.id keys first.items c.in_ok-changes.ensures in
-    let k1 = c.in_ok-gaps.ensures.kept (subst (AreMade Kept keys) (sym c.as_mut_slice.ensures.value) k0) in
-    let k1' = subst (AreMade Kept keys) (sym (items_back Kept keys first one k0 k1)) k1 in
-    let k2 = c.in_ok-take_entries.ensures.kept (subst (AreMade Kept keys) (sym c.as_mut_slice-2.ensures.value) k1') in
-    subst (AreMade Kept keys) (sym (items_back Kept keys (with_items first one) two k1' k2)) k2
-
-pub returns-clause-image : goal.returns-clause-image
-returns-clause-image g c = λ digest kinds logs node sent free held identity viewed declares stands.
-    let R = g.T.Replica in
-    let D = whole_entries R.data_type digest in
-    let Kept = IsKept R.kind_of c.args.id in
-    let keys = c.args.keys.now in
-    let message = c.args.message.now in
-    let b = brings D R.kind_of R.IsDataOf kinds logs node c.args.from message sent stands in
-    let groups = subst (λ gs. AllZip (StandsForKeyedGroup kinds logs) gs b.sent_groups) (sym c.groups.ensures) b.groups_stand in
-    let entries = subst (λ es. AllZip (StandsForKeyed R.kind_of R.IsDataOf kinds logs) es b.sent_entries) (sym c.entries.ensures) b.entries_stand in
-    let first = c.in_ok-changes.changes in
-    let one = c.take_groups.new.changes in
-    let two = c.take_entries.new.changes in
-    let mid = after_groups node b.sent_groups in
-    let after = after_entries mid.node b.sent_entries in
-    let k0 = subst (AreMade Kept keys) (sym c.as_mut_slice.ensures.value) (kept_first R.kind_of c.args.id keys first.items c.in_ok-changes.ensures) in
-    let k1 = c.in_ok-gaps.ensures.kept k0 in
-    let back1 = items_back Kept keys first one (subst (AreMade Kept keys) c.as_mut_slice.ensures.value k0) k1 in
-    let e1 = c.as_mut_slice-2.ensures.value ∙ back1 in
-    let k1' = subst (AreMade Kept keys) (sym e1) k1 in
-    let k2 = c.in_ok-take_entries.ensures.kept k1' in
-    let back2 = items_back Kept keys (with_items first one) two (subst (AreMade Kept keys) (sym back1) k1) k2 in
-    let w0 : IsAtWork R.kind_of R.IsDataOf kinds logs c.args.id keys c.args.view node.entries c.as_mut_slice.result.now node =
-    record { identity = identity; viewed = viewed; declares = declares; leads = subst (AreMade (LeadsTo R.IsDataOf logs node.entries node.entries) keys) (sym c.as_mut_slice.ensures.value) (leads_first R.IsDataOf logs node.entries keys first.items c.in_ok-changes.ensures) } in
-    let w1 = c.in_ok-gaps.ensures.image kinds logs c.args.view node.entries node b.sent_groups held k0 groups w0 in
-    let gaps = c.in_ok-gaps.ensures.gaps kinds logs c.args.view node.entries node b.sent_groups held k0 groups w0 in
-    let w1' = subst (λ cs. IsAtWork R.kind_of R.IsDataOf kinds logs c.args.id keys c.args.view node.entries cs mid.node) (sym e1) w1 in
-    let w2 = c.in_ok-take_entries.ensures.image kinds logs node.entries mid.node b.sent_entries free held k1' entries w1' in
-    let e2 = c.deref.ensures.value ∙ back2 in
-    let named = c.in_ok-entries.ensures digest kinds logs c.args.id c.args.view node.entries after held (subst (AreMade Kept keys) (sym e2) k2) (subst (λ cs. IsAtWork R.kind_of R.IsDataOf kinds logs c.args.id keys c.args.view node.entries cs after) (sym e2) w2) in
-    let named' = subst (λ names. AllZip (StandsForKeyed R.kind_of R.IsDataOf kinds logs) c.in_ok-entries.entries (named_entries D after names)) c.names.ensures named in
-    let test = c.any_changed-changed.ensures logs node.entries after.entries (subst (AreMade (LeadsTo R.IsDataOf logs node.entries after.entries) keys) (sym (c.deref-2.ensures.value ∙ back2)) w2.leads) ∙ sym (changed_is node after keys w2.declares) in
-    let only = after_entries-only b.sent_entries mid.node ∙ (λ i. record (groups-only b.sent_groups (record { node = node; gaps = [] }) i) { entries = after.entries }) in
-    record {
-      only = b.takes.next ∙ only ∙ (λ i. record node { entries = (sym b.takes.next i).entries });
-      leads = subst (λ (n : Member g.row.T-Kind.Denot g.row.T-Op.Denot Shown). AreMade (LeadsTo R.IsDataOf logs node.entries n.entries) keys (with_items (with_items first one) two).items) (sym b.takes.next)
-          (subst (AreMade (LeadsTo R.IsDataOf logs node.entries after.entries) keys) (sym back2) w2.leads);
-      reply = c.reply-reply.ensures ∙ (λ i. reply_to (only_asks message) (c.as_slice.ensures i) (test i)) ∙ replies D (only_asks message) (is_changed node after) c.in_ok-gaps.gaps mid.gaps gaps ∙ sym b.takes.reply;
-      posts = subst (λ ps. StandsForPosts R.kind_of R.IsDataOf kinds logs c.in_ok-posts.posts ps) (sym b.takes.posts)
-          (subst (λ posts. StandsForPosts R.kind_of R.IsDataOf kinds logs posts (nack_to D c.args.from mid.gaps ++ gossip_to D c.args.from (named_entries D after (names_of message)) []))
-          (sym (c.in_ok-posts.ensures ∙ (λ i. answers_of c.args.from (c.as_slice-2.ensures i) c.in_ok-entries.entries)))
-          (answers_stand D R R.kind_of R.IsDataOf kinds logs c.args.from c.in_ok-gaps.gaps mid.gaps c.in_ok-entries.entries (named_entries D after (names_of message)) gaps named'));
-    }
-
-pub returns-clause-few : goal.returns-clause-few
-returns-clause-few g c = subst (λ posts. length posts ≤ 2) (sym c.in_ok-posts.ensures) (few_answers g.T.Replica c.args.from c.as_slice-2.result.now c.in_ok-entries.entries)
+pub returns-in_default-clause-image : goal.returns-in_default-clause-image
+returns-in_default-clause-image g c = λ kinds logs node sent free held identity viewed declares stands.
+    let S = g.T.SpelledData in
+    c.brought.ensures.image (entry_digest S.byte_of S.history_spelled) kinds logs node sent free held identity viewed declares stands (no_status c.args.message.now c.in_default.not-Status)

@@ -1,7 +1,7 @@
 use Rattle.std.proofs.Common.{◌≡◌, ◌+◌, List, ap, subst, sym, ◌∙◌, inl, inr}
 use Rattle.std.specs.declared.cmp.Ordering.{Ordering}
 use Rattle.rd_history.specs.Texts.{Text}
-use Rattle.rd_growing.specs.Texts.{text_order}
+use Rattle.rd_bytes.specs.TextOrder.{text_order}
 use Rattle.rd_orset.specs.declared.set.Placed.{Placed}
 use Rattle.rd_orset.proofs.Others.{IsParting, part_less, part_equal, part_greater, part_end}
 use Rattle.rd_orset.proofs.elements.others.Goals as goal

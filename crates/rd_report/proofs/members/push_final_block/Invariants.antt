@@ -7,7 +7,7 @@ use Rattle.rd_model.specs.World.{World}
 use Rattle.rd_model.specs.Report.{member_text}
 use Rattle.rd_kinds.specs.ShownText.{shown_text}
 use Rattle.rd_kinds.specs.declared.shown.Shown.{Shown}
-use Rattle.rd_node.specs.Members.{whole_entries}
+use Rattle.rd_node.specs.Members.{delta_groups}
 use Rattle.rd_world.specs.Standing.{StandsForWorld}
 use Rattle.rd_report.proofs.members.push_final_block.Given as goal
 
@@ -15,4 +15,4 @@ abbrev pub invariant-loop-place : goal.invariant-loop-place
 invariant-loop-place g l =
     (digest : g.row.T-Kind.Denot → Entry g.row.T-Op.Denot → List ℕ) (kinds : Text → g.row.T-Kind.Denot) (logs : Text → History g.row.T-Op.Denot) (end : World g.row.T-Kind.Denot g.row.T-Op.Denot Shown)
     → StandsForWorld g.T.Replica.kind_of g.T.Replica.IsDataOf kinds logs l.world end
-    → string_bytes l.text ≡ string_bytes l.initial.text ++ flat_map (λ i. member_text (whole_entries g.T.Replica.data_type digest) shown_text end (record { identity = i; place = i })) (range_with_len 0 l.place)
+    → string_bytes l.text ≡ string_bytes l.initial.text ++ flat_map (λ i. member_text (delta_groups g.T.Replica.data_type digest) shown_text end (record { identity = i; place = i })) (range_with_len 0 l.place)

@@ -5,7 +5,8 @@ use Rattle.std.proofs.lemmas.List.{drop_all}
 use Rattle.rd_model.specs.World.{start}
 use Rattle.rd_model.specs.Script.{played}
 use Rattle.rd_script.specs.declared.script.Step.{Step}
-use Rattle.rd_node.specs.Members.{AreDistinct, AreOfKinds, declared, whole_entries}
+use Rattle.rd_envelope_codec.specs.Entries.{entry_digest}
+use Rattle.rd_node.specs.Members.{AreDistinct, AreOfKinds, declared, delta_groups}
 use Rattle.rd_world.specs.Lines.{IsLine}
 use Rattle.rd_world.specs.Standing.{StandsForWorld}
 use Rattle.rd_report.specs.Run.{step_of, plain_of, in_order}
@@ -20,7 +21,8 @@ start-requires-clause-distinct g c =
     (distinct_keys c.as_slice.result.now c.in_ok-keys.keys.items c.in_ok-keys.ensures (rw c.as_slice.ensures c.requires.key_names))
 
 pub loop-i-init : goal.loop-i-init
-loop-i-init g c = λ digest logs all.
+loop-i-init g c = λ logs all.
+    let digest = entry_digest g.T.SpelledData.byte_of g.T.SpelledData.history_spelled in
     let script = c.args.script.now in
     let D = g.T.Replica.data_type in
     let kind_of = g.T.Replica.kind_of in
@@ -41,7 +43,8 @@ next_left : (steps : List Step) (i : ℕ) (step : Step) → i < length steps →
 next_left steps i step here is = drop-cons steps i step here ∙ ap₂ (λ (s : Step) k. s ∷ drop k steps) (sym is) (sym (add-one i))
 
 pub loop-i-preserved : goal.loop-i-preserved
-loop-i-preserved g c = λ digest logs all.
+loop-i-preserved g c = λ logs all.
+    let digest = entry_digest g.T.SpelledData.byte_of g.T.SpelledData.history_spelled in
     let script = c.args.script.now in
     let D = g.T.Replica.data_type in
     let kind_of = g.T.Replica.kind_of in
@@ -49,21 +52,22 @@ loop-i-preserved g c = λ digest logs all.
     let steps = c.as_slice-step-items.result.now in
     let i = c.loop-i.i in
     let step = c.step-item.result in
-    let so_far = c.loop-i.invariant digest logs all in
+    let so_far = c.loop-i.invariant logs all in
     let kinds = so_far.0 in
     let p = so_far.1 in
     let here : i < length steps = omega (arith, c.loop-i-test.true) in
     let stage = subst (λ left. IsStage D digest script kind_of holds kinds logs (i + 1) left c.loop-i.world (string_bytes c.loop-i.text) p) (next_left steps i step here c.step-item.is) so_far.2 in
     let way = way_on D digest script kind_of holds kinds logs (i + 1) step (drop (i + 1) steps) c.loop-i.world (string_bytes c.loop-i.text) p stage all in
-    let plays = c.in_ok-events.ensures digest kinds logs (opening D digest script).world p stage.is_run way stage.stands in (
+    let plays = c.in_ok-events.ensures kinds logs (opening D digest script).world p stage.is_run way stage.stands in (
       kinds,
-      record (played (whole_entries D digest) p (step_of step)) { lines = [] },
+      record (played (delta_groups D digest) p (step_of step)) { lines = [] },
       next_stage D digest script kind_of holds kinds logs (i + 1) step (drop (i + 1) steps) c.loop-i.world c.play.new.world (string_bytes c.loop-i.text) (string_bytes c.push_lines.new.text) c.in_ok-events.events p stage plays
-          (λ told lined. c.in_ok-push_lines.ensures (whole_entries D digest) told (subst (λ events. AllZip IsLine events told) (sym c.as_slice-in-loop-i.ensures) lined)),
+          (λ told lined. c.in_ok-push_lines.ensures (delta_groups D digest) told (subst (λ events. AllZip IsLine events told) (sym c.as_slice-in-loop-i.ensures) lined)),
     )
 
 pub returns : goal.returns
-returns g c = λ digest.
+returns g c =
+    let digest = entry_digest g.T.SpelledData.byte_of g.T.SpelledData.history_spelled in
     let script = c.args.script.now in
     let D = g.T.Replica.data_type in
     let kind_of = g.T.Replica.kind_of in
@@ -71,7 +75,7 @@ returns g c = λ digest.
     let steps = c.as_slice-step-items.result.now in
     let i = c.loop-i.i in
     let logs = run_logs D digest script c.requires.members.1 in
-    let so_far = c.loop-i.invariant digest logs.0 logs.1 in
+    let so_far = c.loop-i.invariant logs.0 logs.1 in
     let kinds = so_far.0 in
     let p = so_far.1 in
     let done : length steps ≤ i = omega (arith, c.loop-i-test.false) in

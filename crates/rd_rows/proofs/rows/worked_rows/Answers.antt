@@ -1,4 +1,4 @@
-use Rattle.rd_rows.proofs.Computed.{Meanings_holds, EmptyScript_holds, OneMember_holds, Repeats_holds, AddWins_holds, DeltaOvertakesItsCause_holds, PrunedCounter_holds, BlockedPrune_holds, ReplacedDot_holds, OwnerDeparts_holds, LateMessages_holds, RestartedMember_holds, MajorityWriteAndRead_holds, TimedOutWrite_holds, RegisterWrites_holds, Refusals_holds, OtherKinds_holds, FiftyDeltas_holds, FiftyOneDeltas_holds, Carts_holds, FailingStore_holds, FailingLoad_holds, GeneratedScript_holds, TwoMembers_holds, RegisterByWholeEntries_holds, AddWinsByWholeEntries_holds, GossipedCounter_holds, ThreeMembers_holds}
+use Rattle.rd_rows.proofs.Computed.{Meanings_holds, EmptyScript_holds, OneMember_holds, Repeats_holds, AddWins_holds, DeltaOvertakesItsCause_holds, PrunedCounter_holds, BlockedPrune_holds, ReplacedDot_holds, OwnerDeparts_holds, LateMessages_holds, RestartedMember_holds, MajorityWriteAndRead_holds, TimedOutWrite_holds, RegisterWrites_holds, Refusals_holds, OtherKinds_holds, FiftyDeltas_holds, FiftyOneDeltas_holds, Carts_holds, FailingStore_holds, FailingLoad_holds, GeneratedScript_holds, TwoMembers_holds, FlushedRegister_holds, GossipedCounter_holds, ThreeMembers_holds}
 use Rattle.rd_rows.proofs.rows.worked_rows.Goals as goal
 
 pub returns-clause-meanings : goal.returns-clause-meanings
@@ -73,11 +73,8 @@ returns-clause-generated_script c = GeneratedScript_holds
 pub returns-clause-two_members : goal.returns-clause-two_members
 returns-clause-two_members c = TwoMembers_holds
 
-pub returns-clause-register_by_whole_entries : goal.returns-clause-register_by_whole_entries
-returns-clause-register_by_whole_entries c = RegisterByWholeEntries_holds
-
-pub returns-clause-add_wins_by_whole_entries : goal.returns-clause-add_wins_by_whole_entries
-returns-clause-add_wins_by_whole_entries c = AddWinsByWholeEntries_holds
+pub returns-clause-flushed_register : goal.returns-clause-flushed_register
+returns-clause-flushed_register c = FlushedRegister_holds
 
 pub returns-clause-gossiped_counter : goal.returns-clause-gossiped_counter
 returns-clause-gossiped_counter c = GossipedCounter_holds

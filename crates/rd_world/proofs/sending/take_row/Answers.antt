@@ -2,9 +2,10 @@ use Rattle.std.proofs.Common.{◌∙◌, ◌++◌, ◌≤◌, ap, sym, subst, ar
 use Rattle.std.specs.Prelude.{option_map, slice_get}
 use Rattle.rd_model.specs.Node.{Input, Fate}
 use Rattle.rd_model.specs.Step.{step}
-use Rattle.rd_node.specs.Members.{whole_entries, StandsForPosts}
+use Rattle.rd_node.specs.Members.{delta_groups, StandsForPosts}
 use Rattle.rd_messages.specs.declared.message.Message.{Message}
 use Rattle.rd_messages.specs.declared.message.Post.{Post}
+use Rattle.rd_envelope_codec.specs.Entries.{entry_digest}
 use Rattle.rd_world.specs.declared.event.SentTo.{SentTo}
 use Rattle.rd_world.specs.Channels.{Channel}
 use Rattle.rd_world.specs.Sending.{extended, messages_to, told_of}
@@ -15,8 +16,8 @@ returns-clause-sends g c =
     let posts = c.into_vec.result.items in (
       posts,
       (
-        (λ digest kinds logs node given stands free sent_stands taken.
-            subst (λ (these : List (Post g.row.T.Denot g.row.T-Kind.Denot g.row.T-Op.Denot g.row.T-Delta.Denot g.T.Replica)). StandsForPosts g.T.Replica.kind_of g.T.Replica.IsDataOf kinds logs these (step (whole_entries g.T.Replica.data_type digest) node (Input.Take c.args.from given) Fate.NoStore).output.posts) (sym c.into_vec.ensures) (c.in_ok-output.ensures.posts digest kinds logs node given stands free sent_stands taken)),
+        (λ kinds logs node given stands free sent_stands taken.
+            subst (λ (these : List (Post g.row.T.Denot g.row.T-Kind.Denot g.row.T-Op.Denot g.row.T-Delta.Denot g.T.Replica)). StandsForPosts g.T.Replica.kind_of g.T.Replica.IsDataOf kinds logs these (step (delta_groups g.T.Replica.data_type (entry_digest g.T.SpelledData.byte_of g.T.SpelledData.history_spelled)) node (Input.Take c.args.from given) Fate.NoStore).output.posts) (sym c.into_vec.ensures) (c.in_ok-output.ensures.posts kinds logs node given stands free sent_stands taken)),
         subst (λ (these : List (Post g.row.T.Denot g.row.T-Kind.Denot g.row.T-Op.Denot g.row.T-Delta.Denot g.T.Replica)). length these ≤ 2) (sym c.into_vec.ensures) c.in_ok-output.ensures.few,
       ),
       λ few. (

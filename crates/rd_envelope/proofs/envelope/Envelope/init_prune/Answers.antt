@@ -13,7 +13,7 @@ pub returns-in_ok-put-in-Marked-clause-image : goal.returns-in_ok-put-in-Marked-
 returns-in_ok-put-in-Marked-clause-image g c = λ log entry s _.
     let some : 0 < number_at c.args.self.now.versions c.args.removed = omega (arith, c.at.ensures.value) in
     stands_marked g.T.Replica.IsDataOf (parts_of c.args.self.now) _ log entry c.args.removed c.args.owner c.args.view c.with-seen.result s some c.in_ok-put-in-Marked.ensures.ok
-    (λ i. c.with-seen.ensures.members i ∙ ap (λ b. nat_eq i c.args.owner || b) (c.empty.ensures i) ∙ or_false (nat_eq i c.args.owner))
+    (λ i. c.with-seen.ensures.members i ∙ ap (λ b. nat_eq i c.args.owner || b) (c.empty.ensures.members i) ∙ or_false (nat_eq i c.args.owner))
 
 pub returns-in_ok-put-in-Marked-clause-outcome : goal.returns-in_ok-put-in-Marked-clause-outcome
 returns-in_ok-put-in-Marked-clause-outcome g c = λ log entry s.

@@ -5,7 +5,7 @@ use Rattle.rd_history.specs.Cuts.{without}
 use Rattle.rd_vectors.specs.Vectors.{number_at}
 use Rattle.rd_markers.specs.Marks.{performed_in, MergesTo}
 use Rattle.rd_envelope.specs.Words.{parts_of}
-use Rattle.rd_envelope.proofs.Numbers.{joined_numbers, joined_most}
+use Rattle.rd_envelope.proofs.Numbers.{joined_numbers, joined_most, joined_greatest}
 use Rattle.rd_envelope.proofs.Tests.{performed_merge, either_again, either_again', cond_again, cond_again'}
 use Rattle.rd_envelope.proofs.Holding.{holds_merged, pruned_union}
 use Rattle.rd_envelope.proofs.Entries.{stands_merged, exact_union}
@@ -49,3 +49,11 @@ returns-clause-versions g c =
     (λ i. c.drop_performed.ensures.numbers i ∙ ap (λ m. without (performed_in c.merge.new.self) (number_at m) i) c.in_ok-versions.ensures.same)
     (λ i. c.drop_performed-2.ensures.numbers i ∙ ap (λ m. without (performed_in c.merge.new.self) (number_at m) i) c.in_ok-their_versions.ensures.same)
     c.in_ok-join-2.ensures.ok
+
+pub returns-clause-greatest : goal.returns-clause-greatest
+returns-clause-greatest g c = λ i stays.
+    joined_greatest c.args.self.now.versions c.args.other.now.versions c.drop_performed.new.versions c.drop_performed-2.new.versions c.join-2.new.self (performed_in c.merge.new.self)
+    c.in_ok-versions.ensures.normal c.in_ok-their_versions.ensures.normal
+    (λ i. c.drop_performed.ensures.numbers i ∙ ap (λ m. without (performed_in c.merge.new.self) (number_at m) i) c.in_ok-versions.ensures.same)
+    (λ i. c.drop_performed-2.ensures.numbers i ∙ ap (λ m. without (performed_in c.merge.new.self) (number_at m) i) c.in_ok-their_versions.ensures.same)
+    c.in_ok-join-2.ensures.ok i stays

@@ -1,6 +1,6 @@
 use Rattle.std.proofs.Common.{◌≡◌, sym, ap, ◌∙◌, subst}
 use Rattle.rd_history.specs.Texts.{contains_text}
-use Rattle.rd_growing.specs.Texts.{IsRising}
+use Rattle.rd_bytes.specs.TextOrder.{IsRising}
 use Rattle.rd_growing.proofs.Merging.{present_set}
 use Rattle.rd_growing.proofs.set.GSet.add.Goals as goal
 

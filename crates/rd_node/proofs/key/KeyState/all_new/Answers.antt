@@ -10,7 +10,7 @@ pub loop-decl-preserved : goal.loop-decl-preserved
 loop-decl-preserved g c =
     let states = c.loop-decl.states in
     let state = c.in_ok-new.field-0 in
-    let fresh = IsFresh g.T.Replica.kind_of g.T.Replica.IsDataOf in
+    let fresh = IsFresh g.T.Replica.kind_of g.T.Replica.IsDataOf g.T.Replica.IsDeltaOf c.args.id in
     record {
       declared =
           ap (map declared_by) c.in_ok-push.ensures.ok ∙ map-append declared_by states (state ∷ [])

@@ -6,8 +6,9 @@ use Rattle.rd_model.specs.Step.{step}
 use Rattle.rd_model.specs.Script as script
 use Rattle.rd_model.specs.Script.{ScriptStep, Playing, deliver}
 use Rattle.rd_kinds.specs.declared.shown.Shown.{Shown}
-use Rattle.rd_node.specs.Members.{whole_entries, meant, StandsForNode, StandsForMessage, AreTakenFrom}
+use Rattle.rd_node.specs.Members.{delta_groups, meant, StandsForNode, StandsForMessage, AreTakenFrom}
 use Rattle.rd_runs.proofs.Playing.{played_is_run}
+use Rattle.rd_envelope_codec.specs.Entries.{entry_digest}
 use Rattle.rd_world.specs.declared.event.Event.{Event}
 use Rattle.rd_world.specs.declared.event.Answer.TheVariants as answer
 use Rattle.rd_world.specs.declared.world.World.{World}
@@ -21,15 +22,17 @@ use Rattle.rd_world.proofs.Delivering.{sent_within, undelivered_gone, undelivere
 use Rattle.rd_world.proofs.world.World.deliver_at.Goals as goal
 
 pub returns-then-receiver-len-clause-stands : goal.returns-then-receiver-len-clause-stands
-returns-then-receiver-len-clause-stands g c = λ digest kinds logs first p run through stands.
-    let D = whole_entries g.T.Replica.data_type digest in
+returns-then-receiver-len-clause-stands g c = λ kinds logs first p run through stands.
+    let digest = entry_digest g.T.SpelledData.byte_of g.T.SpelledData.history_spelled in
+    let D = delta_groups g.T.Replica.data_type digest in
     let nodes = c.args.self.now.nodes in
     gone_stands g.T.Replica.kind_of g.T.Replica.IsDataOf kinds logs g.T.Replica D c.args.self.now p stands c.args.from c.args.to c.args.index (deliver D p c.args.from c.args.to c.args.index) (script.Head.DeliverHead c.args.from c.args.to c.args.index None) script.Answer.Gone
     (undelivered_gone g.T.Replica.kind_of g.T.Replica.IsDataOf kinds logs g.T.Replica D c.args.self.now p stands c.args.from c.args.to c.args.index (omega (arith, nodes.ok.0)))
 
 pub returns-then-receiver-len-clause-told : goal.returns-then-receiver-len-clause-told
-returns-then-receiver-len-clause-told g c = λ digest kinds logs first p run through stands.
-    let D = whole_entries g.T.Replica.data_type digest in
+returns-then-receiver-len-clause-told g c = λ kinds logs first p run through stands.
+    let digest = entry_digest g.T.SpelledData.byte_of g.T.SpelledData.history_spelled in
+    let D = delta_groups g.T.Replica.data_type digest in
     let nodes = c.args.self.now.nodes in
     let q = deliver D p c.args.from c.args.to c.args.index in
     subst (λ (event : Event). IsNextLine event p q) (sym c.undelivered.ensures)
@@ -37,16 +40,18 @@ returns-then-receiver-len-clause-told g c = λ digest kinds logs first p run thr
     (undelivered_gone g.T.Replica.kind_of g.T.Replica.IsDataOf kinds logs g.T.Replica D c.args.self.now p stands c.args.from c.args.to c.args.index (omega (arith, nodes.ok.0))) refl)
 
 pub returns-in_default-message-clause-stands : goal.returns-in_default-message-clause-stands
-returns-in_default-message-clause-stands g c = λ digest kinds logs first p run through stands.
-    let D = whole_entries g.T.Replica.data_type digest in
+returns-in_default-message-clause-stands g c = λ kinds logs first p run through stands.
+    let digest = entry_digest g.T.SpelledData.byte_of g.T.SpelledData.history_spelled in
+    let D = delta_groups g.T.Replica.data_type digest in
     let nodes = c.args.self.now.nodes in
     let here = c.from-receiver.ensures in
     gone_stands g.T.Replica.kind_of g.T.Replica.IsDataOf kinds logs g.T.Replica D c.args.self.now p stands c.args.from c.args.to c.args.index (deliver D p c.args.from c.args.to c.args.index) (script.Head.DeliverHead c.args.from c.args.to c.args.index None) script.Answer.NoSuchMessage
     (undelivered_none g.T.Replica.kind_of g.T.Replica.IsDataOf kinds logs g.T.Replica D c.args.self.now p stands c.args.from c.args.to c.args.index (omega (arith, nodes.ok.0)) (sym c.message.ensures ∙ ap option_copied c.in_default-message.is))
 
 pub returns-in_default-message-clause-told : goal.returns-in_default-message-clause-told
-returns-in_default-message-clause-told g c = λ digest kinds logs first p run through stands.
-    let D = whole_entries g.T.Replica.data_type digest in
+returns-in_default-message-clause-told g c = λ kinds logs first p run through stands.
+    let digest = entry_digest g.T.SpelledData.byte_of g.T.SpelledData.history_spelled in
+    let D = delta_groups g.T.Replica.data_type digest in
     let nodes = c.args.self.now.nodes in
     let here = c.from-receiver.ensures in
     let q = deliver D p c.args.from c.args.to c.args.index in
@@ -57,12 +62,13 @@ returns-in_default-message-clause-told g c = λ digest kinds logs first p run th
 pub pass-requires : goal.pass-requires
 pass-requires g c =
     let found = sent_within _ c.args.index c.in-Some-message.message.now (sym c.message.ensures ∙ ap option_copied c.in-Some-message.is) in
-    sent_within_still c.args.to c.args.from c.args.to c.args.index (AreAnswers g.T.Replica.data_type g.T.Replica.kind_of g.T.Replica.IsDataOf c.index_mut.result.now c.in-Some.sender c.in_ok-message.message) c.args.self.now.links c.take.new.links c.in-Ok.answered.sent
+    sent_within_still c.args.to c.args.from c.args.to c.args.index (AreAnswers g.T.Replica.data_type (entry_digest g.T.SpelledData.byte_of g.T.SpelledData.history_spelled) g.T.Replica.kind_of g.T.Replica.IsDataOf c.index_mut.result.now c.in-Some.sender c.in_ok-message.message) c.args.self.now.links c.take.new.links c.in-Ok.answered.sent
     (λ posts are. are.1) c.in-Ok.ensures.sends c.in-Ok.ensures.gone found
 
 pub returns-in-Ok-clause-stands : goal.returns-in-Ok-clause-stands
-returns-in-Ok-clause-stands g c = λ digest kinds logs first p run through stands.
-    let D = whole_entries g.T.Replica.data_type digest in
+returns-in-Ok-clause-stands g c = λ kinds logs first p run through stands.
+    let digest = entry_digest g.T.SpelledData.byte_of g.T.SpelledData.history_spelled in
+    let D = delta_groups g.T.Replica.data_type digest in
     let code = c.args.self.now in
     let nodes = code.nodes in
     let old = c.index_mut.result.now in
@@ -83,16 +89,17 @@ returns-in-Ok-clause-stands g c = λ digest kinds logs first p run through stand
     let run_then = played_is_run D first p (ScriptStep.Deliver from to (Some index) ∷ []) (tt, tt) run in
     take_stands g.T.Replica.data_type g.T.Replica.kind_of g.T.Replica.IsDataOf g.T.Replica digest kinds logs code p stands from to index within old is message found (sent_within _ index message sent) new c.take.new.links c.pass.new.self c.in-Ok.answered.reply c.in-Ok.answered.sent (c.in-Ok.ensures.room row)
     (subst (λ i. (node : Member g.row.T-Kind.Denot g.row.T-Op.Denot Shown) → StandsForNode g.T.Replica.kind_of g.T.Replica.IsDataOf kinds logs old node → AreTakenFrom logs (step D node (Input.Take i found.sent) NoStore).node → StandsForNode g.T.Replica.kind_of g.T.Replica.IsDataOf kinds logs new (step D node (Input.Take i found.sent) NoStore).node) member
-    (λ node st. c.in-Ok.ensures.stands digest kinds logs node found.sent row st through.prune_free given))
+    (λ node st. c.in-Ok.ensures.stands kinds logs node found.sent row st through.prune_free given))
     (subst (λ i. (node : Member g.row.T-Kind.Denot g.row.T-Op.Denot Shown) → StandsForNode g.T.Replica.kind_of g.T.Replica.IsDataOf kinds logs old node → AreTakenFrom logs (step D node (Input.Take i found.sent) NoStore).node → meant c.in-Ok.answered.reply ≡ (step D node (Input.Take i found.sent) NoStore).output.reply) member
-    (λ node st. c.in-Ok.ensures.reply digest kinds logs node found.sent row st through.prune_free given))
-    (subst (λ i. IsSentFrom (AreAnswers g.T.Replica.data_type g.T.Replica.kind_of g.T.Replica.IsDataOf old i message) to 2 code.links c.take.new.links c.in-Ok.answered.sent) member
-    (subst (λ m. IsSentFrom (AreAnswers g.T.Replica.data_type g.T.Replica.kind_of g.T.Replica.IsDataOf old c.in-Some.sender m) to 2 code.links c.take.new.links c.in-Ok.answered.sent) copied (c.in-Ok.ensures.sends row)))
+    (λ node st. c.in-Ok.ensures.reply kinds logs node found.sent row st through.prune_free given))
+    (subst (λ i. IsSentFrom (AreAnswers g.T.Replica.data_type (entry_digest g.T.SpelledData.byte_of g.T.SpelledData.history_spelled) g.T.Replica.kind_of g.T.Replica.IsDataOf old i message) to 2 code.links c.take.new.links c.in-Ok.answered.sent) member
+    (subst (λ m. IsSentFrom (AreAnswers g.T.Replica.data_type (entry_digest g.T.SpelledData.byte_of g.T.SpelledData.history_spelled) g.T.Replica.kind_of g.T.Replica.IsDataOf old c.in-Some.sender m) to 2 code.links c.take.new.links c.in-Ok.answered.sent) copied (c.in-Ok.ensures.sends row)))
     c.pass.ensures first run_then through _ refl (ap (λ j. set nodes.items j new) here) refl
 
 pub returns-in-Ok-clause-told : goal.returns-in-Ok-clause-told
-returns-in-Ok-clause-told g c = λ digest kinds logs first p run through stands.
-    let D = whole_entries g.T.Replica.data_type digest in
+returns-in-Ok-clause-told g c = λ kinds logs first p run through stands.
+    let digest = entry_digest g.T.SpelledData.byte_of g.T.SpelledData.history_spelled in
+    let D = delta_groups g.T.Replica.data_type digest in
     let code = c.args.self.now in
     let nodes = code.nodes in
     let old = c.index_mut.result.now in
@@ -114,16 +121,17 @@ returns-in-Ok-clause-told g c = λ digest kinds logs first p run through stands.
     subst (λ (event : Event). IsNextLine event p (deliver D p from to index)) (ap (λ sketch. record { head = head.Deliver from to index (Some sketch); answer = answer.Reply c.in-Ok.answered.reply; sent = c.in-Ok.answered.sent }) (sym c.sketch.ensures))
     (take_tells g.T.Replica.data_type g.T.Replica.kind_of g.T.Replica.IsDataOf g.T.Replica digest kinds logs code p stands from to index within old is message found (sent_within _ index message sent) new c.take.new.links c.pass.new.self c.in-Ok.answered.reply c.in-Ok.answered.sent (c.in-Ok.ensures.room row)
     (subst (λ i. (node : Member g.row.T-Kind.Denot g.row.T-Op.Denot Shown) → StandsForNode g.T.Replica.kind_of g.T.Replica.IsDataOf kinds logs old node → AreTakenFrom logs (step D node (Input.Take i found.sent) NoStore).node → StandsForNode g.T.Replica.kind_of g.T.Replica.IsDataOf kinds logs new (step D node (Input.Take i found.sent) NoStore).node) member
-    (λ node st. c.in-Ok.ensures.stands digest kinds logs node found.sent row st through.prune_free given))
+    (λ node st. c.in-Ok.ensures.stands kinds logs node found.sent row st through.prune_free given))
     (subst (λ i. (node : Member g.row.T-Kind.Denot g.row.T-Op.Denot Shown) → StandsForNode g.T.Replica.kind_of g.T.Replica.IsDataOf kinds logs old node → AreTakenFrom logs (step D node (Input.Take i found.sent) NoStore).node → meant c.in-Ok.answered.reply ≡ (step D node (Input.Take i found.sent) NoStore).output.reply) member
-    (λ node st. c.in-Ok.ensures.reply digest kinds logs node found.sent row st through.prune_free given))
-    (subst (λ i. IsSentFrom (AreAnswers g.T.Replica.data_type g.T.Replica.kind_of g.T.Replica.IsDataOf old i message) to 2 code.links c.take.new.links c.in-Ok.answered.sent) member
-    (subst (λ m. IsSentFrom (AreAnswers g.T.Replica.data_type g.T.Replica.kind_of g.T.Replica.IsDataOf old c.in-Some.sender m) to 2 code.links c.take.new.links c.in-Ok.answered.sent) copied (c.in-Ok.ensures.sends row)))
+    (λ node st. c.in-Ok.ensures.reply kinds logs node found.sent row st through.prune_free given))
+    (subst (λ i. IsSentFrom (AreAnswers g.T.Replica.data_type (entry_digest g.T.SpelledData.byte_of g.T.SpelledData.history_spelled) g.T.Replica.kind_of g.T.Replica.IsDataOf old i message) to 2 code.links c.take.new.links c.in-Ok.answered.sent) member
+    (subst (λ m. IsSentFrom (AreAnswers g.T.Replica.data_type (entry_digest g.T.SpelledData.byte_of g.T.SpelledData.history_spelled) g.T.Replica.kind_of g.T.Replica.IsDataOf old c.in-Some.sender m) to 2 code.links c.take.new.links c.in-Ok.answered.sent) copied (c.in-Ok.ensures.sends row)))
     c.pass.ensures first run_then through)
 
 pub returns-in-Err-HistoryFull-clause-stands : goal.returns-in-Err-HistoryFull-clause-stands
-returns-in-Err-HistoryFull-clause-stands g c = λ digest kinds logs first p run through stands.
-    let D = whole_entries g.T.Replica.data_type digest in
+returns-in-Err-HistoryFull-clause-stands g c = λ kinds logs first p run through stands.
+    let digest = entry_digest g.T.SpelledData.byte_of g.T.SpelledData.history_spelled in
+    let D = delta_groups g.T.Replica.data_type digest in
     let code = c.args.self.now in
     let nodes = code.nodes in
     let old = c.index_mut.result.now in
@@ -142,8 +150,9 @@ returns-in-Err-HistoryFull-clause-stands g c = λ digest kinds logs first p run 
     (full_stands g.T.Replica.kind_of g.T.Replica.IsDataOf kinds logs g.T.Replica D code p stands from to index within old is message found (c.in-Err-HistoryFull.ensures.full (ap Err c.in-Err-HistoryFull.field-0-is)))
 
 pub returns-in-Err-HistoryFull-clause-told : goal.returns-in-Err-HistoryFull-clause-told
-returns-in-Err-HistoryFull-clause-told g c = λ digest kinds logs first p run through stands.
-    let D = whole_entries g.T.Replica.data_type digest in
+returns-in-Err-HistoryFull-clause-told g c = λ kinds logs first p run through stands.
+    let digest = entry_digest g.T.SpelledData.byte_of g.T.SpelledData.history_spelled in
+    let D = delta_groups g.T.Replica.data_type digest in
     let code = c.args.self.now in
     let nodes = code.nodes in
     let old = c.index_mut.result.now in

@@ -1,6 +1,6 @@
 use Rattle.std.proofs.Common.{◌∙◌, ◌<◌, length, ap, sym, subst, arith, refl, get_or, set, Err, [], ◌∷◌}
 use Rattle.rd_model.specs.Script.{ScriptStep}
-use Rattle.rd_node.specs.Members.{whole_entries}
+use Rattle.rd_node.specs.Members.{delta_groups}
 use Rattle.rd_runs.proofs.Playing.{played_is_run}
 use Rattle.rd_world.specs.declared.event.Event.{Event}
 use Rattle.rd_world.specs.Lines.{IsNextLine}
@@ -9,7 +9,7 @@ use Rattle.rd_world.proofs.world.World.flush.Goals as goal
 
 pub returns-in-Ok-clause-stands : goal.returns-in-Ok-clause-stands
 returns-in-Ok-clause-stands g c = λ digest kinds logs first p run through stands.
-    let D = whole_entries g.T.Replica.data_type digest in
+    let D = delta_groups g.T.Replica.data_type digest in
     let code = c.args.self.now in
     let nodes = code.nodes in
     let old = c.index_mut.result.now in
@@ -24,7 +24,7 @@ returns-in-Ok-clause-stands g c = λ digest kinds logs first p run through stand
 
 pub returns-in-Ok-clause-told : goal.returns-in-Ok-clause-told
 returns-in-Ok-clause-told g c = λ digest kinds logs first p run through stands.
-    let D = whole_entries g.T.Replica.data_type digest in
+    let D = delta_groups g.T.Replica.data_type digest in
     let code = c.args.self.now in
     let nodes = code.nodes in
     let old = c.index_mut.result.now in

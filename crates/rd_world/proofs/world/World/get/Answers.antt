@@ -1,7 +1,7 @@
 use Rattle.std.proofs.Common.{◌∙◌, sym, ap, subst, arith, refl, [], ◌∷◌, Vec, Global}
 use Rattle.rd_model.specs.Node.{Input, Level}
 use Rattle.rd_model.specs.Script.{ScriptStep, Head, played}
-use Rattle.rd_node.specs.Members.{whole_entries}
+use Rattle.rd_node.specs.Members.{delta_groups}
 use Rattle.rd_runs.proofs.Playing.{played_is_run}
 use Rattle.rd_node.specs.declared.node.Node.{Node}
 use Rattle.rd_world.specs.declared.event.Event.{Event}
@@ -21,7 +21,7 @@ returns-in_err-answer-clause-err g c =
 
 pub returns-clause-stands : goal.returns-clause-stands
 returns-clause-stands g c = λ digest kinds logs first p run through stands.
-    let D = whole_entries g.T.Replica.data_type digest in
+    let D = delta_groups g.T.Replica.data_type digest in
     let key = c.args.key.now in
     let nodes = c.args.self.now.nodes in
     call_stands g.T.Replica.kind_of g.T.Replica.IsDataOf kinds logs g.T.Replica D c.args.self.now p stands (Head.GetHead c.args.at key) c.args.at (Input.Get key Level.Local) (local_get key) first
@@ -30,7 +30,7 @@ returns-clause-stands g c = λ digest kinds logs first p run through stands.
 
 pub returns-clause-told : goal.returns-clause-told
 returns-clause-told g c = λ digest kinds logs first p run through stands.
-    let D = whole_entries g.T.Replica.data_type digest in
+    let D = delta_groups g.T.Replica.data_type digest in
     let key = c.args.key.now in
     let nodes = c.args.self.now.nodes in
     let q = played D p (ScriptStep.Get c.args.at key Level.Local) in

@@ -1,7 +1,7 @@
 use Rattle.std.proofs.Common.{◌∙◌, sym, ap, subst, arith, refl, [], ◌∷◌, Vec, Global}
 use Rattle.rd_model.specs.Node.{Input, Level}
 use Rattle.rd_model.specs.Script.{ScriptStep, Head, played}
-use Rattle.rd_node.specs.Members.{whole_entries}
+use Rattle.rd_node.specs.Members.{delta_groups}
 use Rattle.rd_runs.proofs.Playing.{played_is_run}
 use Rattle.rd_node.specs.declared.node.Node.{Node}
 use Rattle.rd_world.specs.declared.event.Event.{Event}
@@ -21,7 +21,7 @@ returns-in_err-answer-clause-err g c =
 
 pub returns-clause-stands : goal.returns-clause-stands
 returns-clause-stands g c = λ digest kinds logs first p run through stands.
-    let D = whole_entries g.T.Replica.data_type digest in
+    let D = delta_groups g.T.Replica.data_type digest in
     let key = c.args.key.now in
     let op = c.args.op.now in
     let nodes = c.args.self.now.nodes in
@@ -31,7 +31,7 @@ returns-clause-stands g c = λ digest kinds logs first p run through stands.
 
 pub returns-clause-told : goal.returns-clause-told
 returns-clause-told g c = λ digest kinds logs first p run through stands.
-    let D = whole_entries g.T.Replica.data_type digest in
+    let D = delta_groups g.T.Replica.data_type digest in
     let key = c.args.key.now in
     let op = c.args.op.now in
     let nodes = c.args.self.now.nodes in

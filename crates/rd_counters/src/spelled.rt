@@ -1,0 +1,232 @@
+ghost use Rattle.std.specs.Prelude.{◌≡◌, ◌++◌, ◌==◌, refl, OnOk};
+ghost use Rattle.rd_bytes.specs.Fields.{Gives};
+ghost use Rattle.rd_vectors.specs.IdSets.{members_in};
+ghost use Rattle.rd_kinds.specs.SixKinds.{increment};
+ghost use Rattle.rd_counters.specs.Spelled.{growing_byte, signed_byte, counter_spelled, signed_spelled, counter_in, signed_in, IsSoundCounter, IsSoundSigned, growing_history_spelled, signed_history_spelled};
+ghost use Rattle.rd_counters.specs.SpelledLaws as laws;
+
+use crate::amounts::Amounts;
+use crate::counter::{GCounter, PnCounter};
+use rd_bytes::{FieldError, ReadError, placed};
+use rd_lattice::SpelledData;
+use rd_vectors::{IdSet, Memory};
+use std::alloc::Global;
+
+/// A growing counter at the front of these bytes, without a barred identity; and the bytes after it.
+#[tactic(auto, unfolding(crate::specs::Spelled::counter_in))]
+fn read_growing(alloc: Global, barred: IdSet, bytes: &[u8]) -> Result<(GCounter, &[u8]), FieldError>
+    ensures { Gives (λ x. (x.0, x.1.now)) result (counter_in (members_in barred) bytes.now) }
+{
+    let (shares, rest) = Amounts::read(alloc, barred, bytes)?;
+    Ok((GCounter { shares }, rest))
+}
+
+/// A counter that moves both ways at the front of these bytes, without a barred identity; and the bytes after it.
+#[tactic(auto, unfolding(crate::specs::Spelled::signed_in))]
+fn read_signed(alloc: Global, barred: IdSet, bytes: &[u8]) -> Result<(PnCounter, &[u8]), FieldError>
+    ensures { Gives (λ x. (x.0, x.1.now)) result (signed_in (members_in barred) bytes.now) }
+{
+    let (plus, rest) = read_growing(alloc, barred, bytes)?;
+    let (minus, rest) = read_growing(alloc, barred, rest)?;
+    Ok((PnCounter { plus, minus }, rest))
+}
+
+impl SpelledData for GCounter {
+    ghost byte_of = { λ _. growing_byte };
+
+    ghost is_known = { λ byte. byte == growing_byte };
+
+    ghost IsSound = { IsSoundCounter };
+
+    ghost spelled = { counter_spelled };
+
+    ghost read_in = { λ _ barred. counter_in barred };
+
+    ghost history_spelled = { λ _. growing_history_spelled };
+
+    fn is_kind(byte: u8) -> bool {
+        byte == 1
+    }
+
+    fn kind_byte(&self) -> u8 {
+        1
+    }
+
+    fn spell_data(&self, into: &mut Vec<u8>) -> Result<(), Memory> {
+        let bytes = self.shares.spelled()?;
+        Ok(into.extend_from_slice(&bytes)?)
+    }
+
+    fn read_data(
+        alloc: Global,
+        _kind: u8,
+        barred: IdSet,
+        from: &[u8],
+        place: usize,
+    ) -> Result<(GCounter, usize), ReadError> {
+        placed(from.len(), read_growing(alloc, barred, &from[place..]))
+    }
+
+    ghost kind_is_known = { λ _. refl };
+
+    ghost read_is_spelled = { laws.growing_takes };
+
+    ghost spelled_is_read = { laws.growing_again };
+
+    ghost spelling_means = { laws.shares_mean increment };
+}
+
+impl SpelledData for PnCounter {
+    ghost byte_of = { λ _. signed_byte };
+
+    ghost is_known = { λ byte. byte == signed_byte };
+
+    ghost IsSound = { IsSoundSigned };
+
+    ghost spelled = { signed_spelled };
+
+    ghost read_in = { λ _ barred. signed_in barred };
+
+    ghost history_spelled = { λ _. signed_history_spelled };
+
+    fn is_kind(byte: u8) -> bool {
+        byte == 2
+    }
+
+    fn kind_byte(&self) -> u8 {
+        2
+    }
+
+    fn spell_data(&self, into: &mut Vec<u8>) -> Result<(), Memory> {
+        let bytes = self.plus.shares.spelled_before(&self.minus.shares)?;
+        Ok(into.extend_from_slice(&bytes)?)
+    }
+
+    fn read_data(
+        alloc: Global,
+        _kind: u8,
+        barred: IdSet,
+        from: &[u8],
+        place: usize,
+    ) -> Result<(PnCounter, usize), ReadError> {
+        placed(from.len(), read_signed(alloc, barred, &from[place..]))
+    }
+
+    ghost kind_is_known = { λ _. refl };
+
+    ghost read_is_spelled = { laws.both_take };
+
+    ghost spelled_is_read = { laws.both_again };
+
+    ghost spelling_means = { laws.both_mean };
+}
+
+#[cfg(test)]
+mod tests {
+    use super::*;
+    use rd_vectors::Id;
+    use std::test::Fail;
+
+    // behind another byte, the shares 5 of identity 1 and 2^63 - 1 of identity 4
+    const GROWING: [u8; 20] = [
+        9, 2, 1, 0, 0, 0, 0, 0, 0, 0, 5, 4, 127, 255, 255, 255, 255, 255, 255, 255,
+    ];
+
+    // behind another byte, 3 added by identity 0, and nothing taken away
+    const SIGNED: [u8; 12] = [9, 1, 0, 0, 0, 0, 0, 0, 0, 0, 3, 0];
+
+    fn barring(number: u8) -> IdSet {
+        match Id::new(number) {
+            Some(id) => IdSet::empty().with(id),
+            None => IdSet::empty(),
+        }
+    }
+
+    fn growing_error(alloc: Global, barred: IdSet, bytes: &[u8]) -> Option<ReadError> {
+        if bytes.is_empty() {
+            return None;
+        }
+        match GCounter::read_data(alloc, 1, barred, bytes, 1) {
+            Ok(_) => None,
+            Err(error) => Some(error),
+        }
+    }
+
+    fn signed_error(alloc: Global, barred: IdSet, bytes: &[u8]) -> Option<ReadError> {
+        if bytes.is_empty() {
+            return None;
+        }
+        match PnCounter::read_data(alloc, 2, barred, bytes, 1) {
+            Ok(_) => None,
+            Err(error) => Some(error),
+        }
+    }
+
+    #[test]
+    fn a_growing_counter_is_read_and_spelled_so(rt: HostRuntime) -> Result<(), Fail> {
+        let mut bytes = Vec::new(rt.alloc());
+        match GCounter::read_data(rt.alloc(), 1, IdSet::empty(), &GROWING, 1) {
+            Ok(found) => {
+                assert_eq!(rt; found.1, 20);
+                assert_eq!(rt; found.0.spell_data(&mut bytes).is_ok(), true);
+            }
+            Err(_) => return Err("the bytes are a counter")?,
+        }
+        assert_eq!(rt; bytes.as_slice(), &GROWING[1..]);
+        Ok(())
+    }
+
+    #[test]
+    fn a_growing_counter_is_refused_at_its_first_fault(rt: HostRuntime) {
+        let alloc = rt.alloc();
+        let nobody = IdSet::empty();
+        assert_eq!(rt;
+            growing_error(alloc, nobody, &GROWING[..1]),
+            Some(ReadError::Short(1))
+        );
+        assert_eq!(rt;
+            growing_error(alloc, nobody, &GROWING[..2]),
+            Some(ReadError::Short(2))
+        );
+        assert_eq!(rt;
+            growing_error(alloc, nobody, &GROWING[..10]),
+            Some(ReadError::Short(3))
+        );
+        assert_eq!(rt;
+            growing_error(alloc, nobody, &GROWING[..19]),
+            Some(ReadError::Short(12))
+        );
+        assert_eq!(rt;
+            growing_error(alloc, barring(4), &GROWING),
+            Some(ReadError::BadByte(11))
+        );
+        let above = [9, 1, 1, 128, 0, 0, 0, 0, 0, 0, 0];
+        assert_eq!(rt;
+            growing_error(alloc, nobody, &above),
+            Some(ReadError::BadByte(3))
+        );
+    }
+
+    #[test]
+    fn a_signed_counter_is_read_and_spelled_so(rt: HostRuntime) -> Result<(), Fail> {
+        let mut bytes = Vec::new(rt.alloc());
+        match PnCounter::read_data(rt.alloc(), 2, IdSet::empty(), &SIGNED, 1) {
+            Ok(found) => {
+                assert_eq!(rt; found.1, 12);
+                assert_eq!(rt; found.0.spell_data(&mut bytes).is_ok(), true);
+            }
+            Err(_) => return Err("the bytes are a counter")?,
+        }
+        assert_eq!(rt; bytes.as_slice(), &SIGNED[1..]);
+        let alloc = rt.alloc();
+        assert_eq!(rt;
+            signed_error(alloc, IdSet::empty(), &SIGNED[..11]),
+            Some(ReadError::Short(11))
+        );
+        assert_eq!(rt;
+            signed_error(alloc, barring(0), &SIGNED),
+            Some(ReadError::BadByte(2))
+        );
+        Ok(())
+    }
+}

@@ -1,0 +1,8 @@
+use Rattle.std.proofs.Common.{ap, ◌∙◌}
+use Rattle.sha1.specs.Sha1.{sha1}
+use Rattle.rd_envelope_codec.specs.Entries.{entry_digest}
+use Rattle.rd_envelope_codec.proofs.spelling.digest.Goals as goal
+
+pub returns : goal.returns
+unfolding entry_digest
+returns g c = λ log entry stands. c.digest.ensures ∙ ap sha1 (c.deref.ensures.value ∙ c.in_ok-bytes.ensures.image log entry stands)

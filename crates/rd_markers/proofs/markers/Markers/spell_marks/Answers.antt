@@ -1,0 +1,36 @@
+use Rattle.std.proofs.Common.{ap, sym, ◌∙◌, ◌≡◌, ◌++◌, Some, None, ℕ, List, arith}
+use Rattle.std.specs.Prelude.{flat_map}
+use Rattle.rd_history.specs.Table.{identity_limit}
+use Rattle.rd_markers.specs.Marks.{mark_of}
+use Rattle.rd_markers.proofs.Views.{get_view}
+use Rattle.rd_markers.proofs.SpellingLoops.{spells_more, spells_same, each_more, each_same, pieces_all, all_spellable}
+use Rattle.rd_markers.proofs.markers.Markers.spell_marks.Goals as goal
+use Rattle.rd_markers.proofs.markers.Markers.spell_marks.Goals.{in-Some+in-Some-get+in_ok-spell_mark, in-Some+in_default-get, in_default}
+
+pub loop-number-preserved : goal.loop-number-preserved
+loop-number-preserved c = elim c.match-new.branch [
+  | in-Some+in-Some-get+in_ok-spell_mark w ↦
+      let some : mark_of c.args.self.now c.loop-number.number ≡ Some w.in-Some-get.marker = ap (mark_of c.args.self.now) (sym w.in-Some.ensures.value) ∙ sym w.get.ensures.value ∙ w.in-Some-get.is in
+      record {
+        spelled = rw w.into-is (spells_more c.args.self.now c.loop-number.number w.in-Some-get.marker c.args.into.now.items c.loop-number.into.items _ some c.loop-number.invariant.spelled (rw (← w.in-Some.ensures.value) w.in_ok-spell_mark.ensures.ok));
+        each = each_more c.args.self.now c.loop-number.number w.in-Some-get.marker some w.in_ok-spell_mark.ensures.sound c.loop-number.invariant.each;
+      }
+  | in-Some+in_default-get w ↦
+      let none : mark_of c.args.self.now c.loop-number.number ≡ None = ap (mark_of c.args.self.now) (sym w.in-Some.ensures.value) ∙ sym w.get.ensures.value ∙ w.in_default-get.is in
+      record {
+        spelled = rw w.into-is (spells_same c.args.self.now c.loop-number.number c.args.into.now.items c.loop-number.into.items none c.loop-number.invariant.spelled);
+        each = each_same c.args.self.now c.loop-number.number none c.loop-number.invariant.each;
+      }
+  | in_default w ↦ absurd (let none = w.in_default.ensures.variant.1 c.loop-number-test.true in cc)
+]
+
+pub returns-clause-sound : goal.returns-clause-sound
+returns-clause-sound c =
+    let all : c.loop-number.number ≡ identity_limit = omega arith in
+    all_spellable c.args.self.now c.loop-number.number all
+    (λ q l. ap (λ m. mark_of m q) (sym c.self.view_is) ∙ get_view c.self.inside.marks.entries q ∙ c.self.invariant.few q l) c.loop-number.invariant.each
+
+pub returns-clause-ok : goal.returns-clause-ok
+returns-clause-ok c =
+    let all : c.loop-number.number ≡ identity_limit = omega arith in
+    c.loop-number.invariant.spelled ∙ ap (λ (ps : List (List ℕ)). c.args.into.now.items ++ flat_map (λ (bytes : List ℕ). bytes) ps) (pieces_all c.args.self.now c.loop-number.number all)

@@ -1,0 +1,27 @@
+use Rattle.std.proofs.Common.{◌≡◌, ap, ◌∙◌}
+use Rattle.std.specs.Prelude.{map, ◌&&◌, ◌||◌, not, is_some}
+use Rattle.rd_model.specs.Entry.{has_records}
+use Rattle.rd_model.specs.Node.{state_of}
+use Rattle.rd_model.specs.Step.{digest_of, named_digest}
+use Rattle.rd_messages.specs.Standing.{digest_told}
+use Rattle.rd_node.specs.Keys.{declared_by}
+use Rattle.rd_node.specs.Gossip.{is_told, is_alike}
+use Rattle.rd_node.proofs.Gossiping.{told_named, is_told_is, digest_is}
+use Rattle.rd_node.proofs.gossip.compare.Goals as goal
+
+pub returns : goal.returns
+returns g c = λ D kinds logs node same holds.
+    let S = g.T.SpelledData in
+    let state = c.args.state.now in
+    let k = state_of node (declared_by state) in
+    let ds = map digest_told c.args.digests.now in
+    let has : c.has_records-has_records.result ≡ has_records k.entry = c.has_records-has_records.ensures.image (logs state.name) (node.entries state.name) holds.held.image in
+    let own : c.in_ok-own.own ≡ digest_of D k =
+    c.in_ok-own.ensures (logs state.name) (node.entries state.name) holds.held.image
+    ∙ digest_is S.byte_of S.history_spelled g.T.Replica.kind_of g.T.Replica.IsDataOf kinds logs D same node state holds in
+    let told : c.told_of-told.result ≡ named_digest D ds state.name = c.told_of-told.ensures ∙ told_named D c.args.digests.now state.name in
+    let alike : c.is_told-is_alike.result ≡ is_alike D ds k = c.is_told-is_alike.ensures ∙ (λ i. is_told (told i) (own i)) ∙ is_told_is D (named_digest D ds state.name) (digest_of D k) in
+    record {
+      news = c.compared.ensures.news ∙ (λ i. has i && not (alike i));
+      wanted = c.compared.ensures.wanted ∙ (λ i. (c.is_some.ensures ∙ ap is_some told) i && (not (has i) || not (alike i)));
+    }

@@ -1,0 +1,39 @@
+use Rattle.std.proofs.Common.{◌≡◌, refl, sym, ap, ◌∙◌, subst₂}
+use Rattle.rd_model.specs.Entry.{group_after}
+use Rattle.rd_envelope.specs.Images.{StandsForGroup}
+use Rattle.rd_envelope.specs.Words.{group_parts}
+use Rattle.rd_deltalog.specs.Words.{answer_in}
+use Rattle.rd_deltalog.specs.Answers.Answer.{AsGroup}
+use Rattle.rd_model.specs.Step.{goes_as_group}
+use Rattle.rd_node.specs.Sending.{state_in}
+use Rattle.rd_node.proofs.Grouped.{not_a_group, untrue}
+use Rattle.rd_node.proofs.sending.group_for.Goals as goal
+
+pub returns-in-Group : goal.returns-in-Group
+returns-in-Group g c = λ D kinds logs id node keeps h behind.
+    let R = g.T.Replica in
+    let state = c.args.state.now in
+    let peer = c.args.peer in
+    let group = c.in-Group.group in
+    let own = h.identity ∙ sym h.own.origin in
+    let sent = sym (h.held.sent peer) ∙ sym c.at.ensures.value in
+    let flush = c.in_ok-group.ensures.flush D node peer (state_in node state) (logs state.name) h.held.logged keeps own sent behind in
+    let answered : answer_in c.in_ok-group.field-0 ≡ AsGroup = ap answer_in c.in-Group.is in
+    let made = rw c.in-Group.is at c.in_ok-group.ensures.image (logs state.name) (node.entries state.name) h.held.logged in
+    let fits = rw c.in-Group.is at c.in_ok-group.ensures.fits in (
+      flush.0 answered,
+      record {
+        same = refl;
+        fits = ap (λ kind. R.delta_fits_kind kind group.delta) (sym (h.own.kind ∙ h.held.held.kind)) ∙ fits;
+        image = subst₂ (λ i after. StandsForGroup R.IsDeltaOf (group_parts group) (logs state.name) (group_after (node.entries state.name) i after)) (sym own) (sym sent) made;
+      },
+    )
+
+pub returns-in_default : goal.returns-in_default
+returns-in_default g c = λ D kinds logs id node keeps h behind.
+    let state = c.args.state.now in
+    let peer = c.args.peer in
+    let own = h.identity ∙ sym h.own.origin in
+    let sent = sym (h.held.sent peer) ∙ sym c.at.ensures.value in
+    let flush = c.in_ok-group.ensures.flush D node peer (state_in node state) (logs state.name) h.held.logged keeps own sent behind in
+    untrue (goes_as_group D node peer (state_in node state)) (λ goes. not_a_group c.in_ok-group.field-0 c.in_default.not-Group (flush.1 goes))

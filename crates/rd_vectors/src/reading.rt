@@ -1,0 +1,204 @@
+ghost use Rattle.std.specs.Prelude.{◌≡◌, ◌≤◌, IfOk};
+ghost use Rattle.std.specs.FinMap as map;
+ghost use Rattle.rd_bytes.specs.Fields.{Gives};
+ghost use Rattle.rd_vectors.specs.Fields.{identity_in};
+ghost use Rattle.rd_vectors.specs.IdSets.{members_in};
+ghost use Rattle.rd_vectors.specs.Spelling.{nobody, pair_in, pairs_in, raised_by, numbers_in, members_from, added_by, ids_in};
+
+use crate::fields::{read_identity, read_positive};
+use crate::id::{IDENTITIES, Id};
+use crate::id_set::IdSet;
+use crate::numbers::Numbers;
+use rd_bytes::{FieldError, keep, read_byte};
+use std::alloc::Global;
+
+/// An identity and its number.
+#[tactic(auto, unfolding(crate::specs::Spelling::pair_in))]
+fn read_pair(
+    most: u64,
+    barred: IdSet,
+    least: u8,
+    bytes: &[u8],
+) -> Result<((Id, u64), &[u8]), FieldError>
+    ensures { Gives (λ x. (x.0, x.1.now)) result (pair_in most (members_in barred) least bytes.now) }
+{
+    match read_identity(least, barred, bytes) {
+        Ok((id, rest)) => {
+            let (number, rest) = read_positive(most, rest)?;
+            Ok(((id, number), rest))
+        }
+        Err(error) => Err(error),
+    }
+}
+
+/// So many identities, rising, and their numbers.
+fn read_pairs(
+    alloc: Global,
+    most: u64,
+    barred: IdSet,
+    count: u8,
+    bytes: &[u8],
+) -> Result<(Numbers, &[u8]), FieldError>
+    ensures { Gives (λ x. (x.0, x.1.now)) result (raised_by map.empty (pairs_in most (members_in barred) 0 count bytes.now)) }
+{
+    let mut numbers = Numbers::new(alloc);
+    let mut least = 0;
+    let mut rest = bytes;
+    for _ in 0..count {
+        match read_pair(most, barred, least, rest) {
+            Ok((pair, after)) => {
+                numbers.raise(pair.0, pair.1)?;
+                least = pair.0.number() + 1;
+                rest = after;
+            }
+            Err(error) => return Err(error),
+        }
+    }
+    Ok((numbers, rest))
+}
+
+/// The number of pairs, and the pairs.
+#[tactic(auto, unfolding(crate::specs::Spelling::numbers_in))]
+pub(crate) fn read_numbers(
+    alloc: Global,
+    most: u64,
+    barred: IdSet,
+    bytes: &[u8],
+) -> Result<(Numbers, &[u8]), FieldError>
+    ensures { Gives (λ x. (x.0, x.1.now)) result (numbers_in most (members_in barred) bytes.now) }
+{
+    let (count, rest) = read_byte(bytes)?;
+    keep(count <= IDENTITIES, bytes)?;
+    read_pairs(alloc, most, barred, count, rest)
+}
+
+/// An identity, whoever it is.
+fn read_member(least: u8, bytes: &[u8]) -> Result<(Id, &[u8]), FieldError>
+    ensures { Gives (λ x. (x.0, x.1.now)) result (identity_in least nobody bytes.now) }
+{
+    read_identity(least, IdSet::empty(), bytes)
+}
+
+/// A set of so many identities, rising.
+fn read_members(count: u8, bytes: &[u8]) -> Result<(IdSet, &[u8]), FieldError>
+    ensures { Gives (λ x. (x.0, x.1.now)) result (added_by 0 (members_from 0 count bytes.now)) }
+{
+    let mut set = IdSet::empty();
+    let mut least = 0;
+    let mut rest = bytes;
+    for _ in 0..count {
+        match read_member(least, rest) {
+            Ok(found) => {
+                set = set.with(found.0);
+                least = found.0.number() + 1;
+                rest = found.1;
+            }
+            Err(error) => return Err(error),
+        }
+    }
+    Ok((set, rest))
+}
+
+/// The number of members, and the members.
+#[tactic(auto, unfolding(crate::specs::Spelling::ids_in))]
+pub(crate) fn read_ids(bytes: &[u8]) -> Result<(IdSet, &[u8]), FieldError>
+    ensures { Gives (λ x. (x.0, x.1.now)) result (ids_in bytes.now) }
+{
+    let (count, rest) = read_byte(bytes)?;
+    keep(1 <= count, bytes)?;
+    read_members(count, rest)
+}
+
+#[cfg(test)]
+mod tests {
+    use super::*;
+    use crate::vector::VersionVector;
+    use rd_bytes::Fault;
+    use std::test::Fail;
+
+    // 3 of identity 0, and 256 of identity 63
+    const VECTOR: [u8; 19] = [2, 0, 0, 0, 0, 0, 0, 0, 0, 3, 63, 0, 0, 0, 0, 0, 0, 1, 0];
+
+    fn barring(number: u8) -> IdSet {
+        match Id::new(number) {
+            Some(id) => IdSet::empty().with(id),
+            None => IdSet::empty(),
+        }
+    }
+
+    fn vector_fault(alloc: Global, barred: IdSet, bytes: &[u8]) -> Option<Fault> {
+        match VersionVector::read(alloc, barred, bytes) {
+            Err(FieldError::Fault(fault)) => Some(fault),
+            _ => None,
+        }
+    }
+
+    fn set_fault(bytes: &[u8]) -> Option<Fault> {
+        match IdSet::read(bytes) {
+            Err(FieldError::Fault(fault)) => Some(fault),
+            _ => None,
+        }
+    }
+
+    #[test]
+    fn a_vector_is_read_and_spelled_so(rt: HostRuntime) -> Result<(), Fail> {
+        let mut bytes = Vec::new(rt.alloc());
+        match VersionVector::read(rt.alloc(), IdSet::empty(), &VECTOR) {
+            Ok(found) => {
+                assert_eq!(rt; found.1.len(), 0);
+                assert_eq!(rt; found.0.spell(&mut bytes).is_ok(), true);
+            }
+            Err(_) => return Err("the bytes are a vector")?,
+        }
+        assert_eq!(rt; bytes.as_slice(), VECTOR.as_slice());
+        Ok(())
+    }
+
+    #[test]
+    fn a_vector_is_refused_at_its_first_fault(rt: HostRuntime) {
+        let alloc = rt.alloc();
+        let nobody = IdSet::empty();
+        assert_eq!(rt;
+            vector_fault(alloc, nobody, &VECTOR[..0]),
+            Some(Fault::Short(0))
+        );
+        assert_eq!(rt;
+            vector_fault(alloc, nobody, &VECTOR[..9]),
+            Some(Fault::Short(7))
+        );
+        assert_eq!(rt;
+            vector_fault(alloc, nobody, &VECTOR[..18]),
+            Some(Fault::Short(7))
+        );
+        assert_eq!(rt;
+            vector_fault(alloc, barring(63), &VECTOR),
+            Some(Fault::BadByte(9))
+        );
+        assert_eq!(rt;
+            vector_fault(alloc, nobody, &[65, 0]),
+            Some(Fault::BadByte(2))
+        );
+        let twice = [2, 5, 0, 0, 0, 0, 0, 0, 0, 1, 5, 0, 0, 0, 0, 0, 0, 0, 1];
+        assert_eq!(rt;
+            vector_fault(alloc, nobody, &twice),
+            Some(Fault::BadByte(9))
+        );
+    }
+
+    #[test]
+    fn a_set_is_read_and_spelled_so(rt: HostRuntime) -> Result<(), Fail> {
+        let mut bytes = Vec::new(rt.alloc());
+        match IdSet::read(&[2, 2, 9, 7]) {
+            Ok(found) => {
+                assert_eq!(rt; found.1.len(), 1);
+                assert_eq!(rt; found.0.spell(&mut bytes).is_ok(), true);
+            }
+            Err(_) => return Err("the bytes are a set")?,
+        }
+        assert_eq!(rt; bytes.as_slice(), [2, 2, 9].as_slice());
+        assert_eq!(rt; set_fault(&[2, 2]), Some(Fault::Short(0)));
+        assert_eq!(rt; set_fault(&[0, 7]), Some(Fault::BadByte(2)));
+        assert_eq!(rt; set_fault(&[2, 9, 2]), Some(Fault::BadByte(1)));
+        Ok(())
+    }
+}

@@ -1,0 +1,74 @@
+use Rattle.std.proofs.Common.{ℕ, ◌∙◌, ◌<◌, length, ap, sym, subst, arith, refl, get_or, set, Err, [], ◌∷◌}
+use Rattle.rd_model.specs.Script.{ScriptStep}
+use Rattle.rd_envelope_codec.specs.Entries.{entry_digest}
+use Rattle.rd_node.specs.Members.{delta_groups}
+use Rattle.rd_runs.proofs.Playing.{played_is_run}
+use Rattle.rd_world.specs.declared.event.Event.{Event}
+use Rattle.rd_world.specs.declared.event.Head.TheVariants as head
+use Rattle.rd_world.specs.declared.event.Answer.TheVariants as answer
+use Rattle.rd_world.specs.Lines.{IsNextLine}
+use Rattle.rd_world.proofs.FlushCalls.{row_of_member, same_world}
+use Rattle.rd_world.proofs.GossipCalls.{gossiped, gossip_stands, gossip_tells, full_gossip_stands, full_gossip_tells}
+use Rattle.rd_world.proofs.world.World.gossip.Goals as goal
+
+pub returns-in-Ok-clause-stands : goal.returns-in-Ok-clause-stands
+returns-in-Ok-clause-stands g c = λ kinds logs first p run through stands.
+    let digest = entry_digest g.T.SpelledData.byte_of g.T.SpelledData.history_spelled in
+    let D = delta_groups g.T.Replica.data_type digest in
+    let code = c.args.self.now in
+    let nodes = code.nodes in
+    let old = c.index_mut.result.now in
+    let new = c.gossip.new.node in
+    let here = c.from-index.ensures in
+    let within : c.args.at < length nodes.items = omega (arith, nodes.ok.0) in
+    let is = c.index_mut.ensures.value ∙ ap (λ j. get_or nodes.items j old) here in
+    let row = row_of_member g.T.Replica.kind_of g.T.Replica.IsDataOf kinds logs g.T.Replica code p.world stands c.args.at within in
+    let run_then = played_is_run D first p (ScriptStep.Gossip c.args.at c.args.to ∷ []) (tt, tt) run in
+    gossip_stands g.T.Replica.data_type g.T.Replica.kind_of g.T.Replica.IsDataOf g.T.Replica digest kinds logs code p stands c.args.at c.args.to old within is new c.gossip.new.links c.in-Ok.answered.reply c.in-Ok.answered.sent (c.in-Ok.ensures.room row)
+    (λ node st. c.in-Ok.ensures.stands kinds logs node row st) (λ node st. c.in-Ok.ensures.reply kinds logs node row st) (c.in-Ok.ensures.sends row) first run_then through _ refl (ap (λ j. set nodes.items j new) here) refl
+
+pub returns-in-Ok-clause-told : goal.returns-in-Ok-clause-told
+returns-in-Ok-clause-told g c = λ kinds logs first p run through stands.
+    let digest = entry_digest g.T.SpelledData.byte_of g.T.SpelledData.history_spelled in
+    let D = delta_groups g.T.Replica.data_type digest in
+    let code = c.args.self.now in
+    let nodes = code.nodes in
+    let old = c.index_mut.result.now in
+    let new = c.gossip.new.node in
+    let here = c.from-index.ensures in
+    let within : c.args.at < length nodes.items = omega (arith, nodes.ok.0) in
+    let is = c.index_mut.ensures.value ∙ ap (λ j. get_or nodes.items j old) here in
+    let row = row_of_member g.T.Replica.kind_of g.T.Replica.IsDataOf kinds logs g.T.Replica code p.world stands c.args.at within in
+    let run_then = played_is_run D first p (ScriptStep.Gossip c.args.at c.args.to ∷ []) (tt, tt) run in
+    let q = gossiped g.T.Replica.data_type g.T.Replica.kind_of g.T.Replica.IsDataOf g.T.Replica digest kinds logs code p stands c.args.at c.args.to old within is in
+    subst (λ (number : ℕ). IsNextLine (record { head = head.Gossip c.args.at number; answer = answer.Reply c.in-Ok.answered.reply; sent = c.in-Ok.answered.sent }) p q) (sym c.number.ensures.value)
+    (gossip_tells g.T.Replica.data_type g.T.Replica.kind_of g.T.Replica.IsDataOf g.T.Replica digest kinds logs code p stands c.args.at c.args.to old within is new c.gossip.new.links c.in-Ok.answered.reply c.in-Ok.answered.sent (c.in-Ok.ensures.room row)
+    (λ node st. c.in-Ok.ensures.stands kinds logs node row st) (λ node st. c.in-Ok.ensures.reply kinds logs node row st) (c.in-Ok.ensures.sends row) first run_then through)
+
+pub returns-in-Err-HistoryFull-clause-stands : goal.returns-in-Err-HistoryFull-clause-stands
+returns-in-Err-HistoryFull-clause-stands g c = λ kinds logs first p run through stands.
+    let digest = entry_digest g.T.SpelledData.byte_of g.T.SpelledData.history_spelled in
+    let code = c.args.self.now in
+    let nodes = code.nodes in
+    let old = c.index_mut.result.now in
+    let here = c.from-index.ensures in
+    let within : c.args.at < length nodes.items = omega (arith, nodes.ok.0) in
+    let is = c.index_mut.ensures.value ∙ ap (λ j. get_or nodes.items j old) here in
+    full_gossip_stands g.T.Replica.data_type g.T.Replica.kind_of g.T.Replica.IsDataOf g.T.Replica digest kinds logs code p stands c.args.at c.args.to old within is (c.in-Err-HistoryFull.ensures.full (ap Err c.in-Err-HistoryFull.field-0-is)) _
+    (same_world g.T.Replica code c.from-index.result old c.gossip.new.node c.gossip.new.links c.index_mut.ensures.value c.in-Err-HistoryFull.ensures.err.0 c.in-Err-HistoryFull.ensures.err.1)
+
+pub returns-in-Err-HistoryFull-clause-told : goal.returns-in-Err-HistoryFull-clause-told
+returns-in-Err-HistoryFull-clause-told g c = λ kinds logs first p run through stands.
+    let digest = entry_digest g.T.SpelledData.byte_of g.T.SpelledData.history_spelled in
+    let code = c.args.self.now in
+    let nodes = code.nodes in
+    let old = c.index_mut.result.now in
+    let here = c.from-index.ensures in
+    let within : c.args.at < length nodes.items = omega (arith, nodes.ok.0) in
+    let is = c.index_mut.ensures.value ∙ ap (λ j. get_or nodes.items j old) here in
+    subst (λ (event : Event). IsNextLine event p (gossiped g.T.Replica.data_type g.T.Replica.kind_of g.T.Replica.IsDataOf g.T.Replica digest kinds logs code p stands c.args.at c.args.to old within is)) (sym (c.line-in-Err-HistoryFull.ensures ∙ ap (λ number. record { head = head.Gossip c.args.at number; answer = answer.HistoryFull; sent = [] }) c.number.ensures.value))
+    (full_gossip_tells g.T.Replica.data_type g.T.Replica.kind_of g.T.Replica.IsDataOf g.T.Replica digest kinds logs code p stands c.args.at c.args.to old within is (c.in-Err-HistoryFull.ensures.full (ap Err c.in-Err-HistoryFull.field-0-is)))
+
+pub returns-in-Err-Memory-clause-err : goal.returns-in-Err-Memory-clause-err
+returns-in-Err-Memory-clause-err g c =
+    same_world g.T.Replica c.args.self.now c.from-index.result c.index_mut.result.now c.gossip.new.node c.gossip.new.links c.index_mut.ensures.value c.in-Err-Memory.ensures.err.0 c.in-Err-Memory.ensures.err.1
