@@ -3,7 +3,7 @@ use Rattle.std.proofs.Common.{◌≡◌, ℕ, suc, ◌+◌, ◌^◌, ◌<◌, �
 use Rattle.std.specs.Prelude.{◌&&◌, nat_le}
 use Rattle.std.specs.Int.{Width, w32, w64, byte_len, from_be_bytes, to_be_bytes}
 use Rattle.std.specs.Str.{is_utf8}
-use Rattle.std.proofs.lemmas.Bool.{cases_lt, ltb-false, le-ltb, leb-true, le-leb}
+use Rattle.std.proofs.lemmas.Bool.{cases_lt, ltb-false, le-ltb, leb-true, le-leb, and_parts, and_from}
 use Rattle.std.proofs.lemmas.List.{take_at, drop_at, take-append-drop, length-append, length-take, get_or-drop, get_or-take, get_or_past}
 use Rattle.std.proofs.lemmas.Nat.{be_bytes_4, be_bytes_8, from_be_bytes-to_be_bytes_4, from_be_bytes-to_be_bytes_8}
 use Rattle.rd_history.specs.Texts.{Text}
@@ -132,14 +132,6 @@ number_again n rest lt = big_endian_again w64 (2 ^ 64) wide64 n rest lt
 
 -- TEXTS
 
-pub both_hold : (a b : Bool) → (a && b) ≡ true → (a ≡ true) × (b ≡ true)
-both_hold true b e = (refl, e)
-both_hold false b e = absurd cc
-
-pub both_on : (a b : Bool) → a ≡ true → b ≡ true → (a && b) ≡ true
-both_on true b e f = f
-both_on false b e f = e
-
 -- what follows the bytes of a text
 abbrev after_text : Option Text → ℕ × List ℕ → Result (Text × List ℕ) Fault
 after_text before n = kept (is_utf8 (take n.0 n.1) && is_after before (take n.0 n.1)) (length n.1) >>= λ _. Ok (take n.0 n.1, drop n.0 n.1)
@@ -153,7 +145,7 @@ text_takes before bytes text rest fits e =
     let long = enough_ok n.0 n.1 (λ _. after_text before n) (text, rest) few.1 in
     let front : List ℕ = take n.0 n.1 in
     let rule = kept_ok (is_utf8 front && is_after before front) (length n.1) (λ _. Ok (front, drop n.0 n.1)) (text, rest) long.1 in
-    let both = both_hold (is_utf8 front) (is_after before front) rule.0 in
+    let both = and_parts (is_utf8 front) (is_after before front) rule.0 in
     let first = byte_takes bytes n.0 n.1 fits b.1 in
     let len : length front ≡ n.0 = omega (arith, length-take n.0 n.1, long.0) in
     let short : n.0 ≤ 64 = leb-true n.0 64 few.0 in
@@ -171,7 +163,7 @@ text_again before text rest is after =
     kept_on (nat_le (length text) 64) (suc (length (text ++ rest))) (λ _. enough (length text) (text ++ rest) >>= λ _. after_text before all) (le-leb _ _ is.short)
     ∙ enough_on (length text) (text ++ rest) (λ _. after_text before all) (omega (arith, length-append text rest))
     ∙ kept_on (is_utf8 (take (length text) (text ++ rest)) && is_after before (take (length text) (text ++ rest))) (length (text ++ rest)) (λ _. Ok (take (length text) (text ++ rest), drop (length text) (text ++ rest)))
-    (ap (λ (t : Text). is_utf8 t && is_after before t) front ∙ both_on _ _ is.utf8 after)
+    (ap (λ (t : Text). is_utf8 t && is_after before t) front ∙ and_from _ _ is.utf8 after)
     ∙ rw (front, back) refl
 
 -- a text on its own

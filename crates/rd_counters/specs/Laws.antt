@@ -10,7 +10,7 @@ use Rattle.rd_history.specs.History.{History, cut, is_pruned}
 use Rattle.rd_history.specs.History.Action.{Operation, Prune}
 use Rattle.rd_history.specs.Cuts.{past_of, IsConsistentCut, IsPrunedCut, IsNext, AreOperations, grown, without}
 use Rattle.rd_history.proofs.HistoryLaws.{with_at_other}
-use Rattle.rd_history.proofs.CutLaws.{with_at_is, with_member_is, with_member_other}
+use Rattle.rd_history.proofs.CutLaws.{with_at_is, with_member_is, with_member_other, both_ways}
 use Rattle.rd_history.proofs.Bridge.{cut_is_history, pruned_cut}
 use Rattle.rd_meanings.specs.Refusal.{Shares, overflow, too_much}
 use Rattle.rd_meanings.specs.Counter.{share, total}
@@ -19,7 +19,7 @@ use Rattle.rd_meanings.proofs.CounterLaws.{share_equation, sum_by-same}
 use Rattle.rd_meanings.proofs.SharesLaw.{shares_add_up}
 use Rattle.rd_meanings.proofs.SharesOfLogs.{once, rises, none_of, share_is}
 use Rattle.rd_vectors.specs.Vectors.{Numbers, number_at, numbers_of, raised, joined, removed, IsNormal}
-use Rattle.rd_vectors.proofs.Laws.{number_at-numbers_of, number_at-numbers_of_above, number_at-empty, numbers_of-same, IsNormal-numbers_of, empty-numbers_of, same_numbers, number_at_above}
+use Rattle.rd_vectors.proofs.Laws.{number_at-numbers_of, number_at-numbers_of_above, number_at-empty, numbers_of-same, IsNormal-numbers_of, empty-numbers_of, same_numbers, number_at_above, number_at-joined}
 use Rattle.rd_vectors.specs.declared.id.Dot.{Dot}
 use Rattle.rd_kinds.specs.SixKinds.{of_kind, increment}
 use Rattle.rd_kinds.specs.declared.kind.Kind.TheVariants as Kind
@@ -61,31 +61,24 @@ same_at f id to i l e = let u : nat_eq i id ≡ true = grind rules in number_at-
 other_at : (f : ℕ → ℕ) (id to i : ℕ) → i < identity_limit → i ≢ id → number_at (numbers_of (with_at f id to)) i ≡ f i
 other_at f id to i l ne = let u : nat_eq i id ≡ false = grind rules in number_at-numbers_of (with_at f id to) i l ∙ rw u refl
 
-not_both : (b : Bool) → b ≡ true → b ≡ false → ⊥
-not_both b t f = cc
-
--- a joined map at an identity
-at_joined : (a b : Numbers) (i : ℕ) → i < identity_limit → number_at (joined a b) i ≡ max (number_at a i) (number_at b i)
-at_joined a b i l = number_at-numbers_of (λ k. max (number_at a k) (number_at b k)) i l
-
 pub join_comm : (a b : GCounter) → counter_joined a b ≡ counter_joined b a
 join_comm a b = same_counter _ _ (numbers_of-same _ _ (λ i l. max_comm (number_at a.shares i) (number_at b.shares i)))
 
 pub join_assoc : (a b c : GCounter) → counter_joined (counter_joined a b) c ≡ counter_joined a (counter_joined b c)
 join_assoc a b c = same_counter _ _ (numbers_of-same _ _ (λ i l.
-    ap (λ n. max n (number_at c.shares i)) (at_joined a.shares b.shares i l) ∙ max_assoc (number_at a.shares i) (number_at b.shares i) (number_at c.shares i)
-    ∙ ap (max (number_at a.shares i)) (sym (at_joined b.shares c.shares i l))))
+    ap (λ n. max n (number_at c.shares i)) (number_at-joined a.shares b.shares i l) ∙ max_assoc (number_at a.shares i) (number_at b.shares i) (number_at c.shares i)
+    ∙ ap (max (number_at a.shares i)) (sym (number_at-joined b.shares c.shares i l))))
 
 pub join_same : (a : GCounter) → IsNormal a.shares → counter_joined a a ≡ a
 join_same a normal = same_counter _ _ (numbers_of-same _ _ (λ i l. max_same (number_at a.shares i)) ∙ sym normal)
 
 pub join_upper : (a b : GCounter) → counter_joined a (counter_joined a b) ≡ counter_joined a b
-join_upper a b = same_counter _ _ (numbers_of-same _ _ (λ i l. ap (max (number_at a.shares i)) (at_joined a.shares b.shares i l) ∙ max_again (number_at a.shares i) (number_at b.shares i)))
+join_upper a b = same_counter _ _ (numbers_of-same _ _ (λ i l. ap (max (number_at a.shares i)) (number_at-joined a.shares b.shares i l) ∙ max_again (number_at a.shares i) (number_at b.shares i)))
 
 pub join_within : (a b : GCounter) (v w : VersionVector) → AreSharesWithin a v → AreSharesWithin b w → AreSharesWithin (counter_joined a b) (join v w)
 join_within a b v w p q = record {
   normal = IsNormal-numbers_of _;
-  seen = λ i l h. let e = at_joined a.shares b.shares i l in ⊎_elim
+  seen = λ i l h. let e = number_at-joined a.shares b.shares i l in ⊎_elim
       (λ (x : 0 < number_at a.shares i). let y = p.seen i l x in omega arith)
       (λ (x : number_at a.shares i ≤ 0). let y = q.seen i l (omega arith) in omega arith) (cases_lt 0 (number_at a.shares i));
 }
@@ -126,7 +119,7 @@ module _ {Op : Type 0} (amount : Op → ℕ) where
   with_share state log held gone id number share few kept p has = record {
     normal = IsNormal-numbers_of _;
     away = λ i g. ⊎_elim
-        (λ (l : i < identity_limit). other_at (number_at state.shares) id share i l (λ e. not_both (gone i) g (ap gone e ∙ kept)) ∙ p.away i g)
+        (λ (l : i < identity_limit). other_at (number_at state.shares) id share i l (λ e. both_ways (gone i) g (ap gone e ∙ kept)) ∙ p.away i g)
         (λ (l : identity_limit ≤ i). number_at-numbers_of_above _ i l) (cases_lt i identity_limit);
     share = λ i l g. ⊎_elim
         (λ (e : i ≡ id). subst₂ (HasShare amount log i) (sym (with_at_is held id number i e)) (sym (same_at (number_at state.shares) id share i l e)) (subst (λ k. HasShare amount log k number share) (sym e) has))
@@ -154,15 +147,15 @@ module _ {Op : Type 0} (amount : Op → ℕ) where
   data_joined state other log held also gone h j x p q = record {
     normal = IsNormal-numbers_of _;
     away = λ i g. ⊎_elim
-        (λ (l : i < identity_limit). at_joined state.shares other.shares i l ∙ ap (λ n. max n (number_at other.shares i)) (p.away i g) ∙ ap (max 0) (q.away i g))
+        (λ (l : i < identity_limit). number_at-joined state.shares other.shares i l ∙ ap (λ n. max n (number_at other.shares i)) (p.away i g) ∙ ap (max 0) (q.away i g))
         (λ (l : identity_limit ≤ i). number_at-numbers_of_above _ i l) (cases_lt i identity_limit);
     share = λ i l g. ⊎_elim
         (λ (le : held i ≤ also i).
         let s : number_at state.shares i ≤ number_at other.shares i = rises amount log i (held i) (also i) _ _ (q.share i l g) (p.share i l g) le in
-        subst₂ (HasShare amount log i) (sym (max_right (held i) (also i) le)) (sym (at_joined state.shares other.shares i l ∙ max_right _ _ s)) (q.share i l g))
+        subst₂ (HasShare amount log i) (sym (max_right (held i) (also i) le)) (sym (number_at-joined state.shares other.shares i l ∙ max_right _ _ s)) (q.share i l g))
         (λ (le : also i ≤ held i).
         let s : number_at other.shares i ≤ number_at state.shares i = rises amount log i (also i) (held i) _ _ (p.share i l g) (q.share i l g) le in
-        subst₂ (HasShare amount log i) (sym (max_left (held i) (also i) le)) (sym (at_joined state.shares other.shares i l ∙ max_left _ _ s)) (p.share i l g)) (le_or (held i) (also i));
+        subst₂ (HasShare amount log i) (sym (max_left (held i) (also i) le)) (sym (number_at-joined state.shares other.shares i l ∙ max_left _ _ s)) (p.share i l g)) (le_or (held i) (also i));
   }
 
   pub data_cleaned : (state : GCounter) (log : History Op) (held : VersionVector) (gone : IdentitySet) (id : ℕ) → AreShares amount state log held gone → AreShares amount (counter_cleaned state id) log held (with_member gone id)
@@ -173,7 +166,7 @@ module _ {Op : Type 0} (amount : Op → ℕ) where
         (λ (ne : i ≢ id). other_at (number_at state.shares) id 0 i l ne ∙ p.away i (sym (with_member_other gone id i ne) ∙ g)) (cases_eq i id))
         (λ (l : identity_limit ≤ i). number_at-numbers_of_above _ i l) (cases_lt i identity_limit);
     share = λ i l g.
-        let ne : i ≢ id = λ e. not_both _ (with_member_is gone id i e) g in
+        let ne : i ≢ id = λ e. both_ways _ (with_member_is gone id i e) g in
         subst (HasShare amount log i (held i)) (sym (other_at (number_at state.shares) id 0 i l ne)) (p.share i l (sym (with_member_other gone id i ne) ∙ g));
   }
 

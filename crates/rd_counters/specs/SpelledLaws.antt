@@ -1,7 +1,7 @@
 -- Counters that are read are spelled so, what is spelled so is read again, and the history says the spelling.
 use Rattle.std.proofs.Common.{◌≡◌, ℕ, Bool, true, false, not, cond, nat_eq, List, ◌++◌, Result, Ok, refl, sym, ap, subst, ◌∙◌, append_assoc, arith, inl, inr}
 use Rattle.std.specs.Prelude.{◌||◌, ◌==◌}
-use Rattle.std.proofs.lemmas.Bool.{cases_Bool, eqb-true}
+use Rattle.std.proofs.lemmas.Bool.{cases_Bool, eqb-true, or_parts}
 use Rattle.rd_history.specs.Vector.{VersionVector, IdentitySet}
 use Rattle.rd_history.specs.History.{History, cut, is_pruned}
 use Rattle.rd_history.specs.Cuts.{IsPrunedCut}
@@ -77,10 +77,6 @@ signed_takes barred bytes x rest fits e =
     subst (λ (y : PnCounter × List ℕ). Takes bytes (signed_spelled y.0) y.1 × IsSoundSigned y.0 × AreFree barred y.0.plus.shares × AreFree barred y.0.minus.shares) (ok_is (record { plus = a.0.0; minus = b.0.0 }, b.0.1) (x, rest) b.2)
     (takes_then bytes (counter_spelled a.0.0) a.0.1 (counter_spelled b.0.0) b.0.1 first.0 second.0, record { plus = first.1; minus = second.1 }, first.2, second.2)
 
-both_false : (a b : Bool) → (a || b) ≡ false → (a ≡ false) × (b ≡ false)
-both_false true b e = absurd cc
-both_false false b e = (refl, e)
-
 pub both_take : (kind : ℕ) (barred : IdentitySet) (bytes : List ℕ) (x : PnCounter) (rest : List ℕ) → (kind == signed_byte) ≡ true → AreBytes bytes → signed_in barred bytes ≡ Ok (x, rest)
     → Takes bytes (signed_spelled x) rest × IsSoundSigned x × (signed_byte ≡ kind) × ((i : ℕ) → barred i ≡ true → signed_mentioned x i ≡ false)
 both_take kind barred bytes x rest known fits e =
@@ -90,7 +86,7 @@ both_take kind barred bytes x rest known fits e =
 pub both_again : (x : PnCounter) (barred : IdentitySet) (rest : List ℕ) → IsSoundSigned x → ((i : ℕ) → barred i ≡ true → signed_mentioned x i ≡ false) → signed_in barred (signed_spelled x ++ rest) ≡ Ok (x, rest)
 unfolding signed_in
 both_again x barred rest sound free =
-    let neither : (i : ℕ) → barred i ≡ true → (counter_mentioned x.plus i ≡ false) × (counter_mentioned x.minus i ≡ false) = λ i bar. both_false (counter_mentioned x.plus i) (counter_mentioned x.minus i) (free i bar) in
+    let neither : (i : ℕ) → barred i ≡ true → (counter_mentioned x.plus i ≡ false) × (counter_mentioned x.minus i ≡ false) = λ i bar. or_parts (counter_mentioned x.plus i) (counter_mentioned x.minus i) (free i bar) in
     ap (signed_in barred) (append_assoc (counter_spelled x.plus) (counter_spelled x.minus) rest)
     ∙ ap (λ (r : Result (GCounter × List ℕ) Fault). r >>= λ plus. counter_in barred plus.1 >>= λ minus. Ok (record { plus = plus.0; minus = minus.0 }, minus.1)) (growing_again x.plus barred (counter_spelled x.minus ++ rest) sound.plus (λ i bar. (neither i bar).0))
     ∙ ap (λ (r : Result (GCounter × List ℕ) Fault). r >>= λ minus. Ok (record { plus = x.plus; minus = minus.0 }, minus.1)) (growing_again x.minus barred rest sound.minus (λ i bar. (neither i bar).1))

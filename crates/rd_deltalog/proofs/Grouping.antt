@@ -2,6 +2,7 @@
 use Rattle.std.proofs.Common.{◌≡◌, ℕ, zero, suc, ◌+◌, ◌-◌, ◌<◌, ◌≤◌, List, [], ◌∷◌, length, drop, refl, sym, ap, subst, ◌∙◌, arith, Bool, true, false, Some, inl, inr}
 use Rattle.std.specs.Prelude.{slice_get, fold}
 use Rattle.std.proofs.lemmas.Bool.{cases_eq, cases_lt}
+use Rattle.rd_model.proofs.GroupLaws.{joined_past, past_in_join}
 use Rattle.rd_history.specs.Vector.{VersionVector, join, none_counted}
 use Rattle.rd_history.specs.History.{Record, History, at, records, HasRecord}
 use Rattle.rd_history.specs.Cuts.{record_at, action_of, past_of, AreOperations}
@@ -19,22 +20,10 @@ use Rattle.rd_deltalog.proofs.InOrder.{AreKeptFrom, combined_all, delta_of_all, 
 use Rattle.rd_deltalog.proofs.Answering.{wanted_length, wanted_kept}
 
 module _ {Op : Type 0} where
-  abbrev joined_past : VersionVector → Record Op → VersionVector
-  joined_past v r = join v r.past
-
   -- pasts that are all below a number
   joined_most : (rs : List (Record Op)) (v : VersionVector) (i most : ℕ) → v i ≤ most → ((k : ℕ) (r : Record Op) → slice_get rs k ≡ Some r → r.past i ≤ most) → fold joined_past v rs i ≤ most
   joined_most [] v i most h each = h
   joined_most (r ∷ rs) v i most h each = joined_most rs (joined_past v r) i most (let a = each 0 r refl in omega arith) (λ k. each (suc k))
-
-  joined_more : (rs : List (Record Op)) (v : VersionVector) (i : ℕ) → v i ≤ fold joined_past v rs i
-  joined_more [] v i = omega arith
-  joined_more (r ∷ rs) v i = let a = joined_more rs (joined_past v r) i in omega (arith, a)
-
-  joined_least : (rs : List (Record Op)) (v : VersionVector) (i k : ℕ) (r : Record Op) → slice_get rs k ≡ Some r → r.past i ≤ fold joined_past v rs i
-  joined_least [] v i k r e = absurd (cc e)
-  joined_least (s ∷ rs) v i zero r e = let same : s ≡ r = cc e in let a = joined_more rs (joined_past v s) i in let b = ap (λ (x : Record Op). x.past i) same in omega (arith, a, b)
-  joined_least (s ∷ rs) v i (suc k) r e = joined_least rs (joined_past v s) i k r e
 
 module _ {Kind Delta Op : Type 0} (IsDeltaOf : Delta → History Op → ℕ → ℕ → ℕ → Type 0) (combined : Delta → Delta → Delta) (parts : LogParts Kind Delta) (log : History Op) (entry : Entry Op)
     (stands : StandsForLog IsDeltaOf parts log entry) (after : ℕ) (some : after < parts.last) (kept : parts.last ≤ after + length parts.records) where
@@ -51,7 +40,7 @@ module _ {Kind Delta Op : Type 0} (IsDeltaOf : Delta → History Op → ℕ → 
       let here : HasRecord entry.history parts.origin (n - 1) (record_at log parts.origin (n - 1)) = record_at_part log entry.history stands.taken.part parts.origin (n - 1) (omega arith) in
       let there : HasRecord log parts.origin (n - 1) (record_at log parts.origin (n - 1)) = in_whole entry.history log stands.taken.part parts.origin (n - 1) (record_at log parts.origin (n - 1)) here in
       let numbered : past_of log parts.origin (n - 1) parts.origin ≡ n - 1 = stands.histories.numbered parts.origin (n - 1) (record_at log parts.origin (n - 1)) there in
-      let low = joined_least (drop after (records entry.history parts.origin)) none_counted i (n - 1 - after) (record_at log parts.origin (n - 1))
+      let low = past_in_join (drop after (records entry.history parts.origin)) none_counted (n - 1 - after) (record_at log parts.origin (n - 1)) i
       (slice_get-dropped (records entry.history parts.origin) after (n - 1 - after) ∙ (let place : after + (n - 1 - after) ≡ n - 1 = omega arith in ap (slice_get (records entry.history parts.origin)) place ∙ here)) in
       let high = joined_most (drop after (records entry.history parts.origin)) none_counted i (past_of log parts.origin (n - 1) i) (omega arith)
       (λ k r has.

@@ -2,6 +2,7 @@
 use Rattle.std.proofs.Common.{◌≡◌, ℕ, zero, suc, ◌+◌, ◌<◌, List, [], ◌∷◌, length, drop, refl, sym, ap, subst, ◌∙◌, arith, Bool, true, false, ◌||◌, Option, Some, None}
 use Rattle.std.specs.Prelude.{slice_get, fold}
 use Rattle.std.specs.List.{list_any}
+use Rattle.std.proofs.lemmas.Bool.{or_parts}
 use Rattle.rd_history.specs.History.{History}
 use Rattle.rd_deltalog.specs.declared.delta_log.OwnRecord.{OwnRecord}
 use Rattle.rd_deltalog.specs.Contents.{both, combined_of, lacks_delta}
@@ -58,15 +59,10 @@ module _ {Delta : Type 0} (combined : Delta → Delta → Delta) where
       (λ first is. ap (λ o. lacks_delta (record { before = x.before; delta = o }) || list_any lacks_delta xs) is
       ∙ lacking_from first xs (sym (ap (λ o. fold (joins combined) o xs) is) ∙ e))
 
--- none of them is lacking
-first_false : (a b : Bool) → (a || b) ≡ false → (a ≡ false) × (b ≡ false)
-first_false true b e = absurd (cc e)
-first_false false b e = (refl, e)
-
 pub none_lacking : {X : Type 0} (p : X → Bool) (xs : List X) → list_any p xs ≡ false → (k : ℕ) (x : X) → slice_get xs k ≡ Some x → p x ≡ false
 none_lacking p [] e k x has = absurd (cc has)
-none_lacking p (y ∷ xs) e zero x has = let same : y ≡ x = cc has in ap p (sym same) ∙ (first_false (p y) (list_any p xs) e).0
-none_lacking p (y ∷ xs) e (suc k) x has = none_lacking p xs (first_false (p y) (list_any p xs) e).1 k x has
+none_lacking p (y ∷ xs) e zero x has = let same : y ≡ x = cc has in ap p (sym same) ∙ (or_parts (p y) (list_any p xs) e).0
+none_lacking p (y ∷ xs) e (suc k) x has = none_lacking p xs (or_parts (p y) (list_any p xs) e).1 k x has
 
 pub item_at : {X : Type 0} (xs : List X) (k : ℕ) → k < length xs → (x : X) × (slice_get xs k ≡ Some x)
 item_at [] k l = absurd (omega arith)

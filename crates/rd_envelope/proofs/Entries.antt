@@ -2,7 +2,7 @@
 use Rattle.std.proofs.Common.{◌≡◌, ◌≢◌, ℕ, true, Option, Some, None, refl, ap, sym, ◌∙◌, subst, inl, inr}
 use Rattle.std.specs.Prelude.{if◌then◌else◌, length}
 use Rattle.std.specs.FinMap as map
-use Rattle.std.proofs.lemmas.Bool.{cases_eq, cases_Bool}
+use Rattle.std.proofs.lemmas.Bool.{cases_eq, cases_Bool, or_parts}
 use Rattle.rd_history.specs.Table.{with_at}
 use Rattle.rd_history.specs.Vector.{VersionVector, IdentitySet, none_counted, join}
 use Rattle.rd_history.specs.History.{Action, History, at, versions, cut, union, is_pruned, no_records, IsHistory, IsExactlyPruned}
@@ -29,7 +29,7 @@ use Rattle.rd_bytes.specs.declared.memory.Memory.{Memory}
 use Rattle.rd_envelope.specs.declared.outcomes.Perform.{Perform}
 use Rattle.rd_envelope.specs.declared.outcomes.Perform.TheVariants as outcome
 use Rattle.rd_envelope.specs.Images.{Parts, Holds, StandsFor}
-use Rattle.rd_envelope.proofs.Tests.{performed_merge, none_in_either}
+use Rattle.rd_envelope.proofs.Tests.{performed_merge}
 use Rattle.rd_envelope.proofs.Holding.{held_pruned, holds_empty}
 
 begun-performed : (o : Option Marker) → is_performed o ≡ true → begun o ≡ None
@@ -151,7 +151,7 @@ module _ {State Op : Type 0} (D : State → History Op → VersionVector → Ide
       marks r = elim (cases_Bool (performed_in new.marks r)) [
         | inl e ↦ ap (λ b. if b then None else merged_mark (mine.marks r) (theirs.marks r)) (sym (gone r) ∙ e) ∙ sym (begun-performed (mark_of new.marks r) e)
         | inr e ↦
-            let none = none_in_either (performed_in one.marks r) (performed_in two.marks r) (sym (performed_merge one.marks two.marks new.marks merges r) ∙ e) in
+            let none = or_parts (performed_in one.marks r) (performed_in two.marks r) (sym (performed_merge one.marks two.marks new.marks merges r) ∙ e) in
             ap (λ b. if b then None else merged_mark (mine.marks r) (theirs.marks r)) (sym (gone r) ∙ e)
             ∙ ap (λ m. merged_mark m (theirs.marks r)) (s.marks r) ∙ ap (merged_mark (begun (mark_of one.marks r))) (t.marks r)
             ∙ sym (begun-merged (mark_of one.marks r) (mark_of two.marks r) none.0 none.1) ∙ ap begun (sym (merges r))

@@ -1,34 +1,29 @@
 -- What the parts of an envelope hold after each change.
 use Rattle.std.proofs.Common.{◌≡◌, ◌≢◌, ℕ, ◌+◌, ◌<◌, ◌≤◌, Bool, true, false, ◌||◌, Some, None, arith, refl, ap, sym, ◌∙◌, subst, ⊎_elim, inl, inr}
 use Rattle.std.specs.FinMap as map
-use Rattle.std.proofs.lemmas.Bool.{cases_eq, cases_lt, cases_Bool}
+use Rattle.std.proofs.lemmas.Bool.{cases_eq, cases_lt, cases_Bool, or_cases}
+use mathlib.Core.Bool.{or-true}
 use Rattle.rd_history.specs.Table.{identity_limit, with_at}
 use Rattle.rd_history.specs.Vector.{IdentitySet, VersionVector, join, united, with_member}
 use Rattle.rd_history.specs.History.{Action, History}
 use Rattle.rd_history.specs.History.Action.{Operation, Prune}
 use Rattle.rd_history.specs.Cuts.{AreOperations, HasExactPrunes, IsConsistentCut, IsNext, IsPrunedCut, Prunes, action_of, grown, past_of, without}
 use Rattle.rd_history.proofs.HistoryLaws.{with_at_other}
-use Rattle.rd_history.proofs.CutLaws.{HasExactPrunes-pruned, HasExactPrunes-updated, IsConsistentCut-empty, IsConsistentCut-grown, IsConsistentCut-join, new_or_old_prune, old_prune_of_update, prune_in_either, prune_stays, with_at-le, with_at_is, with_member_other}
+use Rattle.rd_history.proofs.CutLaws.{HasExactPrunes-pruned, HasExactPrunes-updated, IsConsistentCut-empty, IsConsistentCut-grown, IsConsistentCut-join, new_or_old_prune, old_prune_of_update, prune_in_either, prune_stays, with_at-le, with_at_is, with_member_other, both_ways, same_removed, uncleaned}
 use Rattle.rd_vectors.specs.Vectors.{Numbers, number_at, raised, removed}
 use Rattle.rd_vectors.proofs.Laws.{number_at-empty}
 use Rattle.rd_markers.specs.declared.marker.Marker.TheVariants.{Performed}
 use Rattle.rd_markers.specs.Marks.{Marks, mark_of, is_performed, performed_in, merged_option, MergesTo}
 use Rattle.rd_markers.proofs.Laws.{mark_of-insert_same, mark_of-insert_other}
 use Rattle.rd_envelope.specs.Images.{Parts, Holds}
-use Rattle.rd_envelope.proofs.Numbers.{kept, raised_numbers, removed_numbers}
-use Rattle.rd_envelope.proofs.Tests.{performed_insert, performed_merge, merged_performed, merged_into_performed, merged_same, one_of_either, or_true}
-
-both_ways : (b : Bool) → b ≡ true → b ≡ false → ⊥
-both_ways b t f = cc
+use Rattle.rd_envelope.proofs.Numbers.{raised_numbers, removed_numbers}
+use Rattle.rd_envelope.proofs.Tests.{performed_insert, performed_merge, merged_performed, merged_into_performed, merged_same}
 
 same_upto : (o a u o' a' u' : ℕ) → Some (Performed o a u) ≡ Some (Performed o' a' u') → u ≡ u'
 same_upto o a u o' a' u' e = cc
 
-same_prune : {Op : Type 0} (r t : ℕ) → ◌≡◌ {A = Action Op} (Prune r) (Prune t) → r ≡ t
-same_prune r t e = cc
-
 pruned_by : {Op : Type 0} (r t : ℕ) (act : Action Op) → act ≡ Prune r → act ≡ Prune t → r ≡ t
-pruned_by r t act p q = same_prune r t (sym p ∙ q)
+pruned_by r t act p q = same_removed r t (sym p ∙ q)
 
 module _ {State Op : Type 0} (D : State → History Op → VersionVector → IdentitySet → Type 0) where
   -- an identity whose prune is held has a performed mark
@@ -96,7 +91,7 @@ module _ {State Op : Type 0} (D : State → History Op → VersionVector → Ide
     prunes = λ r o k p. absurd (let z = none o in let w = p.within in omega arith);
     marked = λ r g. absurd (both_ways _ g (ap is_performed (unmarked r)));
     state = d _;
-    numbers = λ i. ap (λ x. number_at x i) v ∙ number_at-empty i ∙ sym (kept (performed_in marks) held i (ap is_performed (unmarked i)) ∙ none i);
+    numbers = λ i. ap (λ x. number_at x i) v ∙ number_at-empty i ∙ sym (uncleaned (performed_in marks) held i (ap is_performed (unmarked i)) ∙ none i);
   }
 
   pub holds_taken : (value : State) (versions : Numbers) (marks : Marks) (value' : State) (versions' : Numbers) (log : History Op) (held : VersionVector) (origin to : ℕ)
@@ -153,7 +148,7 @@ module _ {State Op : Type 0} (D : State → History Op → VersionVector → Ide
         ];
         marked = λ r g. ⊎_elim
             (λ (a : performed_in mine.marks r ≡ true). let old = s.marked r a in (old.0, old.1, mine_in r old.0 old.1 old.2))
-            (λ (b : performed_in theirs.marks r ≡ true). let old = t.marked r b in (old.0, old.1, theirs_in r old.0 old.1 old.2)) (one_of_either _ _ (sym (either_is r) ∙ g));
+            (λ (b : performed_in theirs.marks r ≡ true). let old = t.marked r b in (old.0, old.1, theirs_in r old.0 old.1 old.2)) (or_cases _ _ (sym (either_is r) ∙ g));
         state = d;
         numbers = v;
       }
@@ -179,9 +174,9 @@ module _ {State Op : Type 0} (D : State → History Op → VersionVector → Ide
         pruned = record {
           all = λ r o k p. either_is r ∙ ⊎_elim
               (λ (a : Prunes log held r o k). ap (λ b. b || performed_in theirs.marks r) (gone_of_prune mine log held s r o k a))
-              (λ (b : Prunes log also r o k). ap (λ c. performed_in mine.marks r || c) (gone_of_prune theirs log also t r o k b) ∙ or_true (performed_in mine.marks r)) (prune_in_either log held also r o k p);
+              (λ (b : Prunes log also r o k). ap (λ c. performed_in mine.marks r || c) (gone_of_prune theirs log also t r o k b) ∙ or-true (performed_in mine.marks r)) (prune_in_either log held also r o k p);
           only = λ r g. ⊎_elim
               (λ (a : performed_in mine.marks r ≡ true). let old = s.marked r a in (old.0, old.1, prune_stays log held _ r old.0 old.1 (omega arith) old.2))
-              (λ (b : performed_in theirs.marks r ≡ true). let old = t.marked r b in (old.0, old.1, prune_stays log also _ r old.0 old.1 (omega arith) old.2)) (one_of_either _ _ (sym (either_is r) ∙ g));
+              (λ (b : performed_in theirs.marks r ≡ true). let old = t.marked r b in (old.0, old.1, prune_stays log also _ r old.0 old.1 (omega arith) old.2)) (or_cases _ _ (sym (either_is r) ∙ g));
         };
       }

@@ -2,6 +2,7 @@
 use Rattle.std.proofs.Common.{◌≡◌, ◌≢◌, ℕ, ◌<◌, ◌≤◌, Bool, true, false, ◌||◌, nat_eq, nat_le, cond, if◌then◌else◌, Option, Some, None, arith, rules, refl, ap, sym, ◌∙◌, subst, ⊎_elim}
 use Rattle.std.specs.FinMap as map
 use Rattle.std.proofs.lemmas.Bool.{cases_eq}
+use mathlib.Core.Bool.{or-true}
 use Rattle.rd_history.specs.Table.{identity_limit}
 use Rattle.rd_history.specs.Vector.{VersionVector, IdentitySet, alone, first_lacking}
 use Rattle.rd_history.specs.History.{History, at, versions, is_pruned}
@@ -54,11 +55,7 @@ pub some_member : (bits id : ℕ) → members_in bits id ≡ true → bits ≡ 0
 some_member bits id has e = absurd (let x : true ≡ false = sym has ∙ ap (λ n. members_in n id) e ∙ members_in-zero id in cc)
 
 nothing_there : (b : Bool) (n : ℕ) → cond b 0 n ≡ 0 → ((nat_eq n 0) || b) ≡ true
-nothing_there true n e = or_true (nat_eq n 0)
-  where
-    or_true : (c : Bool) → (c || true) ≡ true
-    or_true true = refl
-    or_true false = refl
+nothing_there true n e = or-true (nat_eq n 0)
 nothing_there false n e = let t : nat_eq n 0 ≡ true = grind rules in ap (λ c. c || false) t
 
 something_there : (b : Bool) (n : ℕ) → 0 < cond b 0 n → ((nat_eq n 0) || b) ≡ false
@@ -66,11 +63,7 @@ something_there true n l = absurd (omega arith)
 something_there false n l = let t : nat_eq n 0 ≡ false = grind rules in ap (λ c. c || false) t
 
 pruned_there : (n : ℕ) (b : Bool) → b ≡ true → ((nat_eq n 0) || b) ≡ true
-pruned_there n b e = ap (λ c. nat_eq n 0 || c) e ∙ or_true (nat_eq n 0)
-  where
-    or_true : (c : Bool) → (c || true) ≡ true
-    or_true true = refl
-    or_true false = refl
+pruned_there n b e = ap (λ c. nat_eq n 0 || c) e ∙ or-true (nat_eq n 0)
 
 kept_there : (b : Bool) (n : ℕ) → 0 < cond b 0 n → b ≡ false
 kept_there true n l = absurd (omega arith)

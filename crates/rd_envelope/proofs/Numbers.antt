@@ -5,22 +5,19 @@ use Rattle.rd_history.specs.Table.{identity_limit, with_at}
 use Rattle.rd_history.specs.Vector.{IdentitySet, VersionVector, join, with_member}
 use Rattle.rd_history.specs.Cuts.{without}
 use Rattle.rd_history.proofs.HistoryLaws.{with_at_other}
-use Rattle.rd_history.proofs.CutLaws.{with_at_is, with_member_is, with_member_other}
+use Rattle.rd_history.proofs.CutLaws.{with_at_is, with_member_is, with_member_other, uncleaned}
 use Rattle.rd_vectors.specs.Vectors.{Numbers, number_at, raised, joined, removed, IsNormal}
 use Rattle.rd_vectors.proofs.Laws.{number_at-raised_same, number_at-raised_other, number_at-joined, number_at-numbers_of, number_at-numbers_of_above, number_at_above}
 
 nothing_without : (gone : IdentitySet) (held : VersionVector) (i : ℕ) → held i ≡ 0 → without gone held i ≡ 0
 nothing_without gone held i e = ⊎_elim (λ (g : gone i ≡ true). ap (λ b. cond b 0 (held i)) g) (λ (g : gone i ≡ false). ap (λ b. cond b 0 (held i)) g ∙ e) (cases_Bool (gone i))
 
-pub kept : (gone : IdentitySet) (held : VersionVector) (i : ℕ) → gone i ≡ false → without gone held i ≡ held i
-kept gone held i g = ap (λ b. cond b 0 (held i)) g
-
 pub raised_numbers : (m n : Numbers) (held : VersionVector) (gone : IdentitySet) (id to : ℕ) → ((i : ℕ) → identity_limit ≤ i → held i ≡ 0) → id < identity_limit → gone id ≡ false → ((i : ℕ) → number_at m i ≡ without gone held i) → held id ≤ to → n ≡ raised m id to
     → (i : ℕ) → number_at n i ≡ without gone (with_at held id to) i
 raised_numbers m n held gone id to few member stays is more e i = ap (λ x. number_at x i) e ∙ ⊎_elim
     (λ (l : i < identity_limit). ⊎_elim
-    (λ (same : i ≡ id). number_at-raised_same m id to i l same ∙ (let a : number_at m id ≡ held id = is id ∙ kept gone held id stays in omega arith)
-    ∙ sym (kept gone (with_at held id to) i (ap gone same ∙ stays) ∙ with_at_is held id to i same))
+    (λ (same : i ≡ id). number_at-raised_same m id to i l same ∙ (let a : number_at m id ≡ held id = is id ∙ uncleaned gone held id stays in omega arith)
+    ∙ sym (uncleaned gone (with_at held id to) i (ap gone same ∙ stays) ∙ with_at_is held id to i same))
     (λ (ne : i ≢ id). number_at-raised_other m id to i l ne ∙ is i ∙ sym (ap (cond (gone i) 0) (with_at_other held id to i ne))) (cases_eq i id))
     (λ (l : identity_limit ≤ i). number_at-numbers_of_above _ i l ∙ sym (nothing_without gone (with_at held id to) i (with_at_other held id to i (λ same. omega arith) ∙ few i l))) (cases_lt i identity_limit)
 
@@ -66,8 +63,8 @@ pub joined_greatest : (m n v w r : Numbers) (gone : IdentitySet) → IsNormal m 
     → (i : ℕ) → gone i ≡ false → number_at r i ≡ max (number_at m i) (number_at n i)
 joined_greatest m n v w r gone normal normal' is is' e i stays = ⊎_elim
     (λ (l : i < identity_limit).
-    let one : number_at v i ≡ number_at m i = is i ∙ kept gone (number_at m) i stays in
-    let other : number_at w i ≡ number_at n i = is' i ∙ kept gone (number_at n) i stays in
+    let one : number_at v i ≡ number_at m i = is i ∙ uncleaned gone (number_at m) i stays in
+    let other : number_at w i ≡ number_at n i = is' i ∙ uncleaned gone (number_at n) i stays in
     ap (λ x. number_at x i) e ∙ number_at-joined v w i l ∙ (λ j. max (one j) (other j)))
     (λ (l : identity_limit ≤ i).
     let none = ap (λ x. number_at x i) e ∙ number_at-numbers_of_above (λ k. max (number_at v k) (number_at w k)) i l in

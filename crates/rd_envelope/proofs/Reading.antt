@@ -1,7 +1,7 @@
 -- What an entry says of the parts that stand for it.
 use Rattle.std.proofs.Common.{◌≡◌, ◌≢◌, ℕ, ◌+◌, ◌<◌, ◌≤◌, Bool, true, false, ◌&&◌, not, nat_eq, nat_lt, cond, arith, rules, refl, ap, sym, ◌∙◌, subst, ⊎_elim}
 use Rattle.std.specs.FinMap as map
-use Rattle.std.proofs.lemmas.Bool.{cases_eq, cases_lt}
+use Rattle.std.proofs.lemmas.Bool.{cases_eq, cases_lt, eq-eqb}
 use Rattle.rd_history.specs.Table.{identity_limit, identities}
 use Rattle.rd_history.specs.Vector.{IdentitySet, VersionVector}
 use Rattle.rd_history.specs.History.{History, at, versions, is_pruned}
@@ -11,7 +11,7 @@ use Rattle.rd_vectors.specs.Vectors.{Numbers, number_at, raised}
 use Rattle.rd_vectors.proofs.Laws.{number_at-empty, number_at-raised_same, number_at-raised_other, number_at-numbers_of_above}
 use Rattle.rd_vectors.proofs.Walks.{all_or_any}
 use Rattle.rd_markers.specs.Marks.{Marks, mark_of, begun, is_performed, performed_in, marker_seen_by, is_unseen_by, has_unseen_by}
-use Rattle.rd_markers.proofs.Meaning.{begun-seen, performed-seen, same_seen, equal_test}
+use Rattle.rd_markers.proofs.Meaning.{begun-seen, performed-seen, same_seen}
 use Rattle.rd_envelope.specs.Images.{Parts, StandsFor}
 use Rattle.rd_envelope.proofs.Entries.{pruned_is}
 
@@ -96,4 +96,4 @@ module _ {State Op : Type 0} (D : State → History Op → VersionVector → Ide
   changed_seen parts log entry id view l s = all_or_any _ (λ r. is_unseen_by id view (mark_of parts.marks r)) same identities
     where
       same : (r : ℕ) → (nat_eq (at entry.history r) (at entry.history r) && is_same_mark (entry.marks r) (seen_mark id view (entry.marks r))) ≡ not (is_unseen_by id view (mark_of parts.marks r))
-      same r = second_is _ _ _ (equal_test (at entry.history r) (at entry.history r) refl) (ap (λ m. is_same_mark m (seen_mark id view m)) (s.marks r) ∙ same_seen id view (mark_of parts.marks r) l)
+      same r = second_is _ _ _ (eq-eqb (at entry.history r) (at entry.history r) refl) (ap (λ m. is_same_mark m (seen_mark id view m)) (s.marks r) ∙ same_seen id view (mark_of parts.marks r) l)

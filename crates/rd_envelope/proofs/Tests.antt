@@ -2,6 +2,7 @@
 use Rattle.std.proofs.Common.{rules, arith, min, if◌then◌else◌, ◌≡◌, ◌≢◌, ℕ, ◌⊎◌, Bool, true, false, ◌||◌, Option, Some, None, cond, nat_lt, refl, ap, sym, ◌∙◌, ⊎_elim, inl, inr}
 use Rattle.std.specs.FinMap as map
 use Rattle.std.proofs.lemmas.Bool.{cases_eq}
+use mathlib.Core.Bool.{or-true, or-false}
 use Rattle.rd_history.specs.Vector.{with_member, united}
 use Rattle.rd_history.proofs.CutLaws.{with_member_is, with_member_other}
 use Rattle.rd_markers.specs.declared.marker.Marker.{Marker}
@@ -11,14 +12,6 @@ use Rattle.rd_markers.specs.Marks.{Marks, mark_of, is_performed, performed_in, m
 use Rattle.rd_markers.proofs.Laws.{mark_of-insert_same, mark_of-insert_other}
 use Rattle.std.specs.FinMap.{get-empty}
 use Rattle.std.specs.Ordering.{nat_cmp}
-
-pub or_true : (b : Bool) → b || true ≡ true
-or_true true = refl
-or_true false = refl
-
-pub or_false : (b : Bool) → b || false ≡ b
-or_false true = refl
-or_false false = refl
 
 pub performed_empty : (i : ℕ) → performed_in map.empty i ≡ false
 performed_empty i = ap is_performed (get-empty nat_cmp i)
@@ -49,7 +42,7 @@ performed_merged (Performed owner seq upto) (Performed owner' seq' upto') = perf
 
 performed_option : (a b : Option Marker) → is_performed (merged_option a b) ≡ (is_performed a || is_performed b)
 performed_option None b = refl
-performed_option (Some a) None = sym (or_false (is_performed (Some a)))
+performed_option (Some a) None = sym (or-false (is_performed (Some a)))
 performed_option (Some a) (Some b) = performed_merged a b
 
 pub performed_merge : (marks other both : Marks) → MergesTo marks other both → (i : ℕ) → performed_in both i ≡ united (performed_in marks) (performed_in other) i
@@ -80,21 +73,13 @@ chosen false false x y z e f = refl
 pub merged_same : (owner seq upto : ℕ) → merged_option (Some (Performed owner seq upto)) (Some (Performed owner seq upto)) ≡ Some (Performed owner seq upto)
 merged_same owner seq upto = ap Some (chosen (nat_lt owner owner) (nat_lt seq seq) _ _ _ (not_less owner) (not_less seq) ∙ ap (Performed owner seq) (least_same upto))
 
-pub none_in_either : (b c : Bool) → (b || c) ≡ false → (b ≡ false) × (c ≡ false)
-none_in_either true c e = absurd (let x : true ≡ false = e in cc)
-none_in_either false c e = (refl, e)
-
-pub one_of_either : (b c : Bool) → (b || c) ≡ true → (b ≡ true) ⊎ (c ≡ true)
-one_of_either true c e = inl refl
-one_of_either false c e = inr e
-
 -- what the one test holds of, both hold of
 pub either_again : (b c d : Bool) → d ≡ (b || c) → (b || d) ≡ d
 either_again true c d e = sym e
 either_again false c d e = refl
 
 pub either_again' : (b c d : Bool) → d ≡ (b || c) → (c || d) ≡ d
-either_again' b true d e = sym (e ∙ or_true b)
+either_again' b true d e = sym (e ∙ or-true b)
 either_again' b false d e = refl
 
 pub cond_again : (b c d : Bool) (n : ℕ) → d ≡ (b || c) → cond d 0 (cond b 0 n) ≡ cond d 0 n
@@ -104,5 +89,5 @@ cond_again false c false n e = refl
 
 pub cond_again' : (b c d : Bool) (n : ℕ) → d ≡ (b || c) → cond d 0 (cond c 0 n) ≡ cond d 0 n
 cond_again' b c true n e = refl
-cond_again' b true false n e = absurd (let x : false ≡ true = e ∙ or_true b in cc)
+cond_again' b true false n e = absurd (let x : false ≡ true = e ∙ or-true b in cc)
 cond_again' b false false n e = refl

@@ -60,8 +60,8 @@ module _ (is_known : ℕ → Bool) where
       let cmn = takes_then one (kind ∷ []) two (marks_spelled m.0.0 ++ numbers_spelled (number_at n.0.0)) n.0.1 tc.0 mn in
       let all = takes_then bytes (format ∷ []) one (kind ∷ (marks_spelled m.0.0 ++ numbers_spelled (number_at n.0.0))) n.0.1 ta.0 cmn in
       let made : Head × List ℕ = (record { kind = kind; marks = m.0.0; versions = n.0.0 }, n.0.1) in
-      subst (λ (y : Head × List ℕ). Takes bytes (head_spelled y.0) y.1 × IsHead is_known y.0) (ok_is made x n.2) (
-        subst (λ (k : ℕ). Takes bytes (k ∷ (kind ∷ (marks_spelled m.0.0 ++ numbers_spelled (number_at n.0.0)))) n.0.1) first all,
+      subst (λ (y : Head × List ℕ). Takes bytes (head_spelled y.0) y.1 × IsHead is_known y.0) {x = made} {y = x} (ok_is made x n.2) (
+        subst (λ (k : ℕ). Takes bytes (k ∷ (kind ∷ (marks_spelled m.0.0 ++ numbers_spelled (number_at n.0.0)))) n.0.1) {x = format} {y = 1} first all,
         record { known = d.0; marks = tm.1; versions = tn.1; counted = tn.2 },
       )
 

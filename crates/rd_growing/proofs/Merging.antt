@@ -5,8 +5,8 @@ use Rattle.std.specs.declared.cmp.Ordering.TheVariants.{Less, Equal, Greater}
 use Rattle.std.specs.Str.{bytes_eq}
 use Rattle.std.proofs.Math.Seq.{drop-cons}
 use Rattle.std.proofs.lemmas.List.{take_more, take_all, drop_all, append-nil}
+use mathlib.Core.Bool.{or-false}
 use Rattle.rd_history.specs.Texts.{Text, text_lt, with_text, text_set, contains_text}
-use Rattle.rd_growing.specs.Bits.{or_none}
 use Rattle.rd_bytes.specs.TextOrder.{text_order, IsBelowAll, IsRising}
 use Rattle.rd_growing.specs.Texts.{IsPlace}
 use Rattle.rd_bytes.proofs.TextLaws.{order_less, order_equal, order_greater, lt_one_way, eq_texts, texts_eq, lt_differ, lt_differ_too}
@@ -184,7 +184,7 @@ present_set xs e h there = is_set xs (xs ++ e ∷ []) h (λ f. go f (bytes_eq f 
     go f true is =
         let here : contains_text xs f ≡ true = ap (contains_text xs) (eq_texts f e is) ∙ there in
         here ∙ sym (ap (λ b. b || (bytes_eq f e || false)) here)
-    go f false is = sym (ap (λ b. contains_text xs f || (b || false)) is ∙ or_none (contains_text xs f))
+    go f false is = sym (ap (λ b. contains_text xs f || (b || false)) is ∙ or-false (contains_text xs f))
 
 pub rising_either : (b : Bool) (xs ys zs : List Text) → zs ≡ (if b then xs else ys) → IsRising xs → IsRising ys → IsRising zs
 rising_either true xs ys zs e p q = subst IsRising (sym e) p

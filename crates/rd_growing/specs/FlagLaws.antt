@@ -1,5 +1,7 @@
 -- The laws of flags.
 use Rattle.std.proofs.Common.{◌≡◌, ℕ, ◌+◌, ◌<◌, ◌≤◌, Bool, true, ◌||◌, refl, sym, subst, arith, Option, None}
+use Rattle.std.proofs.lemmas.Bool.{or_right}
+use mathlib.Core.Bool.{or_comm, or_self, or_self_left, or-true}
 use Rattle.rd_history.specs.Table.{with_at}
 use Rattle.rd_history.specs.Vector.{VersionVector, join}
 use Rattle.rd_history.specs.History.{History, cut}
@@ -13,7 +15,7 @@ use Rattle.rd_kinds.specs.declared.kind.Kind.TheVariants as Kind
 use Rattle.rd_kinds.specs.declared.operation.Op.{Op}
 use Rattle.rd_kinds.specs.declared.operation.Op.TheVariants.{Enable}
 use Rattle.rd_growing.specs.declared.flag.Flag.{Flag}
-use Rattle.rd_growing.specs.Bits.{right_true, or_swap, or_third, or_same, or_more}
+use Rattle.rd_growing.specs.Bits.{or_third}
 use Rattle.rd_growing.specs.Recorded.{Tells, TellsBetween}
 use Rattle.rd_growing.specs.RecordedLaws.{tells_none, tells_grown, tells_pruned, tells_new, tells_joined, tells_group, tells_both, tells_once, tells_means}
 use Rattle.rd_growing.specs.Flags.{flag_off, flag_on, flag_joined, IsFlagOf, IsSwitchedOn}
@@ -23,16 +25,16 @@ same_flag : (a b : Bool) → a ≡ b → ◌≡◌ {A = Flag} (record { on = a }
 same_flag a b e = λ i. record { on = e i }
 
 pub join_comm : (a b : Flag) → flag_joined a b ≡ flag_joined b a
-join_comm a b = same_flag _ _ (or_swap a.on b.on)
+join_comm a b = same_flag _ _ (or_comm a.on b.on)
 
 pub join_assoc : (a b c : Flag) → flag_joined (flag_joined a b) c ≡ flag_joined a (flag_joined b c)
 join_assoc a b c = same_flag _ _ (sym (or_third a.on b.on c.on))
 
 pub join_same : (a : Flag) → flag_joined a a ≡ a
-join_same a = same_flag _ _ (or_same a.on)
+join_same a = same_flag _ _ (or_self a.on)
 
 pub join_upper : (a b : Flag) → flag_joined a (flag_joined a b) ≡ flag_joined a b
-join_upper a b = same_flag _ _ (or_more a.on b.on)
+join_upper a b = same_flag _ _ (or_self_left a.on b.on)
 
 module _ {Op : Type 0} (on : Op → Bool) where
   -- the flag of the empty history
@@ -51,9 +53,6 @@ module _ {Op : Type 0} (on : Op → Bool) where
   pub on_means : (state : Flag) (log : History Op) (held : VersionVector) → IsConsistentCut log held → IsFlagOf on state log held → state.on ≡ is_on on (cut log held)
   on_means state log held h is = tells_means on log state.on held h is
 
-  or_true : (b : Bool) → (b || true) ≡ true
-  or_true b = right_true b true refl
-
   switched : (log : History Op) (origin after to : ℕ) → IsSwitchedOn on log origin after to → TellsBetween on log true origin after to
   switched log origin after to made = record { only = λ e. made; all = λ r. refl }
 
@@ -61,13 +60,13 @@ module _ {Op : Type 0} (on : Op → Bool) where
   pub data_switched : (state : Flag) (log : History Op) (held : VersionVector) (id : ℕ) (op : Op) → IsNext log held id (Operation op) → on op ≡ true → IsFlagOf on state log held
       → IsFlagOf on flag_on log (grown held id) × IsSwitchedOn on log id (held id) (held id + 1)
   data_switched state log held id op next passes is = (
-    subst (λ b. Tells on log b (grown held id)) (or_true state.on) (tells_grown on log state.on true held id (Operation op) next passes is),
+    subst (λ b. Tells on log b (grown held id)) (or-true state.on) (tells_grown on log state.on true held id (Operation op) next passes is),
     (tells_new on log true held id (Operation op) next passes).only refl,
   )
 
   pub data_absorbed : (state : Flag) (log : History Op) (held : VersionVector) (origin after to : ℕ) → IsFlagOf on state log held → IsSwitchedOn on log origin after to → after ≤ held origin → held origin < to → IsFlagOf on flag_on log (with_at held origin to)
   data_absorbed state log held origin after to is made low high =
-      subst (λ b. Tells on log b (with_at held origin to)) (or_true state.on) (tells_group on log state.on true held origin after to low high is (switched log origin after to made))
+      subst (λ b. Tells on log b (with_at held origin to)) (or-true state.on) (tells_group on log state.on true held origin after to low high is (switched log origin after to made))
 
   pub delta_combined : (log : History Op) (origin after mid to : ℕ) → IsSwitchedOn on log origin after mid → IsSwitchedOn on log origin mid to → IsSwitchedOn on log origin after to
   delta_combined log origin after mid to first later =

@@ -2,7 +2,9 @@
 use Rattle.std.proofs.Common.{◌≡◌, ◌≢◌, ℕ, zero, suc, ◌+◌, ◌<◌, ◌≤◌, List, [], ◌∷◌, Bool, true, false, ◌||◌, Some, refl, ap, sym, ◌∙◌, subst, arith, ⊎_elim}
 use Rattle.std.specs.Prelude.{slice_get}
 use Rattle.std.specs.List.{list_any}
-use Rattle.std.proofs.lemmas.Bool.{cases_eq, cases_lt}
+use Rattle.std.proofs.lemmas.Bool.{cases_eq, cases_lt, or_cases, or_left, or_right}
+use Rattle.std.proofs.lemmas.Map.Keys.{any_passes_from_place}
+use mathlib.Core.Bool.{or-false}
 use Rattle.rd_history.specs.Table.{identities, with_at}
 use Rattle.rd_history.specs.Vector.{VersionVector, join}
 use Rattle.rd_history.specs.History.{Action, Record, Stamped, History, HasRecord, cut, stamped_from, all_records}
@@ -14,7 +16,7 @@ use Rattle.rd_history.proofs.PruneLaws.{IsIn, in_flat_map, to_flat_map, in_stamp
 use Rattle.rd_history.proofs.CutLaws.{with_at_is, with_at-le, new_or_old}
 use Rattle.rd_history.proofs.Bridge.{cut_is_history, in_cut, of_cut}
 use Rattle.rd_meanings.specs.Growing.{switches_on, is_on}
-use Rattle.rd_growing.specs.Bits.{either_true, left_true, right_true, same_bits, or_none}
+use Rattle.rd_growing.specs.Bits.{same_bits}
 use Rattle.rd_growing.specs.Recorded.{IsRecorded, Tells, TellsBetween}
 
 -- A TEST OF A LIST'S ELEMENTS
@@ -23,12 +25,7 @@ pub any_at : {X : Type 0} (p : X → Bool) (xs : List X) → list_any p xs ≡ t
 any_at p [] e = absurd (cc e)
 any_at p (x ∷ xs) e = ⊎_elim
     (λ (here : p x ≡ true). (x, (zero, refl), here))
-    (λ (later : list_any p xs ≡ true). let h = any_at p xs later in (h.0, (suc h.1.0, h.1.1), h.2)) (either_true (p x) (list_any p xs) e)
-
-pub any_of : {X : Type 0} (p : X → Bool) (xs : List X) (k : ℕ) (x : X) → slice_get xs k ≡ Some x → p x ≡ true → list_any p xs ≡ true
-any_of p [] k x at e = absurd (cc at)
-any_of p (y ∷ xs) zero x at e = let same : y ≡ x = cc at in left_true (p y) (list_any p xs) (ap p same ∙ e)
-any_of p (y ∷ xs) (suc k) x at e = right_true (p y) (list_any p xs) (any_of p xs k x at e)
+    (λ (later : list_any p xs ≡ true). let h = any_at p xs later in (h.0, (suc h.1.0, h.1.1), h.2)) (or_cases (p x) (list_any p xs) e)
 
 -- RECORDS WITH THEIR ORIGINS AND NUMBERS
 
@@ -76,17 +73,17 @@ module _ {Op : Type 0} (test : Op → Bool) (log : History Op) where
           index = held id;
           within = (let w = with_at_is held id (held id + 1) id refl in omega arith);
           passes = ap (switches_on test) n.action ∙ passes ∙ new;
-        }) (either_true bit also e);
+        }) (or_cases bit also e);
     all = λ r. ⊎_elim
-        (λ (new : (r.origin ≡ id) × (r.index ≡ held id)). right_true bit also (
+        (λ (new : (r.origin ≡ id) × (r.index ≡ held id)). or_right bit also (
         let same : action_of log r.origin r.index ≡ next = ap (λ i. action_of log i r.index) new.0 ∙ ap (action_of log id) new.1 ∙ n.action in
         sym passes ∙ sym (ap (switches_on test) same) ∙ r.passes))
-        (λ (old : r.index < held r.origin). left_true bit also (t.all (record { origin = r.origin; index = r.index; within = old; passes = r.passes })))
+        (λ (old : r.index < held r.origin). or_left bit also (t.all (record { origin = r.origin; index = r.index; within = old; passes = r.passes })))
         (new_or_old log held id r.origin r.index r.within);
   }
 
   pub tells_pruned : (bit : Bool) (held : VersionVector) (id removed : ℕ) → IsNext log held id (Prune removed) → Tells test log bit held → Tells test log bit (grown held id)
-  tells_pruned bit held id removed n t = subst (λ b. Tells test log b (grown held id)) (or_none bit) (tells_grown bit false held id (Prune removed) n refl t)
+  tells_pruned bit held id removed n t = subst (λ b. Tells test log b (grown held id)) (or-false bit) (tells_grown bit false held id (Prune removed) n refl t)
 
   -- the new record alone
   pub tells_new : (bit : Bool) (held : VersionVector) (id : ℕ) (next : Action Op) → IsNext log held id next → switches_on test next ≡ bit → TellsBetween test log bit id (held id) (held id + 1)
@@ -103,10 +100,10 @@ module _ {Op : Type 0} (test : Op → Bool) (log : History Op) where
   tells_joined bit also_bit held also t u = record {
     only = λ e. ⊎_elim
         (λ (mine : bit ≡ true). stays held (join held also) (λ i. omega arith) (t.only mine))
-        (λ (theirs : also_bit ≡ true). stays also (join held also) (λ i. omega arith) (u.only theirs)) (either_true bit also_bit e);
+        (λ (theirs : also_bit ≡ true). stays also (join held also) (λ i. omega arith) (u.only theirs)) (or_cases bit also_bit e);
     all = λ r. ⊎_elim
-        (λ (mine : r.index < held r.origin). left_true bit also_bit (t.all (record { origin = r.origin; index = r.index; within = mine; passes = r.passes })))
-        (λ (theirs : held r.origin ≤ r.index). right_true bit also_bit (u.all (record { origin = r.origin; index = r.index; within = (let w = r.within in omega arith); passes = r.passes })))
+        (λ (mine : r.index < held r.origin). or_left bit also_bit (t.all (record { origin = r.origin; index = r.index; within = mine; passes = r.passes })))
+        (λ (theirs : held r.origin ≤ r.index). or_right bit also_bit (u.all (record { origin = r.origin; index = r.index; within = (let w = r.within in omega arith); passes = r.passes })))
         (cases_lt r.index (held r.origin));
   }
 
@@ -119,10 +116,10 @@ module _ {Op : Type 0} (test : Op → Bool) (log : History Op) where
           index = r.index;
           within = (let w = r.within in let s = with_at_is held origin to origin refl in omega arith);
           passes = r.passes;
-        }) (either_true bit more e);
+        }) (or_cases bit more e);
     all = λ r. ⊎_elim
-        (λ (old : r.index < held r.origin). left_true bit more (t.all (record { origin = r.origin; index = r.index; within = old; passes = r.passes })))
-        (λ (new : held r.origin ≤ r.index). right_true bit more (⊎_elim
+        (λ (old : r.index < held r.origin). or_left bit more (t.all (record { origin = r.origin; index = r.index; within = old; passes = r.passes })))
+        (λ (new : held r.origin ≤ r.index). or_right bit more (⊎_elim
         (λ (here : r.origin ≡ origin).
         let same : held r.origin ≡ held origin = ap held here in
         let upto : with_at held origin to r.origin ≡ to = with_at_is held origin to r.origin here in
@@ -137,10 +134,10 @@ module _ {Op : Type 0} (test : Op → Bool) (log : History Op) where
   tells_both bit more origin after mid to low high t u = record {
     only = λ e. ⊎_elim
         (λ (first : bit ≡ true). let r = t.only first in record { index = r.index; from = r.from; within = (let w = r.within in omega arith); passes = r.passes })
-        (λ (later : more ≡ true). let r = u.only later in record { index = r.index; from = (let f = r.from in omega arith); within = r.within; passes = r.passes }) (either_true bit more e);
+        (λ (later : more ≡ true). let r = u.only later in record { index = r.index; from = (let f = r.from in omega arith); within = r.within; passes = r.passes }) (or_cases bit more e);
     all = λ r. ⊎_elim
-        (λ (first : r.index < mid). left_true bit more (t.all (record { index = r.index; from = r.from; within = first; passes = r.passes })))
-        (λ (later : mid ≤ r.index). right_true bit more (u.all (record { index = r.index; from = later; within = r.within; passes = r.passes })))
+        (λ (first : r.index < mid). or_left bit more (t.all (record { index = r.index; from = r.from; within = first; passes = r.passes })))
+        (λ (later : mid ≤ r.index). or_right bit more (u.all (record { index = r.index; from = later; within = r.within; passes = r.passes })))
         (cases_lt r.index mid);
   }
 
@@ -159,7 +156,7 @@ module _ {Op : Type 0} (test : Op → Bool) (log : History Op) where
           let few = h.made r.origin in
           let w = r.within in
           let b = belongs log held h r.origin r.index _ (in_cut log held r.origin r.index r.within (omega arith)) in
-          any_of (λ (x : Stamped Op). switches_on test x.action) (all_records (cut log held)) b.0 _ b.1 r.passes
+          any_passes_from_place (λ (x : Stamped Op). switches_on test x.action) (all_records (cut log held)) b.0 _ b.1 r.passes
 
       back : is_on test (cut log held) ≡ true → bit ≡ true
       back e =

@@ -3,7 +3,7 @@ use Rattle.std.proofs.Common.{◌≡◌, ◌≢◌, ℕ, zero, suc, ◌+◌, ◌
 use Rattle.std.specs.Prelude.{slice_get, find, flat_map, if◌then◌else◌, ◌==◌, ◌&&◌, not, option_map, unwrap_or}
 use Rattle.std.specs.List.{range_with_len}
 use Rattle.std.specs.Ordering.{is_lt}
-use Rattle.std.proofs.lemmas.Bool.{cases_eq, cases_lt}
+use Rattle.std.proofs.lemmas.Bool.{cases_eq, cases_lt, eq-eqb, ne_eqb, eqb-true}
 use Rattle.std.proofs.lemmas.Bool.Decides.{eqb_tells}
 use Rattle.rd_history.specs.Table.{identity_limit, identities, with_at}
 use Rattle.rd_history.specs.Vector.{VersionVector, join}
@@ -291,15 +291,6 @@ module _ {Op : Type 0} (assigned : Op → Option Assignment) (log : History Op) 
   abbrev shown_of : Option (Stamped Op) → List ℕ
   shown_of first = unwrap_or (option_map (λ (a : Assignment). a.text) (unwrap_or (option_map (λ (x : Stamped Op). found assigned x.action) first) None)) []
 
-  equal_numbers : (a b : ℕ) → a ≡ b → (a == b) ≡ true
-  equal_numbers a b e = elim (eqb_tells a b) [ inl is ↦ is.0 | inr isnt ↦ absurd (isnt.1 e) ]
-
-  other_numbers : (a b : ℕ) → a ≢ b → (a == b) ≡ false
-  other_numbers a b ne = elim (eqb_tells a b) [ inl is ↦ absurd (ne is.1) | inr isnt ↦ isnt.0 ]
-
-  told_numbers : (a b : ℕ) → (a == b) ≡ true → a ≡ b
-  told_numbers a b e = elim (eqb_tells a b) [ inl is ↦ is.1 | inr isnt ↦ absurd (let f = sym e ∙ isnt.0 in cc f) ]
-
   row_record : (held : VersionVector) → IsConsistentCut log held → (i : ℕ) (x : Stamped Op) → IsIn (stamped_from i 1 (cut log held i)) x → i < identity_limit
       → (k : ℕ) × (k < held i) × (timestamp assigned (cut log held) x ≡ timestamp_at assigned log i k) × (found assigned x.action ≡ assignment_at assigned log i k)
   row_record held h i x there few =
@@ -318,7 +309,7 @@ module _ {Op : Type 0} (assigned : Op → Option Assignment) (log : History Op) 
 
   module _ (write : Written) (held : VersionVector) (h : IsConsistentCut log held) (w : IsWinner assigned log write (Held held)) (level : write.timestamp ≡ newest assigned (cut log held)) where
     not_empty : (newest assigned (cut log held) == 0) ≡ false
-    not_empty = other_numbers (newest assigned (cut log held)) 0 (λ z. let a = winner_above assigned log write (Held held) w in omega arith)
+    not_empty = ne_eqb (newest assigned (cut log held)) 0 (λ z. let a = winner_above assigned log write (Held held) w in omega arith)
 
     -- where there is a write, the test compares timestamps
     newest_says : (x : Stamped Op) → is_newest held x ≡ (timestamp assigned (cut log held) x == newest assigned (cut log held))
@@ -328,20 +319,20 @@ module _ {Op : Type 0} (assigned : Op → Option Assignment) (log : History Op) 
     earlier j x before there =
         let few : j < identity_limit = (let a = few_of held h write.writer w.index w.member in omega arith) in
         let r = row_record held h j x there few in
-        newest_says x ∙ other_numbers (timestamp assigned (cut log held) x) (newest assigned (cut log held)) (λ e. absurd (let l = w.least j r.0 r.1 (sym r.2 ∙ e ∙ sym level) in omega arith))
+        newest_says x ∙ ne_eqb (timestamp assigned (cut log held) x) (newest assigned (cut log held)) (λ e. absurd (let l = w.least j r.0 r.1 (sym r.2 ∙ e ∙ sym level) in omega arith))
 
     -- the winner's own record passes
     winner_passes : (x : Stamped Op) → IsIn (stamped_from write.writer 1 (cut log held write.writer)) x → record_at log write.writer w.index ≡ record { action = x.action; past = x.past } → is_newest held x ≡ true
     winner_passes x there is =
         let few = few_of held h write.writer w.index w.member in
         let here = to_flat_map (λ i. stamped_from i 1 (cut log held i)) identities write.writer x (at_identities write.writer few) there in
-        newest_says x ∙ equal_numbers (timestamp assigned (cut log held) x) (newest assigned (cut log held)) (timestamp_in assigned log held h x here write.writer w.index w.member is ∙ w.stamped ∙ level)
+        newest_says x ∙ eq-eqb (timestamp assigned (cut log held) x) (newest assigned (cut log held)) (timestamp_in assigned log held h x here write.writer w.index w.member is ∙ w.stamped ∙ level)
 
     -- and what passes at its writer is the same write
     same_record : (x : Stamped Op) → IsIn (stamped_from write.writer 1 (cut log held write.writer)) x → is_newest held x ≡ true → found assigned x.action ≡ Some (record { text = write.text; now = w.now })
     same_record x there passes =
         let r = row_record held h write.writer x there (few_of held h write.writer w.index w.member) in
-        let newest_too = told_numbers (timestamp assigned (cut log held) x) (newest assigned (cut log held)) (sym (newest_says x) ∙ passes) in
+        let newest_too = eqb-true (timestamp assigned (cut log held) x) (newest assigned (cut log held)) (sym (newest_says x) ∙ passes) in
         let stamps : timestamp_at assigned log write.writer r.0 ≡ write.timestamp = sym r.2 ∙ newest_too ∙ sym level in
         let above = winner_above assigned log write (Held held) w in
         let writes = is_write assigned log write.writer r.0 (omega arith) in

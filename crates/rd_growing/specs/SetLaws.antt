@@ -3,6 +3,7 @@ use Rattle.std.proofs.Common.{◌≡◌, ℕ, ◌+◌, ◌<◌, ◌≤◌, List,
 use Rattle.std.specs.Prelude.{filter_map}
 use Rattle.std.specs.List.{list_any}
 use Rattle.std.specs.Option.{option_to_list}
+use mathlib.Core.Bool.{or_comm, or_self, or_self_left}
 use Rattle.rd_history.specs.Table.{with_at}
 use Rattle.rd_history.specs.Texts.{Text, text_set, contains_text}
 use Rattle.rd_history.specs.Vector.{VersionVector, join}
@@ -15,7 +16,7 @@ use Rattle.rd_kinds.specs.SixKinds.{of_kind, added}
 use Rattle.rd_kinds.specs.declared.kind.Kind.TheVariants as Kind
 use Rattle.rd_kinds.specs.declared.operation.Op.{Op}
 use Rattle.rd_kinds.specs.declared.operation.Op.TheVariants.{Add}
-use Rattle.rd_growing.specs.Bits.{or_swap, or_third, or_same, or_more}
+use Rattle.rd_growing.specs.Bits.{or_third}
 use Rattle.rd_bytes.specs.TextOrder.{IsRising}
 use Rattle.rd_growing.specs.TextSetLaws.{same_texts, contains_set, contains_both, contains_append, rising_set, is_set}
 use Rattle.rd_growing.specs.Recorded.{Tells, TellsBetween}
@@ -29,7 +30,7 @@ same_sets : (xs ys : List Text) → ((e : Text) → contains_text xs e ≡ conta
 same_sets xs ys same = same_texts (text_set xs) (text_set ys) (rising_set xs) (rising_set ys) (λ e. contains_set xs e ∙ same e ∙ sym (contains_set ys e))
 
 pub join_comm : (a b : List Text) → set_joined a b ≡ set_joined b a
-join_comm a b = same_sets (a ++ b) (b ++ a) (λ e. contains_append a b e ∙ or_swap (contains_text a e) (contains_text b e) ∙ sym (contains_append b a e))
+join_comm a b = same_sets (a ++ b) (b ++ a) (λ e. contains_append a b e ∙ or_comm (contains_text a e) (contains_text b e) ∙ sym (contains_append b a e))
 
 pub join_assoc : (a b c : List Text) → set_joined (set_joined a b) c ≡ set_joined a (set_joined b c)
 join_assoc a b c = same_sets (set_joined a b ++ c) (a ++ set_joined b c) (λ e.
@@ -37,11 +38,11 @@ join_assoc a b c = same_sets (set_joined a b ++ c) (a ++ set_joined b c) (λ e.
     ∙ ap (λ x. contains_text a e || x) (sym (contains_both b c e)) ∙ sym (contains_append a (set_joined b c) e))
 
 pub join_same : (a : List Text) → IsRising a → set_joined a a ≡ a
-join_same a rising = sym (is_set a (a ++ a) rising (λ e. sym (contains_append a a e ∙ or_same (contains_text a e))))
+join_same a rising = sym (is_set a (a ++ a) rising (λ e. sym (contains_append a a e ∙ or_self (contains_text a e))))
 
 pub join_upper : (a b : List Text) → set_joined a (set_joined a b) ≡ set_joined a b
 join_upper a b = same_sets (a ++ set_joined a b) (a ++ b) (λ e.
-    contains_append a (set_joined a b) e ∙ ap (λ x. contains_text a e || x) (contains_both a b e) ∙ or_more (contains_text a e) (contains_text b e) ∙ sym (contains_append a b e))
+    contains_append a (set_joined a b) e ∙ ap (λ x. contains_text a e || x) (contains_both a b e) ∙ or_self_left (contains_text a e) (contains_text b e) ∙ sym (contains_append a b e))
 
 pub join_rising : (a b : List Text) → IsRising (set_joined a b)
 join_rising a b = rising_set (a ++ b)

@@ -2,8 +2,9 @@
 use Rattle.std.proofs.Common.{◌≡◌, List, [], ◌∷◌, ◌++◌, ◌⊎◌, Bool, true, false, ◌||◌, refl, ap, sym, ◌∙◌, subst, ⊎_elim}
 use Rattle.std.specs.Prelude.{fold, if◌then◌else◌}
 use Rattle.std.specs.Str.{bytes_eq}
+use mathlib.Core.Bool.{or_comm, or-false}
 use Rattle.rd_history.specs.Texts.{Text, text_lt, with_text, text_set, contains_text}
-use Rattle.rd_growing.specs.Bits.{or_swap, or_again, or_third, or_none}
+use Rattle.rd_growing.specs.Bits.{or_again, or_third}
 use Rattle.rd_bytes.specs.TextOrder.{IsBelowAll, IsRising}
 use Rattle.rd_bytes.proofs.TextLaws.{lt_trans, lt_or_same, eq_texts, texts_eq, lt_differ}
 
@@ -60,13 +61,13 @@ same_texts (x ∷ xs) (y ∷ ys) p q same =
 -- A SET OF TEXTS
 
 contains_with : (xs : List Text) (x e : Text) → contains_text (with_text xs x) e ≡ (contains_text xs e || bytes_eq e x)
-contains_with [] x e = or_none (bytes_eq e x)
+contains_with [] x e = or-false (bytes_eq e x)
 contains_with (y ∷ ys) x e = go (bytes_eq x y) refl (text_lt x y) (contains_with ys x e)
   where
     go : (same : Bool) → bytes_eq x y ≡ same → (less : Bool) → contains_text (with_text ys x) e ≡ (contains_text ys e || bytes_eq e x)
         → contains_text (if same then y ∷ ys else (if less then x ∷ y ∷ ys else y ∷ with_text ys x)) e ≡ (contains_text (y ∷ ys) e || bytes_eq e x)
     go true is less later = or_again (bytes_eq e y) (contains_text ys e) ∙ ap (λ z. (bytes_eq e y || contains_text ys e) || bytes_eq e z) (sym (eq_texts x y is))
-    go false is true later = or_swap (bytes_eq e x) (contains_text (y ∷ ys) e)
+    go false is true later = or_comm (bytes_eq e x) (contains_text (y ∷ ys) e)
     go false is false later = ap (λ b. bytes_eq e y || b) later ∙ or_third (bytes_eq e y) (contains_text ys e) (bytes_eq e x)
 
 pub below_with : (w : Text) (xs : List Text) (x : Text) → text_lt w x ≡ true → IsBelowAll w xs → IsBelowAll w (with_text xs x)
@@ -95,7 +96,7 @@ rising_with (y ∷ ys) x h = go (bytes_eq x y) refl (text_lt x y) refl (rising_w
     )
 
 contains_all : (base xs : List Text) (e : Text) → contains_text (fold with_text base xs) e ≡ (contains_text base e || contains_text xs e)
-contains_all base [] e = sym (or_none (contains_text base e))
+contains_all base [] e = sym (or-false (contains_text base e))
 contains_all base (x ∷ xs) e = contains_all (with_text base x) xs e ∙ ap (λ b. b || contains_text xs e) (contains_with base x e) ∙ sym (or_third (contains_text base e) (bytes_eq e x) (contains_text xs e))
 
 rising_all : (base xs : List Text) → IsRising base → IsRising (fold with_text base xs)

@@ -7,8 +7,6 @@ mod register;
 mod set;
 mod spelling;
 #[cfg(test)]
-mod spelling_tests;
-#[cfg(test)]
 mod tests;
 mod timestamp;
 

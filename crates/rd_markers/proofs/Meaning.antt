@@ -1,7 +1,8 @@
 -- Merging markers merges the marks that they stand for.
 use Rattle.std.proofs.Common.{rules, ◌↔◌, IsTrue, not, ℕ, ◌<◌, inl, inr, ◌≡◌, Bool, true, false, Option, Some, None, min, nat_lt, nat_eq, nat_le, ◌&&◌, refl, ap, sym, ◌∙◌}
 use Rattle.std.specs.Prelude.{if◌then◌else◌}
-use Rattle.std.proofs.lemmas.Bool.{cases_Bool, cases_eq}
+use Rattle.std.proofs.lemmas.Bool.{cases_Bool, cases_eq, eq-eqb}
+use Rattle.rd_model.proofs.Taking.{same_set-same}
 use Rattle.rd_history.specs.Table.{identity_limit}
 use Rattle.rd_history.specs.Vector.{IdentitySet, united, with_member}
 use Rattle.rd_history.proofs.CutLaws.{with_member_is, with_member_other}
@@ -75,12 +76,6 @@ pub both_begun : (r : Bool) (view owner seen view' owner' seen' : ℕ) → nat_e
     → r ≡ is_same_mark (begun (Some (Initialized view owner seen))) (begun (Some (Initialized view' owner' seen')))
 both_begun r view owner seen view' owner' seen' e f same = same ∙ and_both (nat_eq view view') (nat_eq owner owner') (same_set (members_in seen) (members_in seen')) e f
 
-pub equal_test : (a b : ℕ) → a ≡ b → nat_eq a b ≡ true
-equal_test a b e = grind rules
-
-pub test_equal : (a b : ℕ) → nat_eq a b ≡ true → a ≡ b
-test_equal a b e = grind rules
-
 seen_choice : (b m : Bool) (x y : Option Marker) (p q : Option Mark) → begun x ≡ p → begun y ≡ q → (m ≡ true → p ≡ q) → begun (if b && not m then x else y) ≡ (if b then p else q)
 seen_choice true true x y p q e f same = f ∙ sym (same refl)
 seen_choice true false x y p q e f same = e
@@ -109,9 +104,6 @@ performed-seen id view None = refl
 performed-seen id view (Some (Performed owner at upto)) = refl
 performed-seen id view (Some (Initialized first owner seen)) = performed_choice (nat_le first view && not (members_in seen id)) _ _ refl refl
 
-same_set_itself : (s : IdentitySet) → same_set s s ≡ true
-same_set_itself s = same_all s s (λ i l. refl)
-
 -- one more member changes a set that hasn't got it
 same_set_with : (s : IdentitySet) (id : ℕ) → id < identity_limit → same_set s (with_member s id) ≡ s id
 same_set_with s id l = elim (cases_Bool (s id)) [
@@ -122,17 +114,14 @@ same_set_with s id l = elim (cases_Bool (s id)) [
   ]
 ]
 
-same_test : (n : ℕ) → nat_eq n n ≡ true
-same_test n = equal_test n n refl
-
 double_not : (b : Bool) → b ≡ not (not b)
 double_not true = refl
 double_not false = refl
 
 seen_again : (b : Bool) (view owner : ℕ) (s : IdentitySet) (id : ℕ) → id < identity_limit
     → is_same_mark (Some (record { view = view; owner = owner; seen = s })) (if b then Some (record { view = view; owner = owner; seen = with_member s id }) else Some (record { view = view; owner = owner; seen = s })) ≡ not (b && not (s id))
-seen_again true view owner s id l = sym (and_both (nat_eq view view) (nat_eq owner owner) _ (same_test view) (same_test owner)) ∙ same_set_with s id l ∙ double_not (s id)
-seen_again false view owner s id l = sym (and_both (nat_eq view view) (nat_eq owner owner) _ (same_test view) (same_test owner)) ∙ same_set_itself s
+seen_again true view owner s id l = sym (and_both (nat_eq view view) (nat_eq owner owner) _ (eq-eqb view view refl) (eq-eqb owner owner refl)) ∙ same_set_with s id l ∙ double_not (s id)
+seen_again false view owner s id l = sym (and_both (nat_eq view view) (nat_eq owner owner) _ (eq-eqb view view refl) (eq-eqb owner owner refl)) ∙ same_set-same s
 
 -- a mark stays the same where it isn't still to be seen
 pub same_seen : (id view : ℕ) (o : Option Marker) → id < identity_limit → is_same_mark (begun o) (seen_mark id view (begun o)) ≡ not (is_unseen_by id view o)

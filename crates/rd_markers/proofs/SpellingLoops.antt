@@ -6,6 +6,7 @@ use Rattle.std.specs.FinMap as map
 use Rattle.std.proofs.lemmas.List.{append-nil, flat_map_more, length-append}
 use Rattle.std.proofs.lemmas.Bool.{cases_eq, cases_lt, lt-ltb, le-ltb}
 use Rattle.std.proofs.lemmas.List.Elements.{filter_map-append}
+use mathlib.Core.Bool.{and-false}
 use Rattle.rd_history.specs.Table.{identity_limit}
 use Rattle.rd_bytes.specs.declared.fault.Fault.{Fault}
 use Rattle.rd_bytes.specs.declared.fault.FieldError.{FieldError}
@@ -140,15 +141,11 @@ ids_more marks ids next n there added each i = ⊎_elim
     (λ (same : i ≡ n). let t : (i == n) ≡ true = grind rules in added i ∙ ap (λ (b : Bool). b || members_in ids i) t ∙ sym (here_true marks n i same there))
     (λ (ne : i ≡ n → ⊥). let t : (i == n) ≡ false = grind rules in added i ∙ ap (λ (b : Bool). b || members_in ids i) t ∙ each i ∙ ap (λ (b : Bool). b && performed_in marks i) (sym (below_more i n ne))) (cases_eq i n)
 
-and_false : (b : Bool) → (b && false) ≡ false
-and_false true = refl
-and_false false = refl
-
 pub ids_same : (marks : Marks) (ids n : ℕ) → performed_in marks n ≡ false → ((i : ℕ) → members_in ids i ≡ (nat_lt i n && performed_in marks i)) → (i : ℕ) → members_in ids i ≡ (nat_lt i (n + 1) && performed_in marks i)
 ids_same marks ids n none each i = ⊎_elim
     (λ (same : i ≡ n).
     let here : performed_in marks i ≡ false = ap (performed_in marks) same ∙ none in
-    each i ∙ ap (λ (b : Bool). nat_lt i n && b) here ∙ and_false (nat_lt i n) ∙ sym (ap (λ (b : Bool). nat_lt i (n + 1) && b) here ∙ and_false (nat_lt i (n + 1))))
+    each i ∙ ap (λ (b : Bool). nat_lt i n && b) here ∙ and-false (nat_lt i n) ∙ sym (ap (λ (b : Bool). nat_lt i (n + 1) && b) here ∙ and-false (nat_lt i (n + 1))))
     (λ (ne : i ≡ n → ⊥). each i ∙ ap (λ (b : Bool). b && performed_in marks i) (sym (below_more i n ne))) (cases_eq i n)
 
 -- SOMEBODY HAS SEEN A MARK

@@ -9,30 +9,14 @@ use Rattle.std.specs.declared.cmp.Ordering.TheVariants.{Less, Equal, Greater}
 use Rattle.std.specs.Ordering.{is_lt, is_eq, ordering_then}
 use Rattle.std.specs.Str.{bytes_eq}
 use Rattle.std.specs.Cmp.Lexicographic.{texts_ties}
+use Rattle.rd_bytes.proofs.TextLaws.{lt_is}
+use Rattle.rd_bytes.specs.TextOrder.{text_order}
 use Rattle.rd_history.specs.Texts.{Text, text_lt, with_text, text_set}
-use Rattle.rd_meaning.specs.Records.{text_order}
 use Rattle.std.specs.List.{filter_map, fold, cons_option}
 use Rattle.std.specs.Option.{option_to_list}
 use Rattle.std.proofs.lemmas.List.Elements.{filter_map-append}
 use Rattle.std.proofs.lemmas.List.Sums.{fold-append}
 use Rattle.std.proofs.Common.{Option, None, Some}
-
--- THE ORDER OF TEXTS IS THAT OF THEIR BYTES
-
-by_first : (less same below : Bool) (rest : Ordering) → (same ≡ true → less ≡ false) → below ≡ is_lt rest → (cond same below less) ≡ is_lt (ordering_then (cond less Less (cond same Equal Greater)) rest)
-by_first true true below rest never e = absurd (let f = never refl in cc f)
-by_first true false below rest never e = refl
-by_first false true below rest never e = e
-by_first false false below rest never e = refl
-
-equal_not_less : (x y : ℕ) → (x == y) ≡ true → nat_lt x y ≡ false
-equal_not_less x y e = grind (arith, nat_tests)
-
-lt_is : (x y : Text) → text_lt x y ≡ is_lt (text_order x y)
-lt_is [] [] = refl
-lt_is [] (y ∷ ys) = refl
-lt_is (x ∷ xs) [] = refl
-lt_is (x ∷ xs) (y ∷ ys) = by_first (nat_lt x y) (x == y) (text_lt xs ys) (text_order xs ys) (equal_not_less x y) (lt_is xs ys)
 
 -- A TEXT BESIDE THE FIRST OF A LIST
 

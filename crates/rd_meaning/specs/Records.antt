@@ -1,9 +1,5 @@
 -- Lists of records, and the histories that they spell.
 use Rattle.std.specs.Prelude.{◌≡◌, List, map}
-use Rattle.std.specs.declared.cmp.Ordering.{Ordering}
-use Rattle.std.specs.Ordering.{nat_cmp}
-use Rattle.std.specs.Cmp.Lexicographic.{slice_cmp}
-use Rattle.rd_history.specs.Texts.{Text}
 use Rattle.rd_history.specs.History.{Action as Meant, History, Stamped, all_records, IsHistory}
 use Rattle.rd_vectors.specs.Vectors.{number_at}
 use Rattle.rd_kinds.specs.declared.operation.Op.{Op}
@@ -14,10 +10,6 @@ use Rattle.rd_meaning.specs.declared.record.Record.{Record}
 abbrev pub action_of : Action → Meant Op
 action_of (Operation op) = Meant.Operation op
 action_of (Prune removed) = Meant.Prune removed
-
--- the order of bytes
-abbrev pub text_order : Text → Text → Ordering
-text_order = slice_cmp nat_cmp
 
 -- a record as histories have it
 abbrev pub stamped : Record → Stamped Op

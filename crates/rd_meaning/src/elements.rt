@@ -4,7 +4,8 @@ ghost use Rattle.std.specs.Option.{option_to_list};
 ghost use Rattle.rd_history.specs.Texts.{text_set, with_text};
 ghost use Rattle.rd_kinds.specs.SixKinds.{added};
 ghost use Rattle.rd_meanings.specs.Growing.{found};
-ghost use Rattle.rd_meaning.specs.Records.{action_of, text_order};
+ghost use Rattle.rd_bytes.specs.TextOrder.{text_order};
+ghost use Rattle.rd_meaning.specs.Records.{action_of};
 ghost use Rattle.rd_meaning.specs.Touching.{is_shown};
 
 use crate::record::{Action, Record};

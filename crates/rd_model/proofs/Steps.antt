@@ -23,7 +23,7 @@ bytes_eq-tells xs ys e = (slice_eq-Decides Decides-eqb xs ys _ refl).0 e
 pub with_text_at-same : {X : Type 0} (f : Text → X) (key : Text) (x : X) → with_text_at f key x key ≡ x
 with_text_at-same f key x = ap (λ b. if b then x else f key) (bytes_eq-same key)
 
-one_is_enough : (n : ℕ) → 0 < n → needed Level.Local n ≡ Some 1
+pub one_is_enough : (n : ℕ) → 0 < n → needed Level.Local n ≡ Some 1
 one_is_enough n h = let e : nat_le 1 n ≡ true = grind (arith, nat_tests) in rw e refl
 
 -- A KEY THAT IS NOT DECLARED

@@ -3,6 +3,7 @@ use Rattle.std.proofs.Common.{◌≡◌, ℕ, List, [], ◌∷◌, length, refl,
 use Rattle.std.specs.Prelude.{if◌then◌else◌, option_map, find, fold, map, filter, nat_lt, nat_eq, ◌==◌}
 use Rattle.std.specs.List.{list_any, list_all}
 use Rattle.std.specs.Str.{bytes_eq}
+use Rattle.std.proofs.lemmas.Bool.{eq-eqb}
 use Rattle.rd_history.specs.Table.{identities}
 use Rattle.rd_history.specs.Texts.{Text}
 use Rattle.rd_history.specs.Vector.{IdentitySet}
@@ -106,9 +107,6 @@ module _ {Kind Op Shown : Type 0} where
 
 -- WHETHER AN ENTRY CHANGED
 
-same_again : (n : ℕ) → nat_eq n n ≡ true
-same_again n = (Decides-eqb n n).1 refl
-
 all_true : {X : Type 0} (p : X → Bool) → ((x : X) → p x ≡ true) → (xs : List X) → list_all p xs ≡ true
 all_true p each [] = refl
 all_true p each (x ∷ xs) = ap (λ b. b && list_all p xs) (each x) ∙ all_true p each xs
@@ -117,16 +115,16 @@ same_member : (b : Bool) → (if b then b else not b) ≡ true
 same_member true = refl
 same_member false = refl
 
-same_set-same : (set : IdentitySet) → same_set set set ≡ true
+pub same_set-same : (set : IdentitySet) → same_set set set ≡ true
 same_set-same set = all_true (λ i. if set i then set i else not (set i)) (λ i. same_member (set i)) identities
 
 is_same_mark-same : (o : Option Mark) → is_same_mark o o ≡ true
 is_same_mark-same None = refl
-is_same_mark-same (Some mark) = ap (λ b. b && (mark.owner == mark.owner) && same_set mark.seen mark.seen) (same_again mark.view) ∙ ap (λ b. b && same_set mark.seen mark.seen) (same_again mark.owner) ∙ same_set-same mark.seen
+is_same_mark-same (Some mark) = ap (λ b. b && (mark.owner == mark.owner) && same_set mark.seen mark.seen) (eq-eqb mark.view mark.view refl) ∙ ap (λ b. b && same_set mark.seen mark.seen) (eq-eqb mark.owner mark.owner refl) ∙ same_set-same mark.seen
 
 pub is_unchanged-same : {Op : Type 0} (entry : Entry Op) → is_unchanged entry entry ≡ true
 is_unchanged-same entry =
-    all_true _ (λ i. ap (λ b. b && is_same_mark (entry.marks i) (entry.marks i)) (same_again (length (entry.history i))) ∙ is_same_mark-same (entry.marks i)) identities
+    all_true _ (λ i. ap (λ b. b && is_same_mark (entry.marks i) (entry.marks i)) (eq-eqb (length (entry.history i)) (length (entry.history i)) refl) ∙ is_same_mark-same (entry.marks i)) identities
 
 some_left : {X Y : Type 0} (p : Y → Bool) (f : X → Y) (xs : List X) → nat_lt 0 (length (filter p (map f xs))) ≡ list_any (λ x. p (f x)) xs
 some_left p f [] = refl

@@ -5,6 +5,7 @@ use Rattle.std.specs.List.{list_any}
 use Rattle.std.proofs.lemmas.Simd.{map-map}
 use Rattle.std.proofs.lemmas.List.{map-append, append-nil}
 use Rattle.std.proofs.lemmas.List.Elements.{All-head, All-tail, filter-append}
+use Rattle.rd_history.proofs.CutLaws.{uncleaned}
 use Rattle.rd_history.specs.Texts.{Text}
 use Rattle.rd_history.specs.Vector.{VersionVector, IdentitySet}
 use Rattle.rd_history.specs.History.{History, at, versions}
@@ -23,7 +24,6 @@ use Rattle.rd_markers.specs.Marks.{performed_in}
 use Rattle.rd_kinds.specs.declared.shown.Shown.{Shown}
 use Rattle.rd_lattice.specs.declared.replica.Replica.{Ghosts}
 use Rattle.rd_envelope.specs.Words.{parts_of}
-use Rattle.rd_envelope.proofs.Numbers.{kept}
 use Rattle.rd_node.specs.declared.node.Node.{Node}
 use Rattle.rd_node.specs.declared.key.KeyState.{KeyState}
 use Rattle.rd_node.specs.declared.change.Change.{Change}
@@ -72,10 +72,6 @@ module _ {X Y : Type 0} (p q : X → Bool) (f : X → Y) where
 
   pub passing_none : (xs : List X) (x : X) → (p x && q x) ≡ false → map f (filter q (filter p (xs ++ x ∷ []))) ≡ map f (filter q (filter p xs))
   passing_none xs x either = passing_more xs x ∙ ap (λ ys. map f (filter q (filter p xs)) ++ ys) (passes_not x (p x) (q x) refl refl either) ∙ append-nil (map f (filter q (filter p xs)))
-
-pub neither_false : (b : Bool) → (b && false) ≡ false
-neither_false true = refl
-neither_false false = refl
 
 -- WHAT COUNTS AS SENT
 
@@ -157,7 +153,7 @@ module _ {T Kind Op Delta : Type 0} (node : nodes.Node Kind Op Shown) (keys : Li
 module _ {T Kind Op Delta : Type 0} (kind_of : T → Kind) (IsDataOf : T → History Op → VersionVector → IdentitySet → Type 0) (IsDeltaOf : Delta → History Op → ℕ → ℕ → ℕ → Type 0) (kinds : Text → Kind) (logs : Text → History Op) (id : ℕ) (node : nodes.Node Kind Op Shown) where
   -- the own number is how many own records the history has
   own_is : (state : KeyState T Kind Op Delta) → IsHeldBy kind_of IsDataOf IsDeltaOf kinds logs id node state → own_number id state ≡ at (node.entries state.name).history id
-  own_is state h = h.held.held.image.holds.numbers id ∙ kept (performed_in (parts_of state.entry).marks) (versions (node.entries state.name).history) id h.unpruned
+  own_is state h = h.held.held.image.holds.numbers id ∙ uncleaned (performed_in (parts_of state.entry).marks) (versions (node.entries state.name).history) id h.unpruned
 
   -- a peer is behind where the model says so
   pub behind_is : (D : Replication Kind Op Shown) (peer : ℕ) (state : KeyState T Kind Op Delta) → IsHeldBy kind_of IsDataOf IsDeltaOf kinds logs id node state → is_behind id peer state ≡ steps.is_behind D node peer (state_in node state)
@@ -199,7 +195,7 @@ module _ {T Kind Op Delta : Type 0} {ghosts : Ghosts T Kind Op Delta} (kind_of :
       → (i : ℕ) → flushed_to (own_number code.id state) (peers_of code.id code.members.items) (number_at state.flushed i) i
       ≡ (if list_any (λ j. j == i) (others (one_step_later node).view (one_step_later node).identity) then at entry.history (one_step_later node).identity else before i)
   flushed_is state entry before unpruned stands i =
-      let own : own_number code.id state ≡ at entry.history code.id = stands.held.image.holds.numbers code.id ∙ kept (performed_in (parts_of state.entry).marks) (versions entry.history) code.id unpruned in
+      let own : own_number code.id state ≡ at entry.history code.id = stands.held.image.holds.numbers code.id ∙ uncleaned (performed_in (parts_of state.entry).marks) (versions entry.history) code.id unpruned in
       (λ k. if list_any (λ j. j == i) (sym peers_are k) then own k else stands.sent i k)
       ∙ ap (λ id. if list_any (λ j. j == i) (others (one_step_later node).view (one_step_later node).identity) then at entry.history id else before i) (sym s.identity)
 

@@ -7,6 +7,7 @@ use Rattle.std.proofs.lemmas.Bool.Decides.{Decides-eqb}
 use Rattle.std.proofs.lemmas.List.{map-append, append-nil}
 use Rattle.std.proofs.lemmas.List.Elements.{filter-append}
 use Rattle.std.proofs.lemmas.Simd.{map-map}
+use Rattle.std.proofs.lemmas.Bool.{and_parts}
 use Rattle.rd_history.specs.Texts.{Text}
 use Rattle.rd_history.specs.Vector.{VersionVector, IdentitySet}
 use Rattle.rd_history.specs.History.{History}
@@ -81,12 +82,8 @@ module _ {T Kind Op Delta : Type 0} where
 
 -- POSTS
 
-and_first : (a b : Bool) → (a && b) ≡ true → a ≡ true
-and_first true b e = refl
-and_first false b e = e
-
 some_left : (n : ℕ) (b : Bool) → 0 < n → (nat_eq n 0 && b) ≡ true → ⊥
-some_left n b some e = let none = (Decides-eqb n 0).0 (and_first (nat_eq n 0) b e) in omega arith
+some_left n b some e = let none = (Decides-eqb n 0).0 (and_parts (nat_eq n 0) b e).0 in omega arith
 
 none_left : (n : ℕ) → 0 < n → nat_eq n 0 ≡ true → ⊥
 none_left n some e = let none = (Decides-eqb n 0).0 e in omega arith

@@ -12,7 +12,3 @@ not_a_group variant.Nothing other is = cc is
 not_a_group variant.TooOld other is = cc is
 not_a_group variant.NoDelta other is = cc is
 not_a_group (variant.Group group) other is = other group refl
-
-pub untrue : (b : Bool) → (b ≡ true → ⊥) → b ≡ false
-untrue true no_truth = absurd (no_truth refl)
-untrue false no_truth = refl

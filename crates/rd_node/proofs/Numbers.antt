@@ -1,7 +1,7 @@
 -- Numbers of version vectors after changes.
 use Rattle.std.proofs.Common.{max, ◌≡◌, ◌≢◌, ℕ, ◌+◌, ◌<◌, ◌≤◌, refl, sym, ap, ◌∙◌, subst, arith, inl, inr, Bool, true, false}
 use Rattle.std.specs.Prelude.{Result, Ok, Err, OnOk, OnErr, if◌then◌else◌, ◌==◌}
-use Rattle.std.proofs.lemmas.Bool.{cases_eq, cases_lt}
+use Rattle.std.proofs.lemmas.Bool.{cases_eq, cases_lt, eq-eqb}
 use Rattle.std.proofs.lemmas.Bool.Decides.{Decides-eqb, eqb_tells}
 use Rattle.rd_history.specs.Table.{identity_limit, with_at}
 use Rattle.rd_vectors.specs.Vectors.{Numbers, number_at, raised, removed, IsNormal}
@@ -20,9 +20,6 @@ own_after numbers (Ok a) old new id ok err = let e = ap (λ n. number_at n id) o
 own_after numbers (Err e) old new id ok err = let same = ap (λ x. number_at (numbers x) id) err in omega (arith, same)
 
 -- TWO STEPS THAT SET A NUMBER
-
-itself : (i : ℕ) → (i == i) ≡ true
-itself i = (Decides-eqb i i).1 refl
 
 not_itself : (i j : ℕ) → j ≢ i → (i == j) ≡ false
 not_itself i j other = elim (eqb_tells i j) [ inl is ↦ absurd (other (sym is.1)) | inr isnt ↦ isnt.0 ]
@@ -47,8 +44,8 @@ pub raised_at : (numbers : Numbers) (id own : ℕ) → id < identity_limit → I
 raised_at numbers id own member normal i = elim (cases_eq i id) [
   | inl same ↦
       let small : i < identity_limit = subst (λ k. k < identity_limit) (sym same) member in
-      let none : number_at (removed numbers id) id ≡ 0 = removed_at numbers id normal id ∙ ap (λ b. if b then 0 else number_at numbers id) (itself id) in
-      number_at-raised_same (removed numbers id) id own i small same ∙ ap (λ n. max n own) none ∙ (let e : max 0 own ≡ own = omega arith in e) ∙ sym (ap (λ b. if b then own else number_at numbers i) (ap (λ k. id == k) same ∙ itself id))
+      let none : number_at (removed numbers id) id ≡ 0 = removed_at numbers id normal id ∙ ap (λ b. if b then 0 else number_at numbers id) (eq-eqb id id refl) in
+      number_at-raised_same (removed numbers id) id own i small same ∙ ap (λ n. max n own) none ∙ (let e : max 0 own ≡ own = omega arith in e) ∙ sym (ap (λ b. if b then own else number_at numbers i) (ap (λ k. id == k) same ∙ eq-eqb id id refl))
   | inr other ↦ elim (cases_lt i identity_limit) [
     | inl small ↦ number_at-raised_other (removed numbers id) id own i small other ∙ removed_at numbers id normal i ∙ ap (λ b. if b then 0 else number_at numbers i) (not_itself id i other) ∙ sym (ap (λ b. if b then own else number_at numbers i) (not_itself id i other))
     | inr large ↦ number_at-numbers_of_above (with_at (number_at (removed numbers id)) id (max (number_at (removed numbers id) id) own)) i large ∙ sym (number_at_above numbers normal i large) ∙ sym (ap (λ b. if b then own else number_at numbers i) (not_itself id i other))

@@ -2,6 +2,8 @@
 use Rattle.std.proofs.Common.{◌≡◌, ℕ, refl, sym, ap, ◌∙◌, Bool, true, false, inl, inr}
 use Rattle.std.specs.Prelude.{nat_lt, ◌||◌}
 use Rattle.std.proofs.lemmas.Bool.{cases_Bool}
+use Rattle.rd_history.proofs.CutLaws.{uncleaned}
+use mathlib.Core.Bool.{or-true, or-false}
 use Rattle.rd_history.specs.Texts.{Text}
 use Rattle.rd_history.specs.Vector.{VersionVector, IdentitySet}
 use Rattle.rd_history.specs.History.{History, at, versions, union, is_pruned, IsExactlyPruned}
@@ -12,17 +14,8 @@ use Rattle.rd_model.specs.Step.{is_strange_entry}
 use Rattle.rd_vectors.specs.Vectors.{number_at}
 use Rattle.rd_markers.specs.Marks.{performed_in}
 use Rattle.rd_envelope.specs.Images.{Parts, StandsFor}
-use Rattle.rd_envelope.proofs.Numbers.{kept}
 use Rattle.rd_envelope.proofs.Entries.{pruned_is}
 use Rattle.rd_node.specs.Members.{ArePruneFree}
-
-either_true : (b : Bool) → (b || true) ≡ true
-either_true true = refl
-either_true false = refl
-
-either_false : (b : Bool) → (b || false) ≡ b
-either_false true = refl
-either_false false = refl
 
 -- ENTRIES
 
@@ -32,16 +25,16 @@ module _ {State Op : Type 0} (D : State → History Op → VersionVector → Ide
       → (performed_in two.marks id || nat_lt (number_at one.versions id) (number_at two.versions id)) ≡ is_strange_entry id before other
   strange_is one two log before other id unpruned s t =
       let pruned : performed_in two.marks id ≡ is_pruned other.history id = pruned_is D two log other.history t.histories t.taken t.holds id in
-      let mine : number_at one.versions id ≡ at before.history id = s.holds.numbers id ∙ kept (performed_in one.marks) (versions before.history) id unpruned in
+      let mine : number_at one.versions id ≡ at before.history id = s.holds.numbers id ∙ uncleaned (performed_in one.marks) (versions before.history) id unpruned in
       elim (cases_Bool (performed_in two.marks id)) [
         | inl gone ↦
             ap (λ b. b || nat_lt (number_at one.versions id) (number_at two.versions id)) gone
-            ∙ sym (ap (λ b. nat_lt (at before.history id) (at other.history id) || b) (sym pruned ∙ gone) ∙ either_true (nat_lt (at before.history id) (at other.history id)))
+            ∙ sym (ap (λ b. nat_lt (at before.history id) (at other.history id) || b) (sym pruned ∙ gone) ∙ or-true (nat_lt (at before.history id) (at other.history id)))
         | inr stays ↦
-            let theirs : number_at two.versions id ≡ at other.history id = t.holds.numbers id ∙ kept (performed_in two.marks) (versions other.history) id stays in
+            let theirs : number_at two.versions id ≡ at other.history id = t.holds.numbers id ∙ uncleaned (performed_in two.marks) (versions other.history) id stays in
             ap (λ b. b || nat_lt (number_at one.versions id) (number_at two.versions id)) stays
             ∙ (λ i. nat_lt (mine i) (theirs i))
-            ∙ sym (ap (λ b. nat_lt (at before.history id) (at other.history id) || b) (sym pruned ∙ stays) ∙ either_false (nat_lt (at before.history id) (at other.history id)))
+            ∙ sym (ap (λ b. nat_lt (at before.history id) (at other.history id) || b) (sym pruned ∙ stays) ∙ or-false (nat_lt (at before.history id) (at other.history id)))
       ]
 
   -- histories without prunes, together

@@ -2,6 +2,7 @@
 use Rattle.std.proofs.Common.{◌≡◌, ℕ, sym, ap, ◌∙◌, subst, false}
 use Rattle.std.specs.Prelude.{◌==◌}
 use Rattle.std.specs.List.{list_any}
+use Rattle.rd_history.proofs.CutLaws.{uncleaned}
 use Rattle.rd_history.specs.Texts.{Text}
 use Rattle.rd_history.specs.Vector.{VersionVector, IdentitySet}
 use Rattle.rd_history.specs.History.{History, at, versions}
@@ -15,7 +16,6 @@ use Rattle.rd_lattice.specs.declared.replica.Replica.{Ghosts}
 use Rattle.rd_envelope.specs.declared.envelope.Envelope.{Envelope}
 use Rattle.rd_envelope.specs.Images.{StandsFor}
 use Rattle.rd_envelope.specs.Words.{parts_of}
-use Rattle.rd_envelope.proofs.Numbers.{kept as kept_number}
 use Rattle.rd_deltalog.specs.Contents.{LogParts}
 use Rattle.rd_deltalog.specs.Images.{StandsForLog}
 use Rattle.rd_node.specs.declared.node.Node.{Node}
@@ -47,8 +47,8 @@ module _ {T Kind Op Delta : Type 0} (kind_of : T → Kind) (IsDataOf : T → His
   own_kept : (one two : Envelope T Kind Op Delta) (log : History Op) (before after : model.Entry Op) → performed_in (parts_of one).marks id ≡ false → KeepsOwn kind_of id one two → StandsFor IsDataOf (parts_of one) log before → StandsFor IsDataOf (parts_of two) log after
       → at after.history id ≡ at before.history id
   own_kept one two log before after unpruned kept s t =
-      sym (t.holds.numbers id ∙ kept_number (performed_in (parts_of two).marks) (versions after.history) id (kept.unpruned unpruned)) ∙ kept.own unpruned
-      ∙ s.holds.numbers id ∙ kept_number (performed_in (parts_of one).marks) (versions before.history) id unpruned
+      sym (t.holds.numbers id ∙ uncleaned (performed_in (parts_of two).marks) (versions after.history) id (kept.unpruned unpruned)) ∙ kept.own unpruned
+      ∙ s.holds.numbers id ∙ uncleaned (performed_in (parts_of one).marks) (versions before.history) id unpruned
 
   -- what is held of a key after the change
   pub stands_after : (state : KeyState T Kind Op Delta) (change : Change T Kind Op Delta) → performed_in (parts_of state.entry).marks id ≡ false → IsLogged kind_of id state → IsKept kind_of id state change → LeadsTo IsDataOf logs old new state change

@@ -10,6 +10,8 @@ ghost use Rattle.rd_model.specs.Message.{Message as Sent};
 ghost use Rattle.rd_model.specs.Node.{Node as Member, state_of};
 ghost use Rattle.rd_model.specs.Step.{news_for, wanted_from, gossip_to, answer_to, status_of};
 ghost use Rattle.rd_kinds.specs.declared.shown.Shown.{Shown};
+ghost use Rattle.rd_envelope.specs.Images.{StandsFor};
+ghost use Rattle.rd_envelope.specs.Words.{parts_of};
 ghost use Rattle.rd_envelope_codec.specs.Entries.{entry_digest};
 ghost use Rattle.rd_messages.specs.Standing.{digest_told, StandsForKeyed, StandsForPosts};
 ghost use Rattle.rd_node.specs.Keys.{declared_by};
@@ -36,13 +38,18 @@ fn told_of(digests: &[Keyed<Digest>], key: &Text) -> Option<Digest>
     }
 }
 
-/// Whether a digest is told, and is this one.
-fn is_told(told: Option<Digest>, own: Digest) -> bool
-    ensures { result ≡ is_told told own }
+/// Whether a digest is told, and is the one of the key's entry, which is made only then.
+fn is_alike<T: SpelledData>(
+    alloc: Global,
+    state: &KeyState<T>,
+    told: Option<Digest>,
+) -> Result<bool, Memory>
+    ensures { (log : History T.Op) (entry : model.Entry T.Op) → StandsFor T.IsDataOf (parts_of state.now.entry) log entry
+        → IfOk result (λ alike. alike ≡ is_told told (entry_digest T.byte_of T.history_spelled (T.kind_of state.now.entry.value) entry)) }
 {
     match told {
-        Some(told) => told == own,
-        None => false,
+        Some(told) => Ok(told == digest(alloc, &state.entry)?),
+        None => Ok(false),
     }
 }
 
@@ -66,7 +73,7 @@ fn compared(has_records: bool, was_told: bool, is_alike: bool) -> Comparison
     }
 }
 
-/// How a key stands to the digests that another told. Its own digest is made once.
+/// How a key stands to the digests that another told. Its own digest is made at most once.
 fn compare<T: SpelledData>(
     alloc: Global,
     state: &KeyState<T>,
@@ -77,8 +84,7 @@ fn compare<T: SpelledData>(
         → IfOk result (IsComparison D (map digest_told digests.now) (state_of node (declared_by state.now))) }
 {
     let told = told_of(digests, &state.name);
-    let own = digest(alloc, &state.entry)?;
-    let is_alike = is_told(told, own);
+    let is_alike = is_alike(alloc, state, told)?;
     let has_records = state.entry.has_records();
     Ok(compared(has_records, told.is_some(), is_alike))
 }

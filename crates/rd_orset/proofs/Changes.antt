@@ -7,11 +7,13 @@ use Rattle.std.specs.Ordering.{nat_cmp, eq_by_cmp}
 use Rattle.std.specs.Cmp.Lexicographic.{slice_cmp, nat_list_cmp_total}
 use Rattle.std.specs.FinSet as set
 use Rattle.std.specs.FinSet.{contains-union, contains-retain, contains-empty, contains-difference, contains-from_list}
+use Rattle.std.proofs.lemmas.Bool.{or_cases, or_left, or_right}
+use mathlib.Core.Bool.{or-false}
 use Rattle.rd_history.specs.Texts.{Text, text_set, contains_text}
 use Rattle.rd_history.specs.Vector.{VersionVector}
 use Rattle.rd_vectors.specs.declared.id.Dot.{Dot}
 use Rattle.rd_kinds.specs.declared.operation.Op.TheVariants.{Remove}
-use Rattle.rd_growing.specs.Bits.{either_true, left_true, right_true, same_bits, or_none}
+use Rattle.rd_growing.specs.Bits.{same_bits}
 use Rattle.rd_bytes.proofs.TextLaws.{eq_texts, texts_eq}
 use Rattle.rd_growing.specs.TextSetLaws.{same_texts, contains_set, rising_set}
 use Rattle.rd_orset.specs.declared.set.Placed.{Placed}
@@ -31,15 +33,15 @@ any_map test f (x ∷ xs) = ap (λ b. test (f x) || b) (any_map test f xs)
 -- a test that one of a list's keys passes
 keyed : (t : List ℕ → Bool) (ks : List (List ℕ)) (k : List ℕ) → list_any (eq_by_cmp (slice_cmp nat_cmp) k) ks ≡ true → t k ≡ true → list_any t ks ≡ true
 keyed t (x ∷ ks) k c e = ⊎_elim
-    (λ (here : eq_by_cmp (slice_cmp nat_cmp) k x ≡ true). left_true _ _ (ap t (sym (same_item k x here)) ∙ e))
-    (λ (later : list_any (eq_by_cmp (slice_cmp nat_cmp) k) ks ≡ true). right_true _ _ (keyed t ks k later e)) (either_true _ _ c)
+    (λ (here : eq_by_cmp (slice_cmp nat_cmp) k x ≡ true). or_left _ _ (ap t (sym (same_item k x here)) ∙ e))
+    (λ (later : list_any (eq_by_cmp (slice_cmp nat_cmp) k) ks ≡ true). or_right _ _ (keyed t ks k later e)) (or_cases _ _ c)
 keyed t [] k c e = absurd (cc c)
 
 some_key : (t : List ℕ → Bool) (ks : List (List ℕ)) → list_any t ks ≡ true → (k : List ℕ) × (list_any (eq_by_cmp (slice_cmp nat_cmp) k) ks ≡ true) × (t k ≡ true)
 some_key t [] c = absurd (cc c)
 some_key t (x ∷ ks) c = ⊎_elim
-    (λ (here : t x ≡ true). (x, left_true _ _ (itself x), here))
-    (λ (later : list_any t ks ≡ true). let f = some_key t ks later in (f.0, right_true _ _ f.1, f.2)) (either_true _ _ c)
+    (λ (here : t x ≡ true). (x, or_left _ _ (itself x), here))
+    (λ (later : list_any t ks ≡ true). let f = some_key t ks later in (f.0, or_right _ _ f.1, f.2)) (or_cases _ _ c)
 
 -- a test of a set's items is the test of the list's dots
 pub any_items : (t : List ℕ → Bool) (ps : List Placed) → list_any t (set.items (set_of ps)) ≡ list_any (λ p. t (key_of p)) ps
@@ -110,7 +112,7 @@ absorbed_is a v d = same_dots _ _ (λ k.
     go false s false m = refl
 
 with_none : (a : Dots) → a ≡ set.union a set.empty
-with_none a = same_dots _ _ (λ k. sym (contains-union nat_list_cmp_total a set.empty k ∙ ap (λ x. set.contains a k || x) (contains-empty (slice_cmp nat_cmp) k) ∙ or_none (set.contains a k)))
+with_none a = same_dots _ _ (λ k. sym (contains-union nat_list_cmp_total a set.empty k ∙ ap (λ x. set.contains a k || x) (contains-empty (slice_cmp nat_cmp) k) ∙ or-false (set.contains a k)))
 
 pub removed_is : (a : Dots) (e : Text) (dot : Dot) → set.retain a (λ k. not (is_element e k)) ≡ set_applied a (Remove e) dot
 removed_is a e dot = with_none (set.retain a (λ k. not (is_element e k)))
@@ -132,14 +134,14 @@ is_new dot k e = eq_by_cmp (slice_cmp nat_cmp) k (key e dot.origin dot.seq)
 text_of_new : (dot : Dot) (k : List ℕ) (es : List Text) → list_any (is_new dot k) es ≡ true → (e : Text) × (contains_text es e ≡ true) × (k ≡ key e dot.origin dot.seq)
 text_of_new dot k [] c = absurd (cc c)
 text_of_new dot k (x ∷ es) c = ⊎_elim
-    (λ (here : is_new dot k x ≡ true). (x, left_true _ _ (texts_eq x), same_item k (key x dot.origin dot.seq) here))
-    (λ (later : list_any (is_new dot k) es ≡ true). let f = text_of_new dot k es later in (f.0, right_true _ _ f.1, f.2)) (either_true _ _ c)
+    (λ (here : is_new dot k x ≡ true). (x, or_left _ _ (texts_eq x), same_item k (key x dot.origin dot.seq) here))
+    (λ (later : list_any (is_new dot k) es ≡ true). let f = text_of_new dot k es later in (f.0, or_right _ _ f.1, f.2)) (or_cases _ _ c)
 
 new_of_text : (dot : Dot) (k : List ℕ) (e : Text) (es : List Text) → contains_text es e ≡ true → k ≡ key e dot.origin dot.seq → list_any (is_new dot k) es ≡ true
 new_of_text dot k e [] c same = absurd (cc c)
 new_of_text dot k e (x ∷ es) c same = ⊎_elim
-    (λ (here : bytes_eq e x ≡ true). left_true _ _ (subst (λ z. is_new dot k z ≡ true) (eq_texts e x here) (subst (λ z. eq_by_cmp (slice_cmp nat_cmp) k z ≡ true) same (itself k))))
-    (λ (later : contains_text es e ≡ true). right_true _ _ (new_of_text dot k e es later same)) (either_true _ _ c)
+    (λ (here : bytes_eq e x ≡ true). or_left _ _ (subst (λ z. is_new dot k z ≡ true) (eq_texts e x here) (subst (λ z. eq_by_cmp (slice_cmp nat_cmp) k z ≡ true) same (itself k))))
+    (λ (later : contains_text es e ≡ true). or_right _ _ (new_of_text dot k e es later same)) (or_cases _ _ c)
 
 new_dots : (dot : Dot) (texts : List Text) (k : List ℕ) → set.contains (set_of (map (at_dot dot) texts)) k ≡ list_any (is_new dot k) texts
 new_dots dot texts k =

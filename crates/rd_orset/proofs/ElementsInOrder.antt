@@ -7,8 +7,9 @@ use Rattle.std.specs.declared.cmp.Ordering.{Ordering}
 use Rattle.std.specs.declared.cmp.Ordering.TheVariants.{Less, Equal, Greater}
 use Rattle.std.specs.Cmp.Lexicographic.{nat_list_eq_equiv}
 use Rattle.std.proofs.lemmas.List.{drop_more, take_more, take-append-drop, append-nil, map-append, length_push, get_or_default}
+use Rattle.std.proofs.lemmas.Bool.{or_right, or_parts}
+use mathlib.Core.Bool.{or-false}
 use Rattle.rd_history.specs.Texts.{Text, text_lt, text_set, contains_text}
-use Rattle.rd_growing.specs.Bits.{or_none}
 use Rattle.rd_bytes.specs.TextOrder.{text_order, IsBelowAll, IsRising}
 use Rattle.rd_bytes.proofs.TextLaws.{order_less, order_equal, lt_trans, lt_never, eq_texts, texts_eq}
 use Rattle.rd_growing.specs.TextSetLaws.{contains_append, contains_set, rising_set, is_set}
@@ -56,7 +57,7 @@ or_kept false b e = refl
 
 -- the element of the dot that follows is among the elements so far where the last dot has it
 last_has : (front rest : List Placed) (q p : Placed) → AreDots (front ++ q ∷ p ∷ rest) → contains_text (texts_of (front ++ q ∷ [])) p.element ≡ bytes_eq p.element q.element
-last_has [] rest q p h = or_none (bytes_eq p.element q.element)
+last_has [] rest q p h = or-false (bytes_eq p.element q.element)
 last_has (r ∷ front) rest q p h =
     ap (λ b. bytes_eq p.element r.element || b) (last_has front rest q p h.2) ∙ or_kept (bytes_eq p.element r.element) (bytes_eq p.element q.element) (λ e.
     let after = dots_end front (q ∷ p ∷ rest) h.2 in
@@ -91,21 +92,13 @@ rising_push : (xs : List Text) (e : Text) → IsRising xs → ((x : Text) → co
 rising_push [] e h less = (tt, tt)
 rising_push (x ∷ xs) e h less =
     (below_push x e xs h.0 (less x (ap (λ b. b || contains_text xs x) (texts_eq x))), rising_push xs e h.1 (λ y there. less y (or_right (bytes_eq y x) (contains_text xs y) there)))
-  where
-    or_right : (a b : Bool) → b ≡ true → (a || b) ≡ true
-    or_right true b e = refl
-    or_right false b e = e
 
 -- the elements so far come before one that isn't among them
 below_next : (front rest : List Placed) (p : Placed) → AreDots (front ++ p ∷ rest) → contains_text (texts_of front) p.element ≡ false → (x : Text) → contains_text (texts_of front) x ≡ true → text_lt x p.element ≡ true
 below_next [] rest p h absent x there = absurd (cc there)
 below_next (r ∷ front) rest p h absent x there =
-    go (or_false (bytes_eq p.element r.element) (contains_text (texts_of front) p.element) absent) (bytes_eq x r.element) refl (below_next front rest p h.2 (or_false (bytes_eq p.element r.element) (contains_text (texts_of front) p.element) absent).1 x)
+    go (or_parts (bytes_eq p.element r.element) (contains_text (texts_of front) p.element) absent) (bytes_eq x r.element) refl (below_next front rest p h.2 (or_parts (bytes_eq p.element r.element) (contains_text (texts_of front) p.element) absent).1 x)
   where
-    or_false : (a b : Bool) → (a || b) ≡ false → (a ≡ false) × (b ≡ false)
-    or_false true b e = absurd (cc e)
-    or_false false b e = (refl, e)
-
     upto_less : (y z : Text) → IsUpto y z → bytes_eq z y ≡ false → text_lt y z ≡ true
     upto_less y z (inl less) differs = less
     upto_less y z (inr same) differs = absurd (let f = sym (ap (λ w. bytes_eq z w) same ∙ texts_eq z) ∙ differs in cc f)
@@ -115,7 +108,7 @@ below_next (r ∷ front) rest p h absent x there =
     go away false is later = later (sym (ap (λ b. b || contains_text (texts_of front) x) is) ∙ there)
 
 more_has : (xs : List Text) (e x : Text) → contains_text (xs ++ e ∷ []) x ≡ (contains_text xs x || bytes_eq x e)
-more_has xs e x = contains_append xs (e ∷ []) x ∙ ap (λ b. contains_text xs x || b) (or_none (bytes_eq x e))
+more_has xs e x = contains_append xs (e ∷ []) x ∙ ap (λ b. contains_text xs x || b) (or-false (bytes_eq x e))
 
 set_more : (xs : List Text) (e : Text) (new : Bool) → new ≡ not (contains_text xs e) → ((x : Text) → contains_text xs e ≡ false → contains_text xs x ≡ true → text_lt x e ≡ true)
     → text_set (xs ++ e ∷ []) ≡ text_set xs ++ (if new then e ∷ [] else [])

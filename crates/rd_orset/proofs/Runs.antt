@@ -1,6 +1,6 @@
 -- The dots of a list, element by element: these are the elements of its set.
 use Rattle.std.proofs.Common.{◌≡◌, ℕ, zero, suc, ◌+◌, ◌-◌, ◌^◌, ◌<◌, ◌≤◌, Bool, true, false, cond, ◌||◌, nat_lt, List, [], ◌∷◌, ◌++◌, length, take, drop, get_or, refl, ap, sym, ◌∙◌, subst, append_assoc, ⊎_elim, inl, inr, ◌⊎◌, arith}
-use Rattle.std.proofs.lemmas.Bool.{lt-ltb}
+use Rattle.std.proofs.lemmas.Bool.{lt-ltb, or_right}
 use Rattle.std.proofs.lemmas.List.{drop_more, drop_all, take_all, length-map}
 use Rattle.std.proofs.lemmas.List.Elements.{recursion_from_All}
 use Rattle.std.specs.Prelude.{map}
@@ -12,11 +12,11 @@ use Rattle.std.specs.Cmp.{nat_cmp_is, tied_itself}
 use Rattle.std.proofs.lemmas.Cmp.{ranked}
 use Rattle.std.specs.Cmp.Lexicographic.{nat_list_cmp_total}
 use Rattle.std.specs.Str.{bytes_eq}
+use Rattle.rd_history.proofs.CutLaws.{both_ways}
 use Rattle.rd_history.specs.Texts.{Text, text_lt}
 use Rattle.rd_bytes.specs.TextOrder.{text_order, IsBelowAll, IsRising}
 use Rattle.rd_bytes.specs.Spelling.{IsText, text_spelled, number_spelled}
 use Rattle.rd_bytes.proofs.TextLaws.{eq_texts, texts_eq, less_order}
-use Rattle.rd_growing.specs.Bits.{right_true}
 use Rattle.rd_growing.specs.TextSetLaws.{below_all_of_less}
 use Rattle.rd_vectors.specs.declared.id.Dot.{Dot}
 use Rattle.rd_orset.specs.declared.set.Placed.{Placed}
@@ -26,7 +26,6 @@ use Rattle.rd_orset.specs.Dots.{Dots}
 use Rattle.rd_orset.specs.Keeping.{at_dot, set_of}
 use Rattle.rd_orset.specs.Elements.{AreRising, IsDot, IsPlaced, IsElement, AreElements, IsSoundSet, placed_of, texts_in, elements_of, dot_spelled, element_spelled, elements_spelled, set_spelled}
 use Rattle.rd_orset.specs.ElementLaws.{by_parts, of_parts, elements_back}
-use Rattle.rd_orset.specs.Tests.{both_ways}
 use Rattle.rd_orset.specs.Runs.{dot_at, with_dot, grouped, run, first_run}
 use Rattle.rd_orset.proofs.Placings.{before_all}
 use Rattle.rd_orset.proofs.ElementsInOrder.{before_upto}
@@ -223,7 +222,7 @@ is_dot : (p : Placed) → IsNumbered p → IsPlaced p → IsDot (dot_at p)
 is_dot p numbered is = record { origin = is.1; some = numbered.0; small = numbered.1 }
 
 rises : (p : Placed) → IsNumbered p → (0 ≤ p.origin) × ((nat_lt 0 p.origin || nat_lt 0 p.seq) ≡ true)
-rises p numbered = (let some = numbered.0 in (omega arith, right_true _ _ (lt-ltb 0 p.seq (omega arith))))
+rises p numbered = (let some = numbered.0 in (omega arith, or_right _ _ (lt-ltb 0 p.seq (omega arith))))
 
 one_more : (n : ℕ) (p q : Placed) (ds : List Dot) (xs : List Element) → IsNumbered p → IsPlaced p → placed_order p q ≡ Less → AreHeld n (record { text = q.element; dots = dot_at q ∷ ds } ∷ xs)
     → AreHeld (suc n) (with_dot p (record { text = q.element; dots = dot_at q ∷ ds } ∷ xs))

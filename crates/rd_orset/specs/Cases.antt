@@ -1,6 +1,6 @@
 -- What the tests of joins and deltas come to, case by case.
 use Rattle.std.proofs.Common.{◌≡◌, ◌⊎◌, Bool, true, false, not, ◌&&◌, ◌||◌, refl, ap, sym, ◌∙◌, ⊎_elim, inl, inr}
-use Rattle.rd_orset.specs.Tests.{two_of, both_true}
+use Rattle.std.proofs.lemmas.Bool.{and_parts, and_from}
 
 -- what stays of two sets' dots
 abbrev pub kept : Bool → Bool → Bool → Bool → Bool
@@ -65,8 +65,8 @@ abbrev every : (Bool → Bool) → Bool
 every p = p true && p false
 
 every_at : (p : Bool → Bool) → every p ≡ true → (b : Bool) → p b ≡ true
-every_at p e true = (two_of _ _ e).0
-every_at p e false = (two_of _ _ e).1
+every_at p e true = (and_parts _ _ e).0
+every_at p e false = (and_parts _ _ e).1
 
 abbrev every_six : (Bool → Bool → Bool → Bool → Bool → Bool → Bool) → Bool
 every_six p = every (λ a. every (λ b. every (λ c. every (λ d. every (λ e. every (λ f. p a b c d e f))))))
@@ -114,7 +114,7 @@ abbrev assoc_claim : Bool → Bool → Bool → Bool → Bool → Bool → Bool
 assoc_claim a b c u v w = implies (implies a u && (implies b v && implies c w)) (same (kept (kept a b v u) c w (u || v)) (kept a (kept b c w v) (v || w) u))
 
 assoc_cases : (a b c u v w : Bool) → (a ≡ true → u ≡ true) → (b ≡ true → v ≡ true) → (c ≡ true → w ≡ true) → kept (kept a b v u) c w (u || v) ≡ kept a (kept b c w v) (v || w) u
-assoc_cases a b c u v w p q r = same_is _ _ (implying _ _ (six_at assoc_claim refl a b c u v w) (both_true _ _ (implied a u p) (both_true _ _ (implied b v q) (implied c w r))))
+assoc_cases a b c u v w p q r = same_is _ _ (implying _ _ (six_at assoc_claim refl a b c u v w) (and_from _ _ (implied a u p) (and_from _ _ (implied b v q) (implied c w r))))
 
 -- three sets, joined from either side
 pub assoc_test : (a b c u v w ab bc uv vw : Bool) → ab ≡ kept a b v u → bc ≡ kept b c w v → uv ≡ (u || v) → vw ≡ (v || w) → (a ≡ true → u ≡ true) → (b ≡ true → v ≡ true) → (c ≡ true → w ≡ true)

@@ -1,6 +1,6 @@
 -- Data of histories, joined, absorbed and cleaned; what they hold and name.
 use Rattle.std.proofs.Common.{◌≡◌, ◌≢◌, ◌⊎◌, ℕ, zero, suc, ◌+◌, ◌<◌, ◌≤◌, max, true, false, not, List, rules, arith, refl, ap, sym, ◌∙◌, subst, ⊎_elim, inl, inr, nat_eq}
-use Rattle.std.proofs.lemmas.Bool.{cases_eq, cases_lt, cases_Bool}
+use Rattle.std.proofs.lemmas.Bool.{cases_eq, cases_lt, cases_Bool, and_parts, and_from, not-true, eqb-true, eq-eqb}
 use Rattle.std.proofs.Math.Nat.{max_comm}
 use Rattle.std.specs.Ordering.{nat_cmp}
 use Rattle.std.specs.Cmp.Lexicographic.{slice_cmp}
@@ -12,14 +12,13 @@ use Rattle.rd_history.specs.Vector.{VersionVector, IdentitySet, join, with_membe
 use Rattle.rd_history.specs.History.{History}
 use Rattle.rd_history.specs.Cuts.{action_of, past_of, without, IsConsistentCut, IsPrunedCut}
 use Rattle.rd_history.proofs.HistoryLaws.{with_at_other}
-use Rattle.rd_history.proofs.CutLaws.{with_at_is, with_at-le, with_member_is, with_member_other}
+use Rattle.rd_history.proofs.CutLaws.{with_at_is, with_at-le, with_member_is, with_member_other, both_ways, in_either, uncleaned}
 use Rattle.rd_kinds.specs.declared.operation.Op.{Op}
 use Rattle.rd_orset.specs.declared.set.SetDelta.{SetDelta}
 use Rattle.rd_orset.specs.Placing.{key}
-use Rattle.rd_orset.specs.Tests.{two_of, both_true, both_ways, turned, eq_of, of_eq}
 use Rattle.rd_orset.specs.Cases.{which, kept_left, kept_right, absorbed_from, absorbed_kept, absorbed_new}
 use Rattle.rd_orset.specs.Dots.{Dots, contained, is_of, set_joined, set_absorbed, set_cleaned, set_mentioned}
-use Rattle.rd_orset.specs.DotLaws.{same_dots, lacks, lacked, holds, uncleaned, dot_of_any, contains-joined, contains-absorbed, contains-cleaned}
+use Rattle.rd_orset.specs.DotLaws.{same_dots, lacks, lacked, holds, dot_of_any, contains-joined, contains-absorbed, contains-cleaned}
 use Rattle.rd_orset.specs.Live.{Touches, Adds, IsLive, TouchesBy}
 use Rattle.rd_orset.specs.LiveLaws.{Touches-opens}
 use Rattle.rd_orset.specs.DataOf.{AreLiveDots, IsSeenOf, AreDotsWithin}
@@ -35,9 +34,6 @@ live_left log element held also origin index h a b = record {
       (λ (y : also origin ≤ index). let z = h.closed other later origin x in omega arith)
       (λ (y : IsLive log element also origin index). y.untouched other later x t p) b) (in_either later (held other) (also other) l);
 }
-  where
-    in_either : (k m n : ℕ) → k < max m n → (k < m) ⊎ (k < n)
-    in_either k m n l = ⊎_elim (λ (x : k < m). inl x) (λ (x : m ≤ k). inr (omega arith)) (cases_lt k m)
 
 live_part : (log : History Op) (element : Text) (held also : VersionVector) (origin index : ℕ) → index < held origin → IsLive log element (join held also) origin index → IsLive log element held origin index
 live_part log element held also origin index l a = record { within = l; adds = a.adds; untouched = λ other later x t p. a.untouched other later (omega arith) t p }
@@ -218,14 +214,14 @@ pub data_cleaned : (state : Dots) (log : History Op) (held : VersionVector) (gon
 data_cleaned state log held gone id p =
     record {
       live = λ e by k c.
-          let both = two_of _ _ (sym (contains-cleaned state id (key e by (k + 1))) ∙ c) in
+          let both = and_parts _ _ (sym (contains-cleaned state id (key e by (k + 1))) ∙ c) in
           let l = p.live e by k both.0 in
-          (with_member_other gone id by (λ same. both_ways _ (of_eq by id same) (turned (nat_eq by id) both.1)) ∙ l.0, l.1);
+          (with_member_other gone id by (λ same. both_ways _ (eq-eqb by id same) (not-true (nat_eq by id) both.1)) ∙ l.0, l.1);
       all = λ e by k q l.
           let apart : by ≢ id = λ same. both_ways _ (with_member_is gone id by same) q in
           let test : nat_eq by id ≡ false = grind rules in
-          contains-cleaned state id (key e by (k + 1)) ∙ both_true _ _ (p.all e by k (sym (with_member_other gone id by apart) ∙ q) l) (ap not test);
-      shaped = λ y c. p.shaped y (two_of _ _ (sym (contains-cleaned state id y) ∙ c)).0;
+          contains-cleaned state id (key e by (k + 1)) ∙ and_from _ _ (p.all e by k (sym (with_member_other gone id by apart) ∙ q) l) (ap not test);
+      shaped = λ y c. p.shaped y (and_parts _ _ (sym (contains-cleaned state id y) ∙ c)).0;
     }
 
 pub data_within : (state : Dots) (log : History Op) (held : VersionVector) (gone : IdentitySet) → AreLiveDots state log held gone → AreDotsWithin state (without gone held)
@@ -243,7 +239,7 @@ data_unmentioned state log held gone id p none = ⊎_elim
     let inside : set.contains state f.0 ≡ true = f.1 in
     let shape = p.shaped f.0 inside in
     let l = p.live shape.0 shape.1 shape.2 (ap (set.contains state) (sym shape.3) ∙ inside) in
-    let same : shape.1 ≡ id = eq_of shape.1 id (ap (is_of id) (sym shape.3) ∙ f.2) in
+    let same : shape.1 ≡ id = eqb-true shape.1 id (ap (is_of id) (sym shape.3) ∙ f.2) in
     let nothing : held shape.1 ≡ 0 = sym (uncleaned gone held shape.1 l.0) ∙ ap (without gone held) same ∙ none in
     absurd (let w = l.1.within in omega arith))
     (λ (t : set_mentioned state id ≡ false). t) (cases_Bool (set_mentioned state id))

@@ -1,6 +1,6 @@
 -- Which dots a set has after each call, test by test.
 use Rattle.std.proofs.Common.{◌≡◌, ◌⊎◌, ℕ, ◌+◌, ◌<◌, ◌≤◌, max, Bool, true, false, not, ◌&&◌, ◌||◌, List, [], ◌∷◌, cond, nat_le, rules, arith, refl, ap, sym, ◌∙◌, subst, ⊎_elim, inl, inr}
-use Rattle.std.proofs.lemmas.Bool.{cases_lt}
+use Rattle.std.proofs.lemmas.Bool.{cases_lt, or_cases, or_left, or_right}
 use Rattle.std.specs.List.{list_any}
 use Rattle.std.specs.Str.{bytes_eq}
 use Rattle.std.specs.declared.cmp.Ordering.{Ordering}
@@ -10,6 +10,8 @@ use Rattle.std.specs.Cmp.{tied_itself}
 use Rattle.std.specs.Cmp.Lexicographic.{slice_cmp, nat_list_cmp_total}
 use Rattle.std.specs.FinSet as set
 use Rattle.std.specs.FinSet.{contains-union, contains-retain, slice_cmp-IsAntisymmetric, nat_cmp-IsAntisymmetric, same_set, contains-empty, contains-insert, contains-difference, contains-items, contains-from_list}
+use Rattle.rd_history.proofs.CutLaws.{both_ways}
+use mathlib.Core.Bool.{or-false}
 use Rattle.rd_history.specs.Texts.{Text}
 use Rattle.rd_history.specs.Vector.{VersionVector, IdentitySet, join}
 use Rattle.rd_history.specs.Cuts.{without}
@@ -17,12 +19,10 @@ use Rattle.rd_vectors.specs.declared.id.Dot.{Dot}
 use Rattle.rd_kinds.specs.SixKinds.{adds, removes}
 use Rattle.rd_kinds.specs.declared.operation.Op.{Op}
 use Rattle.rd_kinds.specs.declared.operation.Op.TheVariants.{Add, Remove}
-use Rattle.rd_growing.specs.Bits.{either_true, left_true, right_true, or_none}
 use Rattle.rd_bytes.proofs.TextLaws.{eq_texts, texts_eq}
 use Rattle.rd_orset.specs.declared.set.SetDelta.{SetDelta}
 use Rattle.rd_orset.specs.Placing.{key}
 use Rattle.rd_orset.specs.Dots.{Dots, contained, is_of, is_named, fresh_of, is_touched, moved, set_joined, set_absorbed, set_combined, set_applied, set_delta_of, set_cleaned, set_pruned}
-use Rattle.rd_orset.specs.Tests.{both_ways}
 use Rattle.rd_orset.specs.Cases.{kept, remaining, keeps_some}
 
 -- KEYS
@@ -56,14 +56,14 @@ same_key e e' o s s' p q = cc
 pub has_any : (t : List ℕ → Bool) (y : List ℕ) (xs : List (List ℕ)) → list_any (eq_by_cmp (slice_cmp nat_cmp) y) xs ≡ true → t y ≡ true → list_any t xs ≡ true
 has_any t y [] e q = absurd (cc e)
 has_any t y (x ∷ xs) e q = ⊎_elim
-    (λ (a : eq_by_cmp (slice_cmp nat_cmp) y x ≡ true). left_true _ _ (ap t (sym (same_item y x a)) ∙ q))
-    (λ (b : list_any (eq_by_cmp (slice_cmp nat_cmp) y) xs ≡ true). right_true _ _ (has_any t y xs b q)) (either_true _ _ e)
+    (λ (a : eq_by_cmp (slice_cmp nat_cmp) y x ≡ true). or_left _ _ (ap t (sym (same_item y x a)) ∙ q))
+    (λ (b : list_any (eq_by_cmp (slice_cmp nat_cmp) y) xs ≡ true). or_right _ _ (has_any t y xs b q)) (or_cases _ _ e)
 
 pub any_has : (t : List ℕ → Bool) (xs : List (List ℕ)) → list_any t xs ≡ true → (y : List ℕ) × (list_any (eq_by_cmp (slice_cmp nat_cmp) y) xs ≡ true) × (t y ≡ true)
 any_has t [] e = absurd (cc e)
 any_has t (x ∷ xs) e = ⊎_elim
-    (λ (a : t x ≡ true). (x, left_true _ _ (itself x), a))
-    (λ (b : list_any t xs ≡ true). let f = any_has t xs b in (f.0, right_true _ _ f.1, f.2)) (either_true _ _ e)
+    (λ (a : t x ≡ true). (x, or_left _ _ (itself x), a))
+    (λ (b : list_any t xs ≡ true). let f = any_has t xs b in (f.0, or_right _ _ f.1, f.2)) (or_cases _ _ e)
 
 -- a dot of the set passes, and so a test of its items does
 pub some_dot : (state : Dots) (t : List ℕ → Bool) (y : List ℕ) → set.contains state y ≡ true → t y ≡ true → list_any t (set.items state) ≡ true
@@ -87,16 +87,13 @@ holds context origin index e l = grind rules
 pub above : (context : ℕ → ℕ) (e : Text) (o s : ℕ) → context o < s → contained context (key e o s) ≡ false
 above context e o s m = grind rules
 
-pub uncleaned : (gone : IdentitySet) (held : VersionVector) (i : ℕ) → gone i ≡ false → without gone held i ≡ held i
-uncleaned gone held i g = ap (λ b. cond b 0 (held i)) g
-
 le_max : (s m n : ℕ) → nat_le s (max m n) ≡ (nat_le s m || nat_le s n)
 le_max s m n = ⊎_elim
     (λ (l : m < n). let e : max m n ≡ n = omega arith in ap (nat_le s) e ∙ ⊎_elim
-    (λ (x : s ≤ m). let t : nat_le s n ≡ true = grind rules in t ∙ sym (right_true (nat_le s m) (nat_le s n) t))
+    (λ (x : s ≤ m). let t : nat_le s n ≡ true = grind rules in t ∙ sym (or_right (nat_le s m) (nat_le s n) t))
     (λ (x : m < s). let t : nat_le s m ≡ false = grind rules in sym (ap (λ b. b || nat_le s n) t)) (le_or s m))
     (λ (l : n ≤ m). let e : max m n ≡ m = omega arith in ap (nat_le s) e ∙ ⊎_elim
-    (λ (x : s ≤ m). let t : nat_le s m ≡ true = grind rules in t ∙ sym (left_true (nat_le s m) (nat_le s n) t))
+    (λ (x : s ≤ m). let t : nat_le s m ≡ true = grind rules in t ∙ sym (or_left (nat_le s m) (nat_le s n) t))
     (λ (x : m < s). let t : nat_le s m ≡ false = grind rules in let t' : nat_le s n ≡ false = grind rules in t ∙ sym (ap (λ b. b || nat_le s n) t ∙ t')) (le_or s m)) (cases_lt m n)
   where
     le_or : (s m : ℕ) → (s ≤ m) ⊎ (m < s)
@@ -147,7 +144,7 @@ contains-pruned state id dot k =
 
 -- an operation names the element of a dot where it touches the element
 pub named_is : (op : Op) (e : Text) (o s : ℕ) → is_named op (key e o s) ≡ (adds op e || removes op e)
-named_is (Add x) e o s = sym (or_none (bytes_eq x e))
+named_is (Add x) e o s = sym (or-false (bytes_eq x e))
 named_is (Remove x) e o s = refl
 named_is op e o s = refl
 
@@ -156,11 +153,11 @@ pub fresh_key : (op : Op) (dot : Dot) (k : List ℕ) → set.contains (fresh_of 
 fresh_key (Add x) dot k c = ⊎_elim
     (λ (a : eq_by_cmp (slice_cmp nat_cmp) k (key x dot.origin dot.seq) ≡ true). (x, texts_eq x, same_item k (key x dot.origin dot.seq) a))
     (λ (b : set.contains (set.empty {R = slice_cmp nat_cmp}) k ≡ true). absurd (both_ways _ b (contains-empty (slice_cmp nat_cmp) k)))
-    (either_true _ _ (sym (contains-insert nat_list_cmp_total set.empty (key x dot.origin dot.seq) k) ∙ c))
+    (or_cases _ _ (sym (contains-insert nat_list_cmp_total set.empty (key x dot.origin dot.seq) k) ∙ c))
 fresh_key op dot k c = absurd (both_ways _ c (contains-empty (slice_cmp nat_cmp) k))
 
 pub key_fresh : (op : Op) (dot : Dot) (e : Text) → adds op e ≡ true → set.contains (fresh_of op dot) (key e dot.origin dot.seq) ≡ true
 key_fresh (Add x) dot e a =
     contains-insert nat_list_cmp_total set.empty (key x dot.origin dot.seq) (key e dot.origin dot.seq)
-    ∙ left_true _ _ (subst (λ z. eq_by_cmp (slice_cmp nat_cmp) (key e dot.origin dot.seq) (key z dot.origin dot.seq) ≡ true) (sym (eq_texts x e a)) (itself (key e dot.origin dot.seq)))
+    ∙ or_left _ _ (subst (λ z. eq_by_cmp (slice_cmp nat_cmp) (key e dot.origin dot.seq) (key z dot.origin dot.seq) ≡ true) (sym (eq_texts x e a)) (itself (key e dot.origin dot.seq)))
 key_fresh op dot e a = absurd (cc a)

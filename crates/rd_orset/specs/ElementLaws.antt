@@ -1,6 +1,6 @@
 -- The set of elements has these elements, and what is read of it and spelled.
 use Rattle.std.proofs.Common.{◌≡◌, ℕ, ◌<◌, ◌≤◌, Bool, true, false, cond, ◌&&◌, ◌||◌, T, nat_eq, nat_lt, List, [], ◌∷◌, ◌++◌, length, Option, None, Some, Result, Ok, refl, ap, sym, ◌∙◌, subst, ⊎_elim, inl, inr, ◌⊎◌, arith}
-use Rattle.std.proofs.lemmas.Bool.{cases_Bool, cases_lt, lt-ltb, ltb-true}
+use Rattle.std.proofs.lemmas.Bool.{cases_Bool, cases_lt, lt-ltb, ltb-true, or_cases, or_left, or_right, or_parts, false_from_ne_true, and_right, and_from, eqb-true, eq-eqb}
 use Rattle.std.proofs.lemmas.List.{map-append}
 use Rattle.std.specs.Prelude.{map}
 use Rattle.std.specs.List.{filter, flat_map, list_any, AllByRecursion}
@@ -15,9 +15,12 @@ use Rattle.std.specs.FinMap.{is_sorted}
 use Rattle.std.specs.FinMap.Entries.{below_all, find}
 use Rattle.std.specs.FinSet as set
 use Rattle.std.specs.FinSet.{contains-from_list, contains-items}
+use Rattle.std.proofs.lemmas.List.Folds.{list_any-append}
+use Rattle.rd_history.proofs.CutLaws.{both_ways}
+use mathlib.Core.Bool.{or-false, or_self}
 use Rattle.rd_history.specs.Texts.{Text, contains_text}
 use Rattle.rd_history.specs.Vector.{IdentitySet}
-use Rattle.rd_growing.specs.Bits.{left_true, right_true, either_true, same_bits, or_none, or_same, or_third}
+use Rattle.rd_growing.specs.Bits.{same_bits}
 use Rattle.rd_growing.specs.TextSetLaws.{same_texts, contains_set, rising_set, absent_below}
 use Rattle.rd_bytes.specs.TextOrder.{IsRising}
 use Rattle.rd_bytes.proofs.TextLaws.{eq_texts, texts_eq}
@@ -28,7 +31,6 @@ use Rattle.rd_bytes.specs.FieldLaws.{bind_ok, ok_is}
 use Rattle.rd_vectors.specs.declared.id.Dot.{Dot}
 use Rattle.rd_orset.specs.declared.element.Element.{Element}
 use Rattle.rd_orset.specs.Placing.{key, key_of}
-use Rattle.rd_orset.specs.Tests.{both_true, both_ways, eq_of, of_eq}
 use Rattle.rd_orset.specs.Dots.{Dots, element_of, is_element, is_of, shown_elements, set_mentioned}
 use Rattle.rd_orset.specs.DotLaws.{same_item, has_any, any_has}
 use Rattle.rd_orset.specs.Keeping.{at_dot}
@@ -39,29 +41,13 @@ use Rattle.rd_orset.specs.ReadingLaws.{listed_takes, listed_again}
 
 -- TESTS
 
-two_false : (a b : Bool) → (a || b) ≡ false → (a ≡ false) × (b ≡ false)
-two_false true b e = absurd (cc e)
-two_false false b e = (refl, e)
-
-not_so : (b : Bool) → (b ≡ true → ⊥) → b ≡ false
-not_so true h = absurd (h refl)
-not_so false h = refl
-
 and_true : (a b : Bool) → b ≡ true → (a && b) ≡ a
 and_true true b e = e
 and_true false b e = refl
 
-and_false : (a b : Bool) → b ≡ false → (a && b) ≡ false
-and_false true b e = e
-and_false false b e = refl
-
 or_false : (a b : Bool) → b ≡ false → (a || b) ≡ a
 or_false true b e = refl
 or_false false b e = e
-
-any_append : {X : Type 0} (t : X → Bool) (xs ys : List X) → list_any t (xs ++ ys) ≡ (list_any t xs || list_any t ys)
-any_append t [] ys = refl
-any_append t (x ∷ xs) ys = ap (λ b. t x || b) (any_append t xs ys) ∙ or_third (t x) (list_any t xs) (list_any t ys)
 
 is_true : (b : Bool) → b ≡ true → T b
 is_true b e = subst T (sym e) tt
@@ -109,7 +95,7 @@ any_passing p k (q ∷ ks) = go (same_key k q) refl (p q) refl (any_passing p k 
     go : (a : Bool) → same_key k q ≡ a → (b : Bool) → p q ≡ b → list_any (same_key k) (filter p ks) ≡ (list_any (same_key k) ks && p k)
         → list_any (same_key k) (cond b (q ∷ filter p ks) (filter p ks)) ≡ ((a || list_any (same_key k) ks) && p k)
     go true is true passes later = ap (λ c. c || list_any (same_key k) (filter p ks)) is ∙ sym (ap p (same_item k q is) ∙ passes)
-    go true is false fails later = let none : p k ≡ false = ap p (same_item k q is) ∙ fails in later ∙ and_false (list_any (same_key k) ks) (p k) none ∙ sym none
+    go true is false fails later = let none : p k ≡ false = ap p (same_item k q is) ∙ fails in later ∙ and_right (list_any (same_key k) ks) (p k) none ∙ sym none
     go false is true passes later = ap (λ c. c || list_any (same_key k) (filter p ks)) is ∙ later
     go false is false fails later = later
 
@@ -137,11 +123,11 @@ by_parts origin seq d h = ⊎_elim
     (λ (le : d.origin ≤ origin). ⊎_elim
     (λ (t : nat_lt origin d.origin ≡ true). inl (ltb-true origin d.origin t))
     (λ (t : nat_lt seq d.seq ≡ true). inr ((let from = h.0 in omega arith), ltb-true seq d.seq t))
-    (either_true _ _ h.1)) (cases_lt origin d.origin)
+    (or_cases _ _ h.1)) (cases_lt origin d.origin)
 
 pub of_parts : (origin seq : ℕ) (d : Dot) → (origin < d.origin) ⊎ ((origin ≡ d.origin) × (seq < d.seq)) → comes_after origin seq d
-of_parts origin seq d (inl less) = (omega arith, left_true _ _ (lt-ltb origin d.origin less))
-of_parts origin seq d (inr both) = ((let same = both.0 in omega arith), right_true _ _ (lt-ltb seq d.seq both.1))
+of_parts origin seq d (inl less) = (omega arith, or_left _ _ (lt-ltb origin d.origin less))
+of_parts origin seq d (inr both) = ((let same = both.0 in omega arith), or_right _ _ (lt-ltb seq d.seq both.1))
 
 nat_less : (m n : ℕ) → m < n → nat_cmp m n ≡ Less
 nat_less m n less = ap (λ (b : Bool). cond b Less (cond (nat_eq m n) Equal Greater)) (lt-ltb m n less)
@@ -169,11 +155,11 @@ rising_from origin seq d (c ∷ ds) after h = let next = after_both origin seq d
 
 below_keys : (e : Text) (origin seq : ℕ) (ds : List Dot) → AreRising origin seq ds → below_all (slice_cmp nat_cmp) (key e origin seq) (marked (map (key_at e) ds)) ≡ true
 below_keys e origin seq [] h = refl
-below_keys e origin seq (d ∷ ds) h = both_true _ _ (ap is_lt (key_less e origin seq d (h.0, h.1))) (below_keys e origin seq ds (rising_from origin seq d ds (h.0, h.1) h.2))
+below_keys e origin seq (d ∷ ds) h = and_from _ _ (ap is_lt (key_less e origin seq d (h.0, h.1))) (below_keys e origin seq ds (rising_from origin seq d ds (h.0, h.1) h.2))
 
 sorted_keys : (e : Text) (origin seq : ℕ) (ds : List Dot) → AreRising origin seq ds → is_sorted (slice_cmp nat_cmp) (marked (map (key_at e) ds)) ≡ true
 sorted_keys e origin seq [] h = refl
-sorted_keys e origin seq (d ∷ ds) h = both_true _ _ (below_keys e d.origin d.seq ds h.2) (sorted_keys e d.origin d.seq ds h.2)
+sorted_keys e origin seq (d ∷ ds) h = and_from _ _ (below_keys e d.origin d.seq ds h.2) (sorted_keys e d.origin d.seq ds h.2)
 
 dots_back : (e : Text) (ds : List Dot) → map dot_of (map (key_at e) ds) ≡ ds
 dots_back e [] = refl
@@ -219,19 +205,19 @@ in_keys : (e : Text) (k : Key) (ds : List Dot) → list_any (same_key k) (map (k
 in_keys e k [] h = absurd (cc h)
 in_keys e k (d ∷ ds) h = ⊎_elim
     (λ (a : same_key k (key_at e d) ≡ true). ap (is_element e) (same_item k (key_at e d) a) ∙ texts_eq e)
-    (λ (b : list_any (same_key k) (map (key_at e) ds) ≡ true). in_keys e k ds b) (either_true _ _ h)
+    (λ (b : list_any (same_key k) (map (key_at e) ds) ≡ true). in_keys e k ds b) (or_cases _ _ h)
 
 -- a key of one element is none of another's
 not_in_keys : (e : Text) (k : Key) (x : Element) → is_element e k ≡ true → bytes_eq e x.text ≡ false → list_any (same_key k) (keys_of x) ≡ false
-not_in_keys e k x is differs = not_so _ (λ h.
+not_in_keys e k x is differs = false_from_ne_true _ (λ h.
     let same : e ≡ x.text = element_named e k is ∙ sym (element_named x.text k (in_keys x.text k x.dots h)) in
     both_ways _ (ap (λ (z : Text). bytes_eq e z) (sym same) ∙ texts_eq e) differs)
 
 not_in_others : (e : Text) (k : Key) (xs : List Element) → is_element e k ≡ true → contains_text (texts_in xs) e ≡ false → list_any (same_key k) (all_keys xs) ≡ false
 not_in_others e k [] is absent = refl
 not_in_others e k (x ∷ xs) is absent =
-    let parts = two_false _ _ absent in
-    any_append (same_key k) (keys_of x) (all_keys xs) ∙ ap (λ b. b || list_any (same_key k) (all_keys xs)) (not_in_keys e k x is parts.0) ∙ not_in_others e k xs is parts.1
+    let parts = or_parts _ _ absent in
+    list_any-append (same_key k) (keys_of x) (all_keys xs) ∙ ap (λ b. b || list_any (same_key k) (all_keys xs)) (not_in_keys e k x is parts.0) ∙ not_in_others e k xs is parts.1
 
 -- THE ELEMENTS OF THE SET OF ELEMENTS
 
@@ -242,26 +228,26 @@ again state (x ∷ xs) rising each has =
     let absent : contains_text (texts_in xs) x.text ≡ false = absent_below x.text (texts_in xs) rising.0 in
     let own : (k : Key) → (set.contains state k && is_element x.text k) ≡ list_any (same_key k) (keys_of x) = λ k. ⊎_elim
     (λ (is : is_element x.text k ≡ true).
-    and_true (set.contains state k) _ is ∙ has x.text k (left_true _ _ (texts_eq x.text)) is ∙ any_append (same_key k) (keys_of x) (all_keys xs)
+    and_true (set.contains state k) _ is ∙ has x.text k (or_left _ _ (texts_eq x.text)) is ∙ list_any-append (same_key k) (keys_of x) (all_keys xs)
     ∙ or_false (list_any (same_key k) (keys_of x)) _ (not_in_others x.text k xs is absent))
     (λ (isnt : is_element x.text k ≡ false).
-    and_false (set.contains state k) _ isnt ∙ sym (not_so _ (λ h. both_ways _ (in_keys x.text k x.dots h) isnt))) (cases_Bool (is_element x.text k)) in
+    and_right (set.contains state k) _ isnt ∙ sym (false_from_ne_true _ (λ h. both_ways _ (in_keys x.text k x.dots h) isnt))) (cases_Bool (is_element x.text k)) in
     let others : (e : Text) (k : Key) → contains_text (texts_in xs) e ≡ true → is_element e k ≡ true → set.contains state k ≡ list_any (same_key k) (all_keys xs) = λ e k there is.
-    let differs : bytes_eq e x.text ≡ false = not_so _ (λ same. both_ways _ (ap (contains_text (texts_in xs)) (sym (eq_texts e x.text same)) ∙ there) absent) in
-    has e k (right_true _ _ there) is ∙ any_append (same_key k) (keys_of x) (all_keys xs) ∙ ap (λ b. b || list_any (same_key k) (all_keys xs)) (not_in_keys e k x is differs) in
+    let differs : bytes_eq e x.text ≡ false = false_from_ne_true _ (λ same. both_ways _ (ap (contains_text (texts_in xs)) (sym (eq_texts e x.text same)) ∙ there) absent) in
+    has e k (or_right _ _ there) is ∙ list_any-append (same_key k) (keys_of x) (all_keys xs) ∙ ap (λ b. b || list_any (same_key k) (all_keys xs)) (not_in_keys e k x is differs) in
     ap (λ (y : Element). y ∷ map (element_at state) (texts_in xs)) (element_is state x.text x.dots each.0.rising own)
     ∙ ap (λ (ys : List Element). x ∷ ys) (again state xs rising.1 each.1 others)
 
 -- a test of keys by their element
 any_of_one : (e text : Text) (ds : List Dot) → 1 ≤ length ds → list_any (λ k. bytes_eq e (element_of k)) (map (key_at text) ds) ≡ bytes_eq e text
 any_of_one e text [] some = absurd (omega arith)
-any_of_one e text (d ∷ []) some = or_none (bytes_eq e text)
-any_of_one e text (d ∷ c ∷ ds) some = ap (λ b. bytes_eq e text || b) (any_of_one e text (c ∷ ds) (omega arith)) ∙ or_same (bytes_eq e text)
+any_of_one e text (d ∷ []) some = or-false (bytes_eq e text)
+any_of_one e text (d ∷ c ∷ ds) some = ap (λ b. bytes_eq e text || b) (any_of_one e text (c ∷ ds) (omega arith)) ∙ or_self (bytes_eq e text)
 
 any_texts : (e : Text) (xs : List Element) → AllByRecursion IsElement xs → list_any (λ k. bytes_eq e (element_of k)) (all_keys xs) ≡ contains_text (texts_in xs) e
 any_texts e [] each = refl
 any_texts e (x ∷ xs) each =
-    any_append (λ k. bytes_eq e (element_of k)) (keys_of x) (all_keys xs)
+    list_any-append (λ k. bytes_eq e (element_of k)) (keys_of x) (all_keys xs)
     ∙ ap (λ b. b || list_any (λ k. bytes_eq e (element_of k)) (all_keys xs)) (any_of_one e x.text x.dots each.0.some)
     ∙ ap (λ b. bytes_eq e x.text || b) (any_texts e xs each.1)
 
@@ -282,23 +268,23 @@ elements_back xs is =
 free_dots : (barred : IdentitySet) (i : ℕ) (e : Text) (ds : List Dot) → barred i ≡ true → AllByRecursion (λ (d : Dot). barred d.origin ≡ false) ds → list_any (is_of i) (map (key_at e) ds) ≡ false
 free_dots barred i e [] b free = refl
 free_dots barred i e (d ∷ ds) b free =
-    ap (λ c. c || list_any (is_of i) (map (key_at e) ds)) (not_so (nat_eq d.origin i) (λ same. both_ways _ (ap barred (eq_of d.origin i same) ∙ b) free.0))
+    ap (λ c. c || list_any (is_of i) (map (key_at e) ds)) (false_from_ne_true (nat_eq d.origin i) (λ same. both_ways _ (ap barred (eqb-true d.origin i same) ∙ b) free.0))
     ∙ free_dots barred i e ds b free.1
 
 free_unmentioned : (barred : IdentitySet) (i : ℕ) (xs : List Element) → barred i ≡ true → AreFree barred xs → list_any (is_of i) (all_keys xs) ≡ false
 free_unmentioned barred i [] b free = refl
 free_unmentioned barred i (x ∷ xs) b free =
-    any_append (is_of i) (keys_of x) (all_keys xs) ∙ ap (λ c. c || list_any (is_of i) (all_keys xs)) (free_dots barred i x.text x.dots b free.0) ∙ free_unmentioned barred i xs b free.1
+    list_any-append (is_of i) (keys_of x) (all_keys xs) ∙ ap (λ c. c || list_any (is_of i) (all_keys xs)) (free_dots barred i x.text x.dots b free.0) ∙ free_unmentioned barred i xs b free.1
 
 dots_free : (barred : IdentitySet) (e : Text) (ds : List Dot) → ((i : ℕ) → barred i ≡ true → list_any (is_of i) (map (key_at e) ds) ≡ false) → AllByRecursion (λ (d : Dot). barred d.origin ≡ false) ds
 dots_free barred e [] h = tt
 dots_free barred e (d ∷ ds) h =
-    (not_so (barred d.origin) (λ b. both_ways _ (of_eq d.origin d.origin refl) (two_false _ _ (h d.origin b)).0), dots_free barred e ds (λ i b. (two_false _ _ (h i b)).1))
+    (false_from_ne_true (barred d.origin) (λ b. both_ways _ (eq-eqb d.origin d.origin refl) (or_parts _ _ (h d.origin b)).0), dots_free barred e ds (λ i b. (or_parts _ _ (h i b)).1))
 
 unmentioned_free : (barred : IdentitySet) (xs : List Element) → ((i : ℕ) → barred i ≡ true → list_any (is_of i) (all_keys xs) ≡ false) → AreFree barred xs
 unmentioned_free barred [] h = tt
 unmentioned_free barred (x ∷ xs) h =
-    let parts : (i : ℕ) → barred i ≡ true → (list_any (is_of i) (keys_of x) ≡ false) × (list_any (is_of i) (all_keys xs) ≡ false) = λ i b. two_false _ _ (sym (any_append (is_of i) (keys_of x) (all_keys xs)) ∙ h i b) in
+    let parts : (i : ℕ) → barred i ≡ true → (list_any (is_of i) (keys_of x) ≡ false) × (list_any (is_of i) (all_keys xs) ≡ false) = λ i b. or_parts _ _ (sym (list_any-append (is_of i) (keys_of x) (all_keys xs)) ∙ h i b) in
     (dots_free barred x.text x.dots (λ i b. (parts i b).0), unmentioned_free barred xs (λ i b. (parts i b).1))
 
 -- READING AND SPELLING
@@ -315,7 +301,7 @@ set_takes kind barred bytes x rest known fits e =
     subst (λ (y : Dots × List ℕ). Takes bytes (set_spelled y.0) y.1 × IsSoundSet y.0 × (4 ≡ kind) × ((i : ℕ) → barred i ≡ true → set_mentioned y.0 i ≡ false)) (ok_is made (x, rest) a.2) (
       subst (λ (ys : List Element). Takes bytes (elements_spelled ys) listed.1) (sym (elements_back xs taken.1)) taken.0,
       record { elements = xs; sound = taken.1; same = refl },
-      sym (eq_of kind 4 known),
+      sym (eqb-true kind 4 known),
       λ i b. any_in (is_of i) xs ∙ free_unmentioned barred i xs b taken.2,
     )
 

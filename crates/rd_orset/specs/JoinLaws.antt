@@ -1,12 +1,11 @@
 -- Joins and deltas, as sets of dots: no history is known here.
 use Rattle.std.proofs.Common.{◌≡◌, ◌⊎◌, ℕ, ◌<◌, Bool, true, false, not, ◌&&◌, ◌||◌, refl, ap, sym, ◌∙◌, ⊎_elim}
 use Rattle.std.specs.FinSet as set
+use Rattle.std.proofs.lemmas.Bool.{or_cases, or_left, or_right, and_parts, eq-eqb}
 use Rattle.rd_history.specs.Vector.{VersionVector, join}
 use Rattle.rd_vectors.specs.declared.id.Dot.{Dot}
 use Rattle.rd_kinds.specs.declared.operation.Op.{Op}
-use Rattle.rd_growing.specs.Bits.{either_true, left_true, right_true}
 use Rattle.rd_orset.specs.declared.set.SetDelta.{SetDelta}
-use Rattle.rd_orset.specs.Tests.{two_of, of_eq}
 use Rattle.rd_orset.specs.Cases.{kept, remaining, which, upper_test, assoc_test, absorb_cases, combine_cases}
 use Rattle.rd_orset.specs.Dots.{Dots, contained, is_of, is_named, fresh_of, set_joined, set_absorbed, set_combined, set_applied, set_delta_of}
 use Rattle.rd_orset.specs.DotLaws.{same_dots, above, contained-join, contains-joined, contains-absorbed, contains-applied, contains-seen, contains-combined, contains-both_seen, fresh_key}
@@ -47,10 +46,10 @@ join_upper a b v w p = same_dots _ _ (λ y.
 pub join_within : (a b : Dots) (v w : VersionVector) → AreDotsWithin a v → AreDotsWithin b w → AreDotsWithin (set_joined a v b w) (join v w)
 join_within a b v w p q = record {
   seen = λ y c. contained-join v w y ∙ ⊎_elim
-      (λ (both : (set.contains a y ≡ true) × (set.contains b y ≡ true)). left_true _ _ (p.seen y both.0))
+      (λ (both : (set.contains a y ≡ true) × (set.contains b y ≡ true)). or_left _ _ (p.seen y both.0))
       (λ (one : ((set.contains a y ≡ true) × (contained w y ≡ false)) ⊎ ((set.contains b y ≡ true) × (contained v y ≡ false))). ⊎_elim
-      (λ (l : (set.contains a y ≡ true) × (contained w y ≡ false)). left_true _ _ (p.seen y l.0))
-      (λ (r : (set.contains b y ≡ true) × (contained v y ≡ false)). right_true _ _ (q.seen y r.0)) one)
+      (λ (l : (set.contains a y ≡ true) × (contained w y ≡ false)). or_left _ _ (p.seen y l.0))
+      (λ (r : (set.contains b y ≡ true) × (contained v y ≡ false)). or_right _ _ (q.seen y r.0)) one)
       (which _ _ _ _ (sym (contains-joined a v b w y) ∙ c));
 }
 
@@ -73,10 +72,10 @@ absorb_combined state mine first later apart = same_dots _ _ (λ y.
     ∙ ap (λ z. remaining z (set.contains later.seen y) (set.contains later.fresh y) (contained mine y)) (contains-absorbed state mine first y)))
 
 pub delta_origin : (state : Dots) (op : Op) (dot : Dot) → IsOfOne (set_delta_of state op dot) dot.origin
-delta_origin state op dot = λ k c. ap (is_of dot.origin) (fresh_key op dot k c).2 ∙ of_eq dot.origin dot.origin refl
+delta_origin state op dot = λ k c. ap (is_of dot.origin) (fresh_key op dot k c).2 ∙ eq-eqb dot.origin dot.origin refl
 
 pub combined_origin : (first later : SetDelta) (origin : ℕ) → IsOfOne first origin → IsOfOne later origin → IsOfOne (set_combined first later) origin
 combined_origin first later origin p q = λ k c. ⊎_elim
     (λ (b : set.contains later.fresh k ≡ true). q k b)
-    (λ (a : (set.contains first.fresh k && not (set.contains later.seen k)) ≡ true). p k (two_of _ _ a).0)
-    (either_true _ _ (sym (contains-combined first later k) ∙ c))
+    (λ (a : (set.contains first.fresh k && not (set.contains later.seen k)) ≡ true). p k (and_parts _ _ a).0)
+    (or_cases _ _ (sym (contains-combined first later k) ∙ c))

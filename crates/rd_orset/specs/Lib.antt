@@ -1,7 +1,6 @@
 pub mod Placing
 pub mod Dots
 pub mod Keeping
-pub mod Tests
 pub mod Live
 pub mod LiveLaws
 pub mod DataOf

@@ -1,8 +1,10 @@
 -- The live records of a history, as its meaning has them, are those that stand in its log; and the recursion of what touches an element.
 use Rattle.std.proofs.Common.{◌≡◌, ℕ, zero, suc, ◌+◌, ◌<◌, ◌≤◌, List, [], ◌∷◌, Bool, true, false, ◌&&◌, not, nat_le, Some, rules, arith, refl, ap, sym, ◌∙◌, subst, inl, inr}
-use Rattle.std.proofs.lemmas.Bool.{cases_Bool}
+use Rattle.std.proofs.lemmas.Bool.{cases_Bool, and_parts, and_from, not-true, eqb-true, eq-eqb}
 use Rattle.std.specs.Prelude.{slice_get, ◌==◌}
 use Rattle.std.specs.List.{list_any}
+use Rattle.std.proofs.lemmas.Map.Keys.{any_passes_from_place}
+use Rattle.rd_history.proofs.CutLaws.{both_ways}
 use Rattle.rd_history.specs.Texts.{Text}
 use Rattle.rd_history.specs.Table.{identities}
 use Rattle.rd_history.specs.Vector.{VersionVector}
@@ -16,8 +18,7 @@ use Rattle.rd_meanings.specs.ObservedRemove.{is_adding_by, is_live_by, touches_b
 use Rattle.rd_meanings.proofs.EquationsOfMeanings.{touches_equation}
 use Rattle.rd_kinds.specs.SixKinds.{set_operations}
 use Rattle.rd_kinds.specs.declared.operation.Op.{Op}
-use Rattle.rd_growing.specs.RecordedLaws.{any_at, any_of, belongs}
-use Rattle.rd_orset.specs.Tests.{two_of, both_true, both_ways, turned, eq_of, of_eq}
+use Rattle.rd_growing.specs.RecordedLaws.{any_at, belongs}
 use Rattle.rd_orset.specs.Live.{is_touching, Touches, Adds, IsLive, TouchesBy}
 
 -- RECORDS WITH ORIGINS AND NUMBERS
@@ -52,7 +53,7 @@ module _ (log : History Op) (held : VersionVector) (h : IsConsistentCut log held
   at_all i k l = belongs log held h i k (record_at log i k) (in_cut log held i k l (let m = h.made i in omega arith))
 
   pub any_held : (t : Stamped Op → Bool) (i k : ℕ) → k < held i → t (stamped log i k) ≡ true → list_any t (all_records (cut log held)) ≡ true
-  any_held t i k l e = let at = at_all i k l in any_of t (all_records (cut log held)) at.0 (stamped log i k) at.1 e
+  any_held t i k l e = let at = at_all i k l in any_passes_from_place t (all_records (cut log held)) at.0 (stamped log i k) at.1 e
 
   pub held_any : (t : Stamped Op → Bool) → list_any t (all_records (cut log held)) ≡ true → (i : ℕ) × (k : ℕ) × (k < held i) × (t (stamped log i k) ≡ true)
   held_any t e =
@@ -96,21 +97,21 @@ module _ (log : History Op) (e : Text) (held : VersionVector) (i k : ℕ) (h : I
 
   pub live_in_log : is_live set_operations e (cut log held) (stamped log i k) ≡ true → IsLive log e held i k
   live_in_log t =
-      let parts = two_of _ _ t in record {
+      let parts = and_parts _ _ t in record {
         within = l;
         adds = (adding_is log e (touches set_operations e) (cut log held) (stamped log i k) i k (action_of log i k) (touching_is log e held i k h l)).0 parts.0;
         untouched = λ o later m u p. both_ways _
-            (any_held log held h touches_later o later m (both_true _ _ (in_past k (past_of log o later i) p) (touching_is log e held o later h m ∙ u)))
-            (turned _ parts.1);
+            (any_held log held h touches_later o later m (and_from _ _ (in_past k (past_of log o later i) p) (touching_is log e held o later h m ∙ u)))
+            (not-true _ parts.1);
       }
 
   pub live_in_cut : IsLive log e held i k → is_live set_operations e (cut log held) (stamped log i k) ≡ true
   live_in_cut live =
-      both_true _ _ ((adding_is log e (touches set_operations e) (cut log held) (stamped log i k) i k (action_of log i k) (touching_is log e held i k h l)).1 live.adds)
+      and_from _ _ ((adding_is log e (touches set_operations e) (cut log held) (stamped log i k) i k (action_of log i k) (touching_is log e held i k h l)).1 live.adds)
       (ap not (elim (cases_Bool (list_any touches_later (all_records (cut log held)))) as (λ _. list_any touches_later (all_records (cut log held)) ≡ false) [
         | inl t ↦ absurd (
             let y = held_any log held h touches_later t in
-            let parts = two_of _ _ y.3 in
+            let parts = and_parts _ _ y.3 in
             live.untouched y.0 y.1 y.2 (sym (touching_is log e held y.0 y.1 h y.2) ∙ parts.1) (of_past k (past_of log y.0 y.1 i) parts.0))
         | inr t ↦ t
       ]))
@@ -125,10 +126,10 @@ opens_by log e past (Operation op) h = ((λ t. t), (λ t. t))
 opens_by log e past (Prune r) h = (
   (λ t.
       let y = held_any log past h (live_of log e past r) t in
-      let parts = two_of _ _ y.3 in
-      let whose : y.0 ≡ r = eq_of y.0 r parts.0 in
+      let parts = and_parts _ _ y.3 in
+      let whose : y.0 ≡ r = eqb-true y.0 r parts.0 in
       (y.1, subst (λ z. IsLive log e past z y.1) whose (live_in_log log e past y.0 y.1 h y.2 parts.1))),
-  (λ u. any_held log past h (live_of log e past r) r u.0 u.1.within (both_true _ _ (of_eq r r refl) (live_in_cut log e past r u.0 h u.1.within u.1))),
+  (λ u. any_held log past h (live_of log e past r) r u.0 u.1.within (and_from _ _ (eq-eqb r r refl) (live_in_cut log e past r u.0 h u.1.within u.1))),
 )
 
 -- what touches, by what is live in the past

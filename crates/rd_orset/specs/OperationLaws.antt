@@ -1,20 +1,18 @@
 -- One operation more, and deltas of operations.
 use Rattle.std.proofs.Common.{◌≡◌, ℕ, ◌+◌, ◌<◌, ◌≤◌, true, false, not, ◌&&◌, ◌||◌, arith, refl, ap, sym, ◌∙◌, subst, ⊎_elim, inl, inr}
-use Rattle.std.proofs.lemmas.Bool.{cases_lt, cases_Bool}
+use Rattle.std.proofs.lemmas.Bool.{cases_lt, cases_Bool, or_cases, or_left, or_right, and_parts, and_from, not-true, eq-eqb}
 use Rattle.std.specs.FinSet as set
 use Rattle.rd_history.specs.Texts.{Text}
 use Rattle.rd_history.specs.Vector.{VersionVector, IdentitySet}
 use Rattle.rd_history.specs.History.{History}
 use Rattle.rd_history.specs.History.Action.{Operation}
 use Rattle.rd_history.specs.Cuts.{action_of, past_of, grown, IsNext, IsPrunedCut}
-use Rattle.rd_history.proofs.CutLaws.{with_at_is, with_at-le, IsConsistentCut-grown, new_or_old}
+use Rattle.rd_history.proofs.CutLaws.{with_at_is, with_at-le, IsConsistentCut-grown, new_or_old, both_ways}
 use Rattle.rd_vectors.specs.declared.id.Dot.{Dot}
 use Rattle.rd_kinds.specs.SixKinds.{adds, removes}
 use Rattle.rd_kinds.specs.declared.operation.Op.{Op}
-use Rattle.rd_growing.specs.Bits.{either_true, left_true, right_true}
 use Rattle.rd_orset.specs.declared.set.SetDelta.{SetDelta}
 use Rattle.rd_orset.specs.Placing.{key}
-use Rattle.rd_orset.specs.Tests.{two_of, both_true, both_ways, turned, of_eq}
 use Rattle.rd_orset.specs.Dots.{Dots, is_of, is_named, fresh_of, set_combined, set_applied, set_delta_of}
 use Rattle.rd_orset.specs.DotLaws.{key_parts, same_key, named_is, fresh_key, key_fresh, contains-applied, contains-seen, contains-combined, contains-both_seen}
 use Rattle.rd_orset.specs.Live.{Touches, Adds, IsLive, TouchesBy}
@@ -38,7 +36,7 @@ applied_live state log held gone op dot h stays n seq p =
     record {
       live = λ e by k c. ⊎_elim
           (λ (a : (set.contains state (key e by (k + 1)) && not (is_named op (key e by (k + 1)))) ≡ true).
-          let both = two_of _ _ a in
+          let both = and_parts _ _ a in
           let l = p.live e by k both.0 in (
             l.0,
             record {
@@ -47,7 +45,7 @@ applied_live state log held gone op dot h stays n seq p =
               untouched = λ o' k' m t b. ⊎_elim
                   (λ (new : (o' ≡ dot.origin) × (k' ≡ held dot.origin)).
                   let t' : Touches log e dot.origin (held dot.origin) = subst (Touches log e dot.origin) new.1 (subst (λ z. Touches log e z k') new.0 t) in
-                  both_ways _ (named_is op e by (k + 1) ∙ (next_touches log held gone dot.origin op e h n).0 t') (turned _ both.1))
+                  both_ways _ (named_is op e by (k + 1) ∙ (next_touches log held gone dot.origin op e h n).0 t') (not-true _ both.1))
                   (λ (old : k' < held o'). l.1.untouched o' k' old t b) (new_or_old log held dot.origin o' k' m);
             },
           ))
@@ -64,12 +62,12 @@ applied_live state log held gone op dot h stays n seq p =
                 (λ (old : k' < held o'). let q = h.cut.closed o' k' dot.origin old in omega arith) (new_or_old log held dot.origin o' k' m);
           } in
           (ap gone parts.1 ∙ stays, subst (λ z. IsLive log e (grown held dot.origin) z k) (sym parts.1) (subst (λ z. IsLive log e (grown held dot.origin) dot.origin z) (sym at) here)))
-          (either_true _ _ (sym (contains-applied state op dot (key e by (k + 1))) ∙ c));
+          (or_cases _ _ (sym (contains-applied state op dot (key e by (k + 1))) ∙ c));
       all = λ e by k q l. contains-applied state op dot (key e by (k + 1)) ∙ ⊎_elim
           (λ (new : (by ≡ dot.origin) × (k ≡ held dot.origin)).
           let is_add : adds op e ≡ true = subst (Adds log e dot.origin (held dot.origin)) n.action
           (subst (λ z. Adds log e dot.origin z (action_of log dot.origin z)) new.1 (subst (λ z. Adds log e z k (action_of log z k)) new.0 l.adds)) in
-          right_true _ _ (subst (λ z. set.contains (fresh_of op dot) z ≡ true)
+          or_right _ _ (subst (λ z. set.contains (fresh_of op dot) z ≡ true)
           (same_key e e dot.origin dot.seq (k + 1) refl (let z = new.1 in omega arith) ∙ ap (λ z. key e z (k + 1)) (sym new.0)) (key_fresh op dot e is_add)))
           (λ (old : k < held by).
           let before : IsLive log e held by k = record { within = old; adds = l.adds; untouched = λ o' k' m t b. l.untouched o' k' (let y = up o' in omega arith) t b } in
@@ -77,11 +75,11 @@ applied_live state log held gone op dot h stays n seq p =
           (λ (named : is_named op (key e by (k + 1)) ≡ true).
           absurd (l.untouched dot.origin (held dot.origin) there ((next_touches log held gone dot.origin op e h n).1 (sym (named_is op e by (k + 1)) ∙ named)) (let z = n.past by in omega arith)))
           (λ (t : is_named op (key e by (k + 1)) ≡ false). t) (cases_Bool (is_named op (key e by (k + 1)))) in
-          left_true _ _ (both_true _ _ (p.all e by k q before) (ap not apart))) (new_or_old log held dot.origin by k l.within);
+          or_left _ _ (and_from _ _ (p.all e by k q before) (ap not apart))) (new_or_old log held dot.origin by k l.within);
       shaped = λ y c. ⊎_elim
-          (λ (a : (set.contains state y && not (is_named op y)) ≡ true). p.shaped y (two_of _ _ a).0)
+          (λ (a : (set.contains state y && not (is_named op y)) ≡ true). p.shaped y (and_parts _ _ a).0)
           (λ (b : set.contains (fresh_of op dot) y ≡ true). let f = fresh_key op dot y b in (f.0, dot.origin, held dot.origin, f.2 ∙ same_key f.0 f.0 dot.origin dot.seq (held dot.origin + 1) refl seq))
-          (either_true _ _ (sym (contains-applied state op dot y) ∙ c));
+          (or_cases _ _ (sym (contains-applied state op dot y) ∙ c));
     }
 
 applied_seen : (state : Dots) (log : History Op) (held : VersionVector) (gone : IdentitySet) (op : Op) (dot : Dot) → IsPrunedCut log held gone → IsNext log held dot.origin (Operation op) → dot.seq ≡ held dot.origin + 1
@@ -111,18 +109,18 @@ applied_seen state log held gone op dot h n seq p =
       shaped = λ y c. let f = fresh_key op dot y c in (f.0, o, x, f.2 ∙ same_key f.0 f.0 o dot.seq (x + 1) refl seq);
       seen = λ e by k c. ⊎_elim
           (λ (a : (set.contains state (key e by (k + 1)) && is_named op (key e by (k + 1))) ≡ true).
-          let both = two_of _ _ a in
+          let both = and_parts _ _ a in
           let l = p.live e by k both.0 in
           inl (x, omega arith, omega arith, (next_touches log held gone o op e h n).1 (sym (named_is op e by (k + 1)) ∙ both.1), subst (λ z. IsLive log e z by k) (λ j i. sym (n.past i) j) l.1))
           (λ (b : set.contains (fresh_of op dot) (key e by (k + 1)) ≡ true). let f = placed e by k b in inr (f.1, (let q = f.2 in omega arith), (let q = f.2 in omega arith)))
-          (either_true _ _ (sym (contains-seen state op dot (key e by (k + 1))) ∙ c));
+          (or_cases _ _ (sym (contains-seen state op dot (key e by (k + 1))) ∙ c));
       all = λ e by k at a b t l.
           let same : at ≡ x = omega arith in
           let named : (adds op e || removes op e) ≡ true = (next_touches log held gone o op e h n).0 (subst (Touches log e o) same t) in
           let past : past_of log o at ≡ held = λ j i. (ap (λ z. past_of log o z i) same ∙ n.past i) j in
           let live : IsLive log e held by k = subst (λ z. IsLive log e z by k) past l in
           let stored = p.all e by k (live_not_gone log e held gone by k h live) live in
-          contains-seen state op dot (key e by (k + 1)) ∙ left_true _ _ (both_true _ _ stored (named_is op e by (k + 1) ∙ named));
+          contains-seen state op dot (key e by (k + 1)) ∙ or_left _ _ (and_from _ _ stored (named_is op e by (k + 1) ∙ named));
     }
 
 pub data_applied : (state : Dots) (log : History Op) (held : VersionVector) (gone : IdentitySet) (op : Op) (dot : Dot) → IsPrunedCut log held gone → gone dot.origin ≡ false → IsNext log held dot.origin (Operation op) → dot.seq ≡ held dot.origin + 1
@@ -136,7 +134,7 @@ delta_combined first later log origin after mid to d e = record {
       (λ (b : set.contains later.fresh (key el by (k + 1)) ≡ true).
       let f = e.fresh el by k b in (f.0, record { from = (let x = d.rises in let y = f.1.from in omega arith); below = f.1.below; adds = f.1.adds; last = f.1.last }))
       (λ (a : (set.contains first.fresh (key el by (k + 1)) && not (set.contains later.seen (key el by (k + 1)))) ≡ true).
-      let both = two_of _ _ a in
+      let both = and_parts _ _ a in
       let f = d.fresh el by k both.0 in (
         f.0,
         record {
@@ -145,10 +143,10 @@ delta_combined first later log origin after mid to d e = record {
           adds = f.1.adds;
           last = λ at x y t l. ⊎_elim
               (λ (z : at < mid). f.1.last at x z t l)
-              (λ (z : mid ≤ at). both_ways _ (e.all el by k at z y t (subst (λ q. IsLive log el (past_of log origin at) q k) (sym f.0) l)) (turned _ both.1)) (cases_lt at mid);
+              (λ (z : mid ≤ at). both_ways _ (e.all el by k at z y t (subst (λ q. IsLive log el (past_of log origin at) q k) (sym f.0) l)) (not-true _ both.1)) (cases_lt at mid);
         },
       ))
-      (either_true _ _ (sym (contains-combined first later (key el by (k + 1))) ∙ c));
+      (or_cases _ _ (sym (contains-combined first later (key el by (k + 1))) ∙ c));
   adds = λ el k f. contains-combined first later (key el origin (k + 1)) ∙ ⊎_elim
       (λ (x : k < mid).
       let kept_first = d.adds el k (record { from = f.from; below = x; adds = f.adds; last = λ at a b t l. f.last at a (let y = e.rises in omega arith) t l }) in
@@ -157,8 +155,8 @@ delta_combined first later log origin after mid to d e = record {
       (λ (r : (at : ℕ) × (mid ≤ at) × (at < to) × Touches log el origin at × IsLive log el (past_of log origin at) origin k). f.last r.0 (let y = r.1 in omega arith) r.2 r.3 r.4)
       (λ (r : (origin ≡ origin) × (mid ≤ k) × (k < to)). (let y = r.1 in omega arith)) (e.seen el origin k s)))
       (λ (s : set.contains later.seen (key el origin (k + 1)) ≡ false). s) (cases_Bool (set.contains later.seen (key el origin (k + 1)))) in
-      right_true _ _ (both_true _ _ kept_first (ap not unseen)))
-      (λ (x : mid ≤ k). left_true _ _ (e.adds el k (record { from = x; below = f.below; adds = f.adds; last = f.last }))) (cases_lt k mid);
+      or_right _ _ (and_from _ _ kept_first (ap not unseen)))
+      (λ (x : mid ≤ k). or_left _ _ (e.adds el k (record { from = x; below = f.below; adds = f.adds; last = f.last }))) (cases_lt k mid);
   seen = λ el by k c. ⊎_elim
       (λ (a : set.contains first.seen (key el by (k + 1)) ≡ true). ⊎_elim
       (λ (r : (at : ℕ) × (after ≤ at) × (at < mid) × Touches log el origin at × IsLive log el (past_of log origin at) by k). inl (r.0, r.1, (let y = r.2 in let z = e.rises in omega arith), r.3, r.4))
@@ -166,13 +164,13 @@ delta_combined first later log origin after mid to d e = record {
       (λ (b : set.contains later.seen (key el by (k + 1)) ≡ true). ⊎_elim
       (λ (r : (at : ℕ) × (mid ≤ at) × (at < to) × Touches log el origin at × IsLive log el (past_of log origin at) by k). inl (r.0, (let y = r.1 in let z = d.rises in omega arith), r.2, r.3, r.4))
       (λ (r : (by ≡ origin) × (mid ≤ k) × (k < to)). inr (r.0, (let y = r.1 in let z = d.rises in omega arith), r.2)) (e.seen el by k b))
-      (either_true _ _ (sym (contains-both_seen first later (key el by (k + 1))) ∙ c));
+      (or_cases _ _ (sym (contains-both_seen first later (key el by (k + 1))) ∙ c));
   all = λ el by k at a b t l. contains-both_seen first later (key el by (k + 1)) ∙ ⊎_elim
-      (λ (x : at < mid). left_true _ _ (d.all el by k at a x t l)) (λ (x : mid ≤ at). right_true _ _ (e.all el by k at x b t l)) (cases_lt at mid);
+      (λ (x : at < mid). or_left _ _ (d.all el by k at a x t l)) (λ (x : mid ≤ at). or_right _ _ (e.all el by k at x b t l)) (cases_lt at mid);
   shaped = λ y c. ⊎_elim
       (λ (b : set.contains later.fresh y ≡ true). e.shaped y b)
-      (λ (a : (set.contains first.fresh y && not (set.contains later.seen y)) ≡ true). d.shaped y (two_of _ _ a).0)
-      (either_true _ _ (sym (contains-combined first later y) ∙ c));
+      (λ (a : (set.contains first.fresh y && not (set.contains later.seen y)) ≡ true). d.shaped y (and_parts _ _ a).0)
+      (or_cases _ _ (sym (contains-combined first later y) ∙ c));
 }
 
 -- a delta's fresh dots are its origin's
@@ -180,4 +178,4 @@ pub delta_made_by : (delta : SetDelta) (log : History Op) (origin after to : ℕ
 delta_made_by delta log origin after to d = λ k c.
     let f = d.shaped k c in
     let by = (d.fresh f.0 f.1 f.2 (ap (set.contains delta.fresh) (sym f.3) ∙ c)).0 in
-    ap (is_of origin) f.3 ∙ of_eq f.1 origin by
+    ap (is_of origin) f.3 ∙ eq-eqb f.1 origin by

@@ -1,6 +1,6 @@
 -- A prune: the owner takes over what was live of the pruned identity.
 use Rattle.std.proofs.Common.{◌≡◌, ◌≢◌, ℕ, ◌+◌, ◌<◌, ◌≤◌, Bool, true, false, not, ◌&&◌, List, [], ◌∷◌, cond, nat_eq, arith, refl, ap, sym, ◌∙◌, subst, ⊎_elim}
-use Rattle.std.proofs.lemmas.Bool.{cases_Bool}
+use Rattle.std.proofs.lemmas.Bool.{cases_Bool, or_cases, or_left, or_right, and_parts, and_from, not-true, eqb-true, eq-eqb}
 use Rattle.std.specs.List.{list_any}
 use Rattle.std.specs.Str.{bytes_eq}
 use Rattle.std.specs.Ordering.{nat_cmp, eq_by_cmp}
@@ -11,13 +11,11 @@ use Rattle.rd_history.specs.Vector.{VersionVector, IdentitySet, with_member}
 use Rattle.rd_history.specs.History.{History}
 use Rattle.rd_history.specs.History.Action.{Prune}
 use Rattle.rd_history.specs.Cuts.{action_of, past_of, grown, IsNext, IsPrunedCut}
-use Rattle.rd_history.proofs.CutLaws.{with_at_is, with_at-le, with_member_is, with_member_other, IsConsistentCut-grown, new_or_old}
+use Rattle.rd_history.proofs.CutLaws.{with_at_is, with_at-le, with_member_is, with_member_other, IsConsistentCut-grown, new_or_old, both_ways}
 use Rattle.rd_vectors.specs.declared.id.Dot.{Dot}
 use Rattle.rd_kinds.specs.declared.operation.Op.{Op}
-use Rattle.rd_growing.specs.Bits.{either_true, left_true, right_true}
 use Rattle.rd_bytes.proofs.TextLaws.{eq_texts, texts_eq}
 use Rattle.rd_orset.specs.Placing.{key}
-use Rattle.rd_orset.specs.Tests.{two_of, both_true, both_ways, turned, eq_of, of_eq}
 use Rattle.rd_orset.specs.Dots.{Dots, is_dot_of, has_dot_of, is_touched, moved, set_pruned}
 use Rattle.rd_orset.specs.DotLaws.{same_item, itself, key_parts, same_key, some_dot, dot_of_any, contains-pruned}
 use Rattle.rd_orset.specs.Live.{Touches, Adds, IsLive, TouchesBy}
@@ -29,9 +27,9 @@ dot_live : (state : Dots) (log : History Op) (held : VersionVector) (gone : Iden
 dot_live state log held gone id e p t =
     let f = dot_of_any state (is_dot_of e id) t in
     let shape = p.shaped f.0 f.1 in
-    let test = two_of _ _ (ap (is_dot_of e id) (sym shape.3) ∙ f.2) in
+    let test = and_parts _ _ (ap (is_dot_of e id) (sym shape.3) ∙ f.2) in
     let l = p.live shape.0 shape.1 shape.2 (ap (set.contains state) (sym shape.3) ∙ f.1) in
-    (shape.2, subst (λ z. IsLive log e held z shape.2) (eq_of shape.1 id test.0) (subst (λ z. IsLive log z held shape.1 shape.2) (sym (eq_texts e shape.0 test.1)) l.1))
+    (shape.2, subst (λ z. IsLive log e held z shape.2) (eqb-true shape.1 id test.0) (subst (λ z. IsLive log z held shape.1 shape.2) (sym (eq_texts e shape.0 test.1)) l.1))
 
 -- THE MOVED DOTS
 
@@ -45,12 +43,12 @@ moved_from id dot q ([] ∷ xs) c = let f = moved_from id dot q xs c in (f.0, f.
 moved_from id dot q ((o ∷ []) ∷ xs) c = let f = moved_from id dot q xs c in (f.0, f.1, f.2)
 moved_from id dot q ((o ∷ s ∷ a) ∷ xs) c = ⊎_elim
     (λ (t : nat_eq o id ≡ true). ⊎_elim
-    (λ (x : eq_by_cmp (slice_cmp nat_cmp) q (key a dot.origin dot.seq) ≡ true). (a, same_item q _ x, left_true _ _ (both_true _ _ t (texts_eq a))))
-    (λ (x : list_any (eq_by_cmp (slice_cmp nat_cmp) q) (moved id dot xs) ≡ true). let f = moved_from id dot q xs x in (f.0, f.1, right_true _ _ f.2))
-    (either_true _ _ (sym (ap (λ b. list_any (eq_by_cmp (slice_cmp nat_cmp) q) (after_one id dot a xs b)) t) ∙ c)))
+    (λ (x : eq_by_cmp (slice_cmp nat_cmp) q (key a dot.origin dot.seq) ≡ true). (a, same_item q _ x, or_left _ _ (and_from _ _ t (texts_eq a))))
+    (λ (x : list_any (eq_by_cmp (slice_cmp nat_cmp) q) (moved id dot xs) ≡ true). let f = moved_from id dot q xs x in (f.0, f.1, or_right _ _ f.2))
+    (or_cases _ _ (sym (ap (λ b. list_any (eq_by_cmp (slice_cmp nat_cmp) q) (after_one id dot a xs b)) t) ∙ c)))
     (λ (t : nat_eq o id ≡ false).
     let f = moved_from id dot q xs (sym (ap (λ b. list_any (eq_by_cmp (slice_cmp nat_cmp) q) (after_one id dot a xs b)) t) ∙ c) in
-    (f.0, f.1, right_true _ _ f.2)) (cases_Bool (nat_eq o id))
+    (f.0, f.1, or_right _ _ f.2)) (cases_Bool (nat_eq o id))
 
 pub moved_to : (id : ℕ) (dot : Dot) (e : Text) (xs : List (List ℕ)) → list_any (is_dot_of e id) xs ≡ true → list_any (eq_by_cmp (slice_cmp nat_cmp) (key e dot.origin dot.seq)) (moved id dot xs) ≡ true
 moved_to id dot e [] c = absurd (cc c)
@@ -59,11 +57,11 @@ moved_to id dot e ((o ∷ []) ∷ xs) c = moved_to id dot e xs c
 moved_to id dot e ((o ∷ s ∷ a) ∷ xs) c = ⊎_elim
     (λ (t : nat_eq o id ≡ true). ap (λ b. list_any (eq_by_cmp (slice_cmp nat_cmp) (key e dot.origin dot.seq)) (after_one id dot a xs b)) t ∙ ⊎_elim
     (λ (x : (nat_eq o id && bytes_eq e a) ≡ true).
-    left_true _ _ (subst (λ z. eq_by_cmp (slice_cmp nat_cmp) (key e dot.origin dot.seq) (key z dot.origin dot.seq) ≡ true) (eq_texts e a (two_of _ _ x).1) (itself (key e dot.origin dot.seq))))
-    (λ (x : list_any (is_dot_of e id) xs ≡ true). right_true _ _ (moved_to id dot e xs x)) (either_true _ _ c))
+    or_left _ _ (subst (λ z. eq_by_cmp (slice_cmp nat_cmp) (key e dot.origin dot.seq) (key z dot.origin dot.seq) ≡ true) (eq_texts e a (and_parts _ _ x).1) (itself (key e dot.origin dot.seq))))
+    (λ (x : list_any (is_dot_of e id) xs ≡ true). or_right _ _ (moved_to id dot e xs x)) (or_cases _ _ c))
     (λ (t : nat_eq o id ≡ false). ap (λ b. list_any (eq_by_cmp (slice_cmp nat_cmp) (key e dot.origin dot.seq)) (after_one id dot a xs b)) t ∙ ⊎_elim
-    (λ (x : (nat_eq o id && bytes_eq e a) ≡ true). absurd (both_ways _ (two_of _ _ x).0 t))
-    (λ (x : list_any (is_dot_of e id) xs ≡ true). moved_to id dot e xs x) (either_true _ _ c)) (cases_Bool (nat_eq o id))
+    (λ (x : (nat_eq o id && bytes_eq e a) ≡ true). absurd (both_ways _ (and_parts _ _ x).0 t))
+    (λ (x : list_any (is_dot_of e id) xs ≡ true). moved_to id dot e xs x) (or_cases _ _ c)) (cases_Bool (nat_eq o id))
 
 -- THE LAW
 
@@ -81,14 +79,14 @@ data_pruned state log held gone id dot h stays n seq p ne unpruned =
     ) in
     let touching : (e : Text) → has_dot_of state id e ≡ true → Touches log e dot.origin (held dot.origin) = λ e t. (opens e).1 (dot_live state log held gone id e p t) in
     let touched_by : (e : Text) → Touches log e dot.origin (held dot.origin) → has_dot_of state id e ≡ true = λ e t. let u = (opens e).0 t in
-    some_dot state (is_dot_of e id) (key e id (u.0 + 1)) (p.all e id u.0 unpruned u.1) (both_true _ _ (of_eq id id refl) (texts_eq e)) in
+    some_dot state (is_dot_of e id) (key e id (u.0 + 1)) (p.all e id u.0 unpruned u.1) (and_from _ _ (eq-eqb id id refl) (texts_eq e)) in
     record {
       live = λ e by k c. ⊎_elim
           (λ (a : (set.contains state (key e by (k + 1)) && not (is_touched state id (key e by (k + 1)))) ≡ true).
-          let both = two_of _ _ a in
+          let both = and_parts _ _ a in
           let l = p.live e by k both.0 in
-          let untouched_e : has_dot_of state id e ≡ false = turned (has_dot_of state id e) both.1 in
-          let apart : by ≢ id = λ same. both_ways _ (some_dot state (is_dot_of e id) (key e by (k + 1)) both.0 (both_true _ _ (of_eq by id same) (texts_eq e))) untouched_e in (
+          let untouched_e : has_dot_of state id e ≡ false = not-true (has_dot_of state id e) both.1 in
+          let apart : by ≢ id = λ same. both_ways _ (some_dot state (is_dot_of e id) (key e by (k + 1)) both.0 (and_from _ _ (eq-eqb by id same) (texts_eq e))) untouched_e in (
             with_member_other gone id by apart ∙ l.0,
             record {
               within = (let w = l.1.within in let y = up by in omega arith);
@@ -113,12 +111,12 @@ data_pruned state log held gone id dot h stays n seq p ne unpruned =
                 (λ (old : k' < held o'). let q = h.cut.closed o' k' dot.origin old in omega arith) (new_or_old log held dot.origin o' k' m);
           } in
           (with_member_other gone id by (λ same. ne (sym same ∙ parts.1)) ∙ ap gone parts.1 ∙ stays, subst (λ z. IsLive log e (grown held dot.origin) z k) (sym parts.1) (subst (λ z. IsLive log e (grown held dot.origin) dot.origin z) (sym at) new_live)))
-          (either_true _ _ (sym (contains-pruned state id dot (key e by (k + 1))) ∙ c));
+          (or_cases _ _ (sym (contains-pruned state id dot (key e by (k + 1))) ∙ c));
       all = λ e by k q l. contains-pruned state id dot (key e by (k + 1)) ∙ ⊎_elim
           (λ (new : (by ≡ dot.origin) × (k ≡ held dot.origin)).
           let t : Touches log e dot.origin (held dot.origin) = subst (Adds log e dot.origin (held dot.origin)) n.action
           (subst (λ z. Adds log e dot.origin z (action_of log dot.origin z)) new.1 (subst (λ z. Adds log e z k (action_of log z k)) new.0 l.adds)) in
-          right_true _ _ (subst (λ z. list_any (eq_by_cmp (slice_cmp nat_cmp) z) (moved id dot (set.items state)) ≡ true)
+          or_right _ _ (subst (λ z. list_any (eq_by_cmp (slice_cmp nat_cmp) z) (moved id dot (set.items state)) ≡ true)
           (same_key e e dot.origin dot.seq (k + 1) refl (let z = new.1 in omega arith) ∙ ap (λ z. key e z (k + 1)) (sym new.0)) (moved_to id dot e (set.items state) (touched_by e t))))
           (λ (old : k < held by).
           let before : IsLive log e held by k = record { within = old; adds = l.adds; untouched = λ o' k' m t b. l.untouched o' k' (let y = up o' in omega arith) t b } in
@@ -126,10 +124,10 @@ data_pruned state log held gone id dot h stays n seq p ne unpruned =
           let untouched_e : has_dot_of state id e ≡ false = ⊎_elim
           (λ (t : has_dot_of state id e ≡ true). absurd (l.untouched dot.origin (held dot.origin) there (touching e t) (let z = n.past by in omega arith)))
           (λ (t : has_dot_of state id e ≡ false). t) (cases_Bool (has_dot_of state id e)) in
-          left_true _ _ (both_true _ _ (p.all e by k (sym (with_member_other gone id by apart) ∙ q) before) (ap not untouched_e))) (new_or_old log held dot.origin by k l.within);
+          or_left _ _ (and_from _ _ (p.all e by k (sym (with_member_other gone id by apart) ∙ q) before) (ap not untouched_e))) (new_or_old log held dot.origin by k l.within);
       shaped = λ y c. ⊎_elim
-          (λ (a : (set.contains state y && not (is_touched state id y)) ≡ true). p.shaped y (two_of _ _ a).0)
+          (λ (a : (set.contains state y && not (is_touched state id y)) ≡ true). p.shaped y (and_parts _ _ a).0)
           (λ (b : list_any (eq_by_cmp (slice_cmp nat_cmp) y) (moved id dot (set.items state)) ≡ true).
           let f = moved_from id dot y (set.items state) b in (f.0, dot.origin, held dot.origin, f.1 ∙ same_key f.0 f.0 dot.origin dot.seq (held dot.origin + 1) refl seq))
-          (either_true _ _ (sym (contains-pruned state id dot y) ∙ c));
+          (or_cases _ _ (sym (contains-pruned state id dot y) ∙ c));
     }

@@ -4,6 +4,7 @@ use Rattle.std.specs.Prelude.{slice_get, filter, filter_map, if◌then◌else◌
 use Rattle.std.specs.List.{list_any}
 use Rattle.std.specs.Str.{bytes_eq}
 use Rattle.std.specs.FinSet as set
+use Rattle.std.proofs.lemmas.Bool.{or_right, and_parts, and_from}
 use Rattle.rd_history.specs.Texts.{Text, text_set, contains_text}
 use Rattle.rd_history.specs.Vector.{VersionVector, IdentitySet}
 use Rattle.rd_history.specs.History.{Action, Stamped, History, size, cut, all_records}
@@ -18,12 +19,11 @@ use Rattle.rd_kinds.specs.SixKinds.{of_kind, set_operations, adds, added}
 use Rattle.rd_kinds.specs.declared.kind.Kind.TheVariants as Kind
 use Rattle.rd_kinds.specs.declared.operation.Op.{Op}
 use Rattle.rd_kinds.specs.declared.operation.Op.TheVariants.{Add, Remove}
-use Rattle.rd_growing.specs.Bits.{right_true, same_bits}
+use Rattle.rd_growing.specs.Bits.{same_bits}
 use Rattle.rd_bytes.specs.TextOrder.{IsBelowAll, IsRising}
 use Rattle.rd_bytes.proofs.TextLaws.{eq_texts, texts_eq}
 use Rattle.rd_growing.specs.TextSetLaws.{same_texts, contains_set, rising_set}
 use Rattle.rd_orset.specs.Placing.{key}
-use Rattle.rd_orset.specs.Tests.{two_of, both_true}
 use Rattle.rd_orset.specs.Dots.{Dots, element_of, shown_elements, set_refusal}
 use Rattle.rd_orset.specs.DotLaws.{some_dot, dot_of_any}
 use Rattle.rd_orset.specs.Live.{Touches, IsLive}
@@ -78,7 +78,7 @@ contains_found f e (y ∷ ys) (suc k) x at is = go (f y) refl (contains_found f 
   where
     go : (o : Option Text) → f y ≡ o → contains_text (filter_map f ys) e ≡ true → contains_text (filter_map f (y ∷ ys)) e ≡ true
     go None none later = rw none later
-    go (Some z) some later = rw some (right_true (bytes_eq e z) (contains_text (filter_map f ys) e) later)
+    go (Some z) some later = rw some (or_right (bytes_eq e z) (contains_text (filter_map f ys) e) later)
 
 -- EACH LIVE ELEMENT WAS ADDED
 
@@ -132,12 +132,12 @@ module _ (state : Dots) (log : History Op) (held : VersionVector) (gone : Identi
       let same : e ≡ shape.0 = eq_texts e shape.0 (ap (λ k. bytes_eq e (element_of k)) (sym shape.3) ∙ f.2) in
       let live : IsLive log e held shape.1 shape.2 = subst (λ z. IsLive log z held shape.1 shape.2) (sym same) l in
       contains_filter has_live (text_set (filter_map added_in (all_records (cut log held)))) e
-      ∙ both_true _ _ (contains_set (filter_map added_in (all_records (cut log held))) e ∙ live_added e shape.1 shape.2 live)
+      ∙ and_from _ _ (contains_set (filter_map added_in (all_records (cut log held))) e ∙ live_added e shape.1 shape.2 live)
       (any_held log held pruned.cut (is_live set_operations e (cut log held)) shape.1 shape.2 live.within (live_in_cut log e held shape.1 shape.2 pruned.cut live.within live))
 
   live_shown : (e : Text) → contains_text (live_elements set_operations (cut log held)) e ≡ true → contains_text (shown_elements state) e ≡ true
   live_shown e c =
-      let parts = two_of _ _ (sym (contains_filter has_live (text_set (filter_map added_in (all_records (cut log held)))) e) ∙ c) in
+      let parts = and_parts _ _ (sym (contains_filter has_live (text_set (filter_map added_in (all_records (cut log held)))) e) ∙ c) in
       let y = held_any log held pruned.cut (is_live set_operations e (cut log held)) parts.1 in
       let live = live_in_log log e held y.0 y.1 pruned.cut y.2 y.3 in
       contains_set (map element_of (set.items state)) e ∙ any_map element_of e (set.items state)

@@ -6,6 +6,7 @@ use Rattle.std.specs.List.{filter, flat_map, list_any, range_with_len}
 use Rattle.std.specs.Ordering.{nat_cmp, eq_by_cmp}
 use Rattle.std.specs.Cmp.Lexicographic.{slice_cmp}
 use Rattle.std.specs.FinSet as set
+use Rattle.std.proofs.lemmas.Bool.{and_parts, and_from}
 use Rattle.rd_history.specs.Table.{identity_limit}
 use Rattle.rd_history.specs.Texts.{Text}
 use Rattle.rd_history.specs.Vector.{VersionVector, IdentitySet}
@@ -19,7 +20,6 @@ use Rattle.rd_bytes.proofs.TextLaws.{texts_eq}
 use Rattle.rd_vectors.specs.declared.id.Dot.{Dot}
 use Rattle.rd_orset.specs.declared.element.Element.{Element}
 use Rattle.rd_orset.specs.Placing.{key}
-use Rattle.rd_orset.specs.Tests.{two_of, both_true}
 use Rattle.rd_orset.specs.Dots.{Dots, is_element}
 use Rattle.rd_orset.specs.DotLaws.{same_item, itself}
 use Rattle.rd_orset.specs.Live.{IsLive}
@@ -89,7 +89,7 @@ module _ (state : Dots) (log : History Op) (held : VersionVector) (gone : Identi
 
   dot_live : (e : Text) (k : List ℕ) → (set.contains state k && is_element e k) ≡ true → list_any (is_named e k) (all_records (cut log held)) ≡ true
   dot_live e k h =
-      let parts = two_of _ _ h in
+      let parts = and_parts _ _ h in
       let shape = is.shaped k parts.0 in
       let i : ℕ = shape.1 in
       let n : ℕ = shape.2 in
@@ -99,18 +99,18 @@ module _ (state : Dots) (log : History Op) (held : VersionVector) (gone : Identi
       let number : n + 1 ≡ 1 + n = omega arith in
       let named : k ≡ key e i (1 + n) = shape.3 ∙ ap (λ z. key z i (n + 1)) same ∙ ap (key e i) number in
       any_held log held pruned.cut (is_named e k) i n live.within
-      (both_true _ _ (live_in_cut log e held i n pruned.cut live.within live) (ap (λ z. same_key z (key e i (1 + n))) named ∙ itself (key e i (1 + n))))
+      (and_from _ _ (live_in_cut log e held i n pruned.cut live.within live) (ap (λ z. same_key z (key e i (1 + n))) named ∙ itself (key e i (1 + n))))
 
   live_dot : (e : Text) (k : List ℕ) → list_any (is_named e k) (all_records (cut log held)) ≡ true → (set.contains state k && is_element e k) ≡ true
   live_dot e k h =
       let y = held_any log held pruned.cut (is_named e k) h in
       let i : ℕ = y.0 in
       let n : ℕ = y.1 in
-      let parts = two_of _ _ y.3 in
+      let parts = and_parts _ _ y.3 in
       let live = live_in_log log e held i n pruned.cut y.2 parts.0 in
       let number : 1 + n ≡ n + 1 = omega arith in
       let named : k ≡ key e i (n + 1) = same_item k (key e i (1 + n)) parts.1 ∙ ap (key e i) number in
-      both_true _ _ (ap (set.contains state) named ∙ is.all e i n (live_not_gone log e held gone i n pruned live) live) (ap (is_element e) named ∙ texts_eq e)
+      and_from _ _ (ap (set.contains state) named ∙ is.all e i n (live_not_gone log e held gone i n pruned live) live) (ap (is_element e) named ∙ texts_eq e)
 
   element_means : (e : Text) → element_at state e ≡ history_element (cut log held) e
   element_means e =

@@ -1,8 +1,6 @@
 //! A set in which an add wins over a remove that hasn't seen it: elements with their dots, and no tombstones.
 #![tactic(auto)]
 
-#[cfg(test)]
-mod bytes_tests;
 mod calls;
 mod dots;
 mod element;

@@ -7,6 +7,7 @@ use Rattle.std.proofs.lemmas.List.{take_more}
 use Rattle.std.proofs.lemmas.Option.{slice_get-get_or}
 use Rattle.std.proofs.lemmas.Grind.{flat_map-append}
 use Rattle.std.proofs.lemmas.List.{append-nil}
+use Rattle.rd_vectors.proofs.Walks.{counted_more}
 use Rattle.rd_history.specs.Texts.{Text}
 use Rattle.rd_history.specs.Vector.{VersionVector, IdentitySet}
 use Rattle.rd_history.specs.History.{History}
@@ -26,7 +27,6 @@ use Rattle.rd_node.specs.declared.node.Node.{Node}
 use Rattle.rd_node.specs.Members.{delta_groups, declared_by, StandsForKey, StandsForNode}
 use Rattle.rd_world.specs.declared.world.World.{World}
 use Rattle.rd_world.specs.Standing.{StandsForWorld, StandsForRunning}
-use Rattle.rd_texts.proofs.Ranges.{range_more}
 use Rattle.rd_texts.specs.Entries.{has_records, value_text, known_text, marks_text}
 use Rattle.rd_report.specs.Finals.{key_line, member_line}
 
@@ -48,7 +48,7 @@ pub grown_by_place : (f : ℕ → List ℕ) (i : ℕ) (start old new text : List
 grown_by_place f i start old new text before grown told =
     grown ∙ ap₂ (λ (a b : List ℕ). a ++ b) before told ∙ append_assoc start (flat_map f (range_with_len 0 i)) (f i)
     ∙ ap (λ t. start ++ (flat_map f (range_with_len 0 i) ++ t)) (sym (append-nil (f i))) ∙ ap (λ t. start ++ t) (sym (flat_map-append f (range_with_len 0 i) (i ∷ [])))
-    ∙ ap (λ is. start ++ flat_map f is) (sym (range_more i))
+    ∙ ap (λ is. start ++ flat_map f is) (sym (counted_more i))
 
 -- KEYS
 

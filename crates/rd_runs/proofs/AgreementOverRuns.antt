@@ -4,6 +4,8 @@ use Rattle.std.specs.Prelude.{⊤, ◌==◌, if◌then◌else◌, slice_get, fin
 use Rattle.std.specs.List.{AllByRecursion}
 use Rattle.std.specs.Str.{bytes_eq}
 use Rattle.std.proofs.lemmas.Bool.Decides.{eqb_tells}
+use Rattle.std.proofs.lemmas.Bool.{ltb-true}
+use Rattle.rd_history.proofs.Bridge.{nothing_at}
 use Rattle.rd_history.specs.Texts.{Text}
 use Rattle.rd_history.specs.Table.{identity_limit, with_at}
 use Rattle.rd_model.specs.View.{View, place_of, with_joined, with_replaced, without_member, first_view}
@@ -24,7 +26,7 @@ use Rattle.rd_history.proofs.PruneLaws.{found}
 use Rattle.rd_runs.proofs.Keeping.{if_holds, same_text}
 use Rattle.rd_runs.proofs.Unpruned.{group_of_grown, unpruned_part, unpruned_row}
 use Rattle.rd_runs.proofs.Agreement.{grown, quiet_step, own_stored, own_posts, stored_grown, mine_before, IsFair, OwnsAfter, owns_step, logs_after, message_grown, entry_grown, with_posts_all, moved_on_all, stored_all}
-use Rattle.rd_runs.proofs.Sending.{all_both, lt_of, AreFrom, sends_step, stores_own}
+use Rattle.rd_runs.proofs.Sending.{all_both, AreFrom, sends_step, stores_own}
 
 pub with_at_holds : {X : Type 0} (Q : X → Type 0) (table : ℕ → X) (i : ℕ) (x : X) → ((j : ℕ) → Q (table j)) → Q x → (j : ℕ) → Q (with_at table i x j)
 with_at_holds Q table i x all q j = if_holds Q (j == i) x (table j) q (all j)
@@ -155,11 +157,6 @@ module _ {Kind Op Shown : Type 0} (D : Replication Kind Op Shown) where
       if_holds (λ (e : Entry Op). IsTakenFrom (logs name) e.history) key.durable (seen_by i view.number (stored_entry store key.name)) empty_entry
       (subst (λ n. IsTakenFrom (logs n) (stored_entry store key.name).history) (named key refl) (stored_taken logs store key.name all)) (taken_nothing (logs name))
 
-  -- no records where the log has none
-  nothing_there : (xs : List (Record Op)) → length xs ≡ 0 → xs ≡ []
-  nothing_there [] e = refl
-  nothing_there (x ∷ xs) e = absurd (omega arith)
-
   start_logged : (logs : Text → History Op) (world : World Kind Op Shown) → HasLogs logs world → (view : View) (place : ℕ) → view.given ≡ (view_of world).given + 1 → (view_of world).given < identity_limit → (world' : World Kind Op Shown) → world'.view ≡ view
       → world'.links ≡ world.links → ((q : ℕ) → AllByRecursion (λ (e : Keyed (Entry Op)). IsTakenFrom (logs e.key) e.item.history) (world'.stores q))
       → ((j : ℕ) (n : Node Kind Op Shown) → world'.nodes j ≡ Some n → world.nodes j ≡ Some n) → HasLogs logs (started world' view place)
@@ -179,7 +176,7 @@ module _ {Kind Op Shown : Type 0} (D : Replication Kind Op Shown) where
         fresh = λ key j h. has.fresh key j (omega arith);
         histories = has.histories;
         own = λ j n key e. each (λ j n. (n.entries key).history j ≡ logs key j)
-            (let none : logs key i ≡ [] = nothing_there (logs key i) (has.fresh key i (omega arith)) in (taken key).part i ∙ ap (take (at (new.entries key).history i)) none ∙ take_none _ ∙ sym none)
+            (let none : logs key i ≡ [] = nothing_at (logs key i) (has.fresh key i (omega arith)) in (taken key).part i ∙ ap (take (at (new.entries key).history i)) none ∙ take_none _ ∙ sym none)
             (λ j n e. has.own j n key e) j n e;
         held = λ j n key e. each (λ j n. IsTakenFrom (logs key) (n.entries key).history) (taken key) (λ j n e. has.held j n key e) j n e;
         sent = λ from to index m e. has.sent from to index m (ap (λ (l : ℕ → ℕ → Link Op). slice_get (l from to).messages index) (sym links) ∙ e);
@@ -348,7 +345,7 @@ module _ {Kind Op Shown : Type 0} (D : Replication Kind Op Shown) where
           by_test : (b : Bool) → nat_lt j members ≡ b → (if b then Some (loaded_node {Op = Op} {Shown = Shown} keys j (first_view members) []) else None) ≡ Some n → (j < members) × (n.identity ≡ j) × ((key : Text) → (n.entries key).history ≡ no_records)
           by_test true is e =
               let same : loaded_node {Op = Op} {Shown = Shown} keys j (first_view members) [] ≡ n = cc e in
-              subst (λ (x : Node Kind Op Shown). (j < members) × (x.identity ≡ j) × ((key : Text) → (x.entries key).history ≡ no_records)) same (lt_of j members is, refl, λ key. empty_loaded keys j (first_view members) _)
+              subst (λ (x : Node Kind Op Shown). (j < members) × (x.identity ≡ j) × ((key : Text) → (x.entries key).history ≡ no_records)) same (ltb-true j members is, refl, λ key. empty_loaded keys j (first_view members) _)
           by_test false is e = absurd (cc e)
 
   -- all histories of a run, on the way too, are parts of one log for each key

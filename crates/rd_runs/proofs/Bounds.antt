@@ -2,6 +2,7 @@
 use Rattle.std.proofs.Common.{◌≡◌, ◌≢◌, ℕ, ◌<◌, ◌≤◌, [], ◌∷◌, ◌++◌, length, refl, sym, ap, subst, ◌∙◌, arith, true, Option, Some, None, inl, inr}
 use Rattle.std.specs.Prelude.{slice_get}
 use Rattle.std.proofs.lemmas.Bool.{cases_lt}
+use Rattle.rd_history.proofs.CutLaws.{both_ways}
 use Rattle.rd_history.specs.Texts.{Text}
 use Rattle.rd_history.specs.History.{Action, at, versions, with_record}
 use Rattle.rd_history.proofs.HistoryLaws.{with_at_other, at-union}
@@ -22,7 +23,7 @@ use Rattle.rd_runs.proofs.Happening.{Comes, NodeAfter, MessageAfter, Follows, of
 use Rattle.rd_runs.proofs.Happening.Comes.{Given, Brought}
 use Rattle.rd_runs.proofs.Happening.NodeAfter.{Same, Stepped, Started}
 use Rattle.rd_runs.proofs.Happening.MessageAfter.{OldMessage, NewMessage}
-use Rattle.rd_runs.proofs.RunViews.{HasViews, not_both, views_follow}
+use Rattle.rd_runs.proofs.RunViews.{HasViews, views_follow}
 use Rattle.rd_runs.proofs.StoredParts.{HasParts, LoadedFrom, loaded_from, held_grows, parts_follow}
 use Rattle.rd_runs.proofs.StoredParts.LoadedFrom.{LoadedEmpty, LoadedStored}
 use Rattle.rd_runs.proofs.MarksFollow.{HasMarks, still_joined}
@@ -115,7 +116,7 @@ module _ {Kind Op Shown : Type 0} (D : Replication Kind Op Shown) (book : Book O
             entries = all_of (λ (e : Keyed (Entry Op)). AreWithin B r e.key e.item) (entries_in message)
                 (λ e h. record { within = λ k below. bounds.sent r k from t index view old.view message e past (has.running t old was).viewed late member sent h below });
             groups = all_of (λ (g : Keyed (Group Op)). r ≢ g.item.origin) (groups_in message)
-                (λ g h is. not_both (is_member old.view r) (ap (is_member old.view) (is ∙ (parts.groups from t index message sent g h).0) ∙ member) (not_later D book world has view r past old.view (has.running t old was).viewed late));
+                (λ g h is. both_ways (is_member old.view r) (ap (is_member old.view) (is ∙ (parts.groups from t index message sent g h).0) ∙ member) (not_later D book world has view r past old.view (has.running t old was).viewed late));
           }
 
       brings : (input : Input Op) → Comes D world t input → BringsInput D (AreWithin B r) (AreWithin B r) (IsForeign B r) AnyTick old input

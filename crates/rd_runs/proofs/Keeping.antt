@@ -134,6 +134,16 @@ pub record AreKept {Op : Type 0} (P M : Text → Entry Op → Type 0) (G : Text 
   pub marks : (key : Text) (entry : Entry Op) (shares : Option Shares) (r : ℕ) → Ticks key r (entry.marks r) → IsDue i view entry r → P key entry → P key (marked shares i view.number [] entry r).entry
   pub prunes : (key : Text) (entry : Entry Op) (shares : Option Shares) (r : ℕ) → Ticks key r (entry.marks r) → IsDue i view entry r → IsSeenByAll view entry r → P key entry → P key (performed shares i view.number [] entry r).entry
 
+-- what is found of a key is the entry that the member holds
+pub found_entry : {Kind Op Shown : Type 0} (node : Node Kind Op Shown) (key : Text) (k : KeyState Kind Op) → key_state node key ≡ Some k → k.entry ≡ node.entries key
+found_entry {Kind} {Op} node key k e = go (find (λ decl. bytes_eq decl.name key) node.keys) refl e
+  where
+    go : (o : Option (KeyDecl Kind)) → find (λ decl. bytes_eq decl.name key) node.keys ≡ o → option_map (state_of node) o ≡ Some k → k.entry ≡ node.entries key
+    go None is e' = absurd (cc e')
+    go (Some decl) is e' =
+        let same : state_of node decl ≡ k = cc e' in
+        sym (ap (λ (x : KeyState Kind Op). x.entry) same) ∙ ap node.entries (same_text decl.name key (found _ node.keys decl is))
+
 module _ {Kind Op Shown : Type 0} (D : Replication Kind Op Shown) (P M : Text → Entry Op → Type 0) (G : Text → Group Op → Type 0) (Ticks : Text → ℕ → Option Mark → Type 0) (i : ℕ) (view : View) (kept : AreKept P M G Ticks i view) where
   -- what is known of the entries and groups of a message
   abbrev pub IsKnown : Message Op → Type 0
@@ -187,16 +197,6 @@ module _ {Kind Op Shown : Type 0} (D : Replication Kind Op Shown) (P M : Text �
       go (Some decl) is e' =
           let same : state_of node decl ≡ k = cc e' in
           subst (λ (x : KeyState Kind Op). P x.name x.entry × (x.name ≡ key)) same (keeps.entries decl.name, same_text decl.name key (found _ node.keys decl is))
-
-  -- it is the entry that the member holds
-  found_entry : (node : Node Kind Op Shown) (key : Text) (k : KeyState Kind Op) → key_state node key ≡ Some k → k.entry ≡ node.entries key
-  found_entry node key k e = go (find (λ decl. bytes_eq decl.name key) node.keys) refl e
-    where
-      go : (o : Option (KeyDecl Kind)) → find (λ decl. bytes_eq decl.name key) node.keys ≡ o → option_map (state_of node) o ≡ Some k → k.entry ≡ node.entries key
-      go None is e' = absurd (cc e')
-      go (Some decl) is e' =
-          let same : state_of node decl ≡ k = cc e' in
-          sym (ap (λ (x : KeyState Kind Op). x.entry) same) ∙ ap node.entries (same_text decl.name key (found _ node.keys decl is))
 
   keeps_updated : (node : Node Kind Op Shown) (key : Text) (o : Option (KeyState Kind Op)) → key_state node key ≡ o → (op : Op) (level : Level) (fate : Fate) → Keeps P i view keys node → Keeps P i view keys (updated D node o op level fate).node
   keeps_updated node key None e op level fate keeps = keeps

@@ -3,6 +3,7 @@ use Rattle.std.proofs.Common.{◌≡◌, ℕ, ◌<◌, ◌≤◌, List, [], ◌�
 use Rattle.std.specs.Prelude.{slice_get, ◌==◌, nat_le}
 use Rattle.std.specs.List.{AllByRecursion}
 use Rattle.std.proofs.lemmas.Bool.Decides.{eqb_tells}
+use Rattle.std.proofs.lemmas.Bool.{leb-true}
 use Rattle.rd_history.specs.Texts.{Text}
 use Rattle.rd_history.specs.Table.{with_at}
 use Rattle.rd_history.specs.History.{at, union}
@@ -21,7 +22,7 @@ use Rattle.rd_runs.proofs.Keeping.{AreKept, AnyTick, if_tells}
 use Rattle.rd_runs.proofs.Stepping.{BringsInput, HasView, keeps_any, moves}
 use Rattle.rd_runs.proofs.Stepping.HasView.{SameView, NewView}
 use Rattle.rd_runs.proofs.Growth.{part_with_record, part_with_group}
-use Rattle.rd_runs.proofs.MarkLaws.{le_of, seen_from, merged_from, kept_mark, IsOneOf}
+use Rattle.rd_runs.proofs.MarkLaws.{seen_from, merged_from, kept_mark, IsOneOf}
 use Rattle.rd_runs.proofs.MarkLaws.IsOneOf.{First, Second}
 
 -- VIEWS AND STANDINGS
@@ -162,7 +163,7 @@ module _ {Kind Op Shown : Type 0} (D : Replication Kind Op Shown) where
       (λ old. absurd (not_later old)) (λ new. omega arith)
     where
       not_later : nat_le view.number node.view.number ≡ true → ⊥
-      not_later e = let a = le_of view.number node.view.number e in omega arith
+      not_later e = let a = leb-true view.number node.view.number e in omega arith
 
   number_rises : (node : Node Kind Op Shown) (input : Input Op) (after : Node Kind Op Shown) → HasView node input after → node.view.number ≤ after.view.number
   number_rises node input after (SameView e) = let a : after.view.number ≡ node.view.number = ap (λ (v : View). v.number) e in omega arith

@@ -2,17 +2,11 @@
 use Rattle.std.proofs.Common.{◌≡◌, ℕ, ◌≤◌, refl, sym, ap, ◌∙◌, arith, Bool, true, false, Option, Some, None, ◌⊎◌, inl, inr}
 use Rattle.std.specs.Prelude.{if◌then◌else◌, min, nat_lt, nat_le, ◌==◌, ◌||◌}
 use Rattle.std.proofs.lemmas.Bool.Decides.{eqb_tells, nat_tests}
+use Rattle.std.proofs.lemmas.Bool.{or_cases, leb-true}
 use Rattle.rd_history.specs.History.{History, is_pruned}
 use Rattle.rd_history.specs.Vector.{with_member, united}
 use Rattle.rd_model.specs.Entry.{Mark, Marks, newer_mark, merged_mark, seen_mark, unpruned_marks}
 use Rattle.rd_runs.proofs.Keeping.{neither_less}
-
-pub le_of : (a b : ℕ) → nat_le a b ≡ true → a ≤ b
-le_of a b e = grind (arith, nat_tests)
-
-either : (a b : Bool) → (a || b) ≡ true → (a ≡ true) ⊎ (b ≡ true)
-either true b e = inl refl
-either false b e = inr e
 
 -- a mark that was seen: the view stays, and only the one who saw it is new in it
 pub record SeenFrom (i view : ℕ) (o : Option Mark) (mark : Mark) : Type 0 where
@@ -22,7 +16,7 @@ pub record SeenFrom (i view : ℕ) (o : Option Mark) (mark : Mark) : Type 0 wher
   pub from : (t : ℕ) → mark.seen t ≡ true → (before.seen t ≡ true) ⊎ ((t ≡ i) × (mark.view ≤ view))
 
 in_with_member : (set : ℕ → Bool) (i t : ℕ) → with_member set i t ≡ true → (set t ≡ true) ⊎ (t ≡ i)
-in_with_member set i t e = elim (either (t == i) (set t) e) [
+in_with_member set i t e = elim (or_cases (t == i) (set t) e) [
   | inl new ↦ elim (eqb_tells t i) [ inl is ↦ inr is.1 | inr isnt ↦ absurd (let f = sym new ∙ isnt.0 in cc f) ]
   | inr old ↦ inl old
 ]
@@ -37,7 +31,7 @@ seen_by_test i view m mark true is e =
       same_view = v;
       from = λ t h. elim (in_with_member m.seen i t (ap (λ (x : Mark). x.seen t) same ∙ h)) [
         | inl old ↦ inl old
-        | inr new ↦ inr (new, let a = le_of m.view view is in omega arith)
+        | inr new ↦ inr (new, let a = leb-true m.view view is in omega arith)
       ];
     }
 seen_by_test i view m mark false is e =
@@ -67,7 +61,7 @@ newer_by_test a b mark false false l f e =
     let v : a.view ≡ mark.view = ap (λ (x : Mark). x.view) e in
     record {
       one = First a refl v refl;
-      from = λ t h. elim (either (a.seen t) (b.seen t) (ap (λ (x : Mark). x.seen t) e ∙ h)) [
+      from = λ t h. elim (or_cases (a.seen t) (b.seen t) (ap (λ (x : Mark). x.seen t) e ∙ h)) [
         | inl mine ↦ First a refl v mine
         | inr theirs ↦ Second b refl (sym (neither_less a.view b.view l f) ∙ v) theirs
       ];

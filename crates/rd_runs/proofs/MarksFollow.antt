@@ -2,6 +2,7 @@
 use Rattle.std.proofs.Common.{◌≡◌, ℕ, ◌<◌, ◌≤◌, List, refl, sym, ap, subst, ◌∙◌, arith, Bool, true, false, Option, Some, None, inl, inr}
 use Rattle.std.specs.Prelude.{if◌then◌else◌, ◌==◌, ◌&&◌}
 use Rattle.std.proofs.lemmas.Bool.Decides.{eqb_tells}
+use Rattle.std.proofs.lemmas.Bool.{and_parts, eqb-true}
 use Rattle.rd_history.specs.Texts.{Text}
 use Rattle.rd_history.specs.History.{at, is_pruned}
 use Rattle.rd_history.proofs.PartLaws.{part-le}
@@ -35,14 +36,6 @@ first_is : {X : Type 0} (o p : Option X) (x : X) → first_of o p ≡ Some x →
 first_is None p x e = Later refl e
 first_is (Some y) p x e = Earlier e
 
-both_true : (a b : Bool) → (a && b) ≡ true → (a ≡ true) × (b ≡ true)
-both_true true true e = (refl, refl)
-both_true true false e = absurd (cc e)
-both_true false b e = absurd (cc e)
-
-eqb_is : (a b : ℕ) → (a == b) ≡ true → a ≡ b
-eqb_is a b e = elim (eqb_tells a b) [ inl is ↦ is.1 | inr isnt ↦ absurd (let f = sym e ∙ isnt.0 in cc f) ]
-
 module _ {Op : Type 0} where
   -- a member that stands in a mark of this view
   pub record StandsNow (entry : Entry Op) (r v t : ℕ) (standing : Standing) : Type 0 where
@@ -59,9 +52,9 @@ module _ {Op : Type 0} where
     where
       go : (b : Bool) → ((mark.view == v) && mark.seen t) ≡ b → (if b then Some (record { had = at entry.history r; pruned = is_pruned entry.history r }) else None) ≡ Some standing → StandsNow entry r v t standing
       go true h f =
-          let two = both_true (mark.view == v) (mark.seen t) h in
+          let two = and_parts (mark.view == v) (mark.seen t) h in
           let same : record { had = at entry.history r; pruned = is_pruned entry.history r } ≡ standing = cc f in
-          record { mark = mark; is = is; view = eqb_is mark.view v two.0; seen = two.1; had = sym (ap (λ (x : Standing). x.had) same); pruned = sym (ap (λ (x : Standing). x.pruned) same) }
+          record { mark = mark; is = is; view = eqb-true mark.view v two.0; seen = two.1; had = sym (ap (λ (x : Standing). x.had) same); pruned = sym (ap (λ (x : Standing). x.pruned) same) }
       go false h f = absurd (cc f)
 
   -- who stands in a mark joins

@@ -3,6 +3,7 @@ use Rattle.std.proofs.Common.{◌≡◌, ◌≢◌, ℕ, suc, ◌+◌, ◌<◌, 
 use Rattle.std.specs.Prelude.{⊤, if◌then◌else◌, slice_get, fold, not, filter, nat_lt, ◌==◌, is_some}
 use Rattle.std.specs.List.{range_with_len, AllByRecursion}
 use Rattle.std.proofs.lemmas.Bool.Decides.{nat_tests}
+use Rattle.std.proofs.lemmas.Bool.{not-false, ltb-true}
 use Rattle.rd_history.specs.Table.{identity_limit}
 use Rattle.rd_model.specs.View.{View, is_member, is_taken, place_of, leader, identities_of}
 use Rattle.rd_model.specs.DataType.{Replication}
@@ -18,11 +19,6 @@ use Rattle.rd_model.specs.Script.Answer.{HistoryFull, Replied}
 use Rattle.rd_runs.proofs.Keeping.{if_holds, if_tells, fold_all}
 use Rattle.rd_runs.specs.Logs.{IsNoTick}
 use Rattle.rd_history.proofs.HistoryLaws.{append_nothing}
-use Rattle.rd_runs.proofs.Sending.{lt_of}
-
-not_true : (b : Bool) → not b ≡ false → b ≡ true
-not_true true e = refl
-not_true false e = absurd (cc e)
 
 not_empty : {X : Type 0} (xs : List X) → 0 < length xs → xs ≢ []
 not_empty [] h = absurd (omega arith)
@@ -74,7 +70,7 @@ module _ {Kind Op Shown : Type 0} (D : Replication Kind Op Shown) where
             let fate = fate_of D (keeper_answer p (place_of (view_of p.world) i)) in
             let s = step D node input fate in
             did_plays called (event fate) head (Replied s.output.reply) s.output.posts s.output.ended (allowed fate) plays
-            (lawful fate (record { node = node; runs = runs; has_room = room; fate_fits = fate_fits node input (lt_of 0 (length (stores D node input)) e) (keeper_answer p (place_of (view_of p.world) i)) }))
+            (lawful fate (record { node = node; runs = runs; has_room = room; fate_fits = fate_fits node input (ltb-true 0 (length (stores D node input)) e) (keeper_answer p (place_of (view_of p.world) i)) }))
         by_test false e =
             let s = step D node input NoStore in
             did_plays p (event NoStore) head (Replied s.output.reply) s.output.posts s.output.ended (allowed NoStore) plays
@@ -112,7 +108,7 @@ module _ {Kind Op Shown : Type 0} (D : Replication Kind Op Shown) where
     lose_plays p from to plays =
         let link = link_of p.world.links from to in
         if_tells (λ q. Q q.events q.world) (nat_lt link.next (length link.messages)) (did D p (Loss from to) (Head.LoseHead from to link.next) Answer.Lost [] None) (told p (Head.LoseHead from to link.next) Answer.NoSuchMessage)
-        (λ e. did_plays p (Loss from to) (Head.LoseHead from to link.next) Answer.Lost [] None (going.quiet (Loss from to) tt) plays (lt_of link.next (length link.messages) e)) (λ e. plays)
+        (λ e. did_plays p (Loss from to) (Head.LoseHead from to link.next) Answer.Lost [] None (going.quiet (Loss from to) tt) plays (ltb-true link.next (length link.messages) e)) (λ e. plays)
 
     remove_plays : (p : Playing Kind Op Shown) (i : ℕ) → Plays p → Plays (remove D p i)
     remove_plays p i plays =
@@ -121,7 +117,7 @@ module _ {Kind Op Shown : Type 0} (D : Replication Kind Op Shown) where
         let last = told p (Head.RemoveHead i) Answer.LastMember in
         if_tells (λ q. Q q.events q.world) (not (is_member view i)) (told p (Head.RemoveHead i) Answer.Gone) (if nat_lt 1 (length view.members) then done else last) (λ e. plays)
         (λ member. if_tells (λ q. Q q.events q.world) (nat_lt 1 (length view.members)) done last
-        (λ more. did_plays p (Removal i) (Head.RemoveHead i) (Answer.NewView (view.number + 1)) [] None (going.quiet (Removal i) tt) plays (not_true (is_member view i) member, lt_of 1 (length view.members) more)) (λ e. plays))
+        (λ more. did_plays p (Removal i) (Head.RemoveHead i) (Answer.NewView (view.number + 1)) [] None (going.quiet (Removal i) tt) plays (not-false (is_member view i) member, ltb-true 1 (length view.members) more)) (λ e. plays))
 
     called_plays : (p : Playing Kind Op Shown) (place : ℕ) (event : Event Op) (head : Head Op) (answer failed : Answer Shown) → Allowed event → IsLawful D p.world event → Plays p → Plays (called D p place event head answer failed)
     called_plays p place event head answer failed allowed lawful plays =
@@ -135,7 +131,7 @@ module _ {Kind Op Shown : Type 0} (D : Replication Kind Op Shown) where
         let no = told p (Head.JoinHead place) Answer.TooManyIdentities in
         if_tells (λ q. Q q.events q.world) (is_taken view place) (told p (Head.JoinHead place) Answer.PlaceTaken) (if nat_lt view.given identity_limit then yes else no) (λ e. plays)
         (λ free. if_tells (λ q. Q q.events q.world) (nat_lt view.given identity_limit) yes no
-        (λ room. called_plays p place (Joining place) (Head.JoinHead place) (Answer.NewIdentity view.given (view.number + 1)) Answer.ClearFailed (going.quiet (Joining place) tt) (small, free, lt_of view.given identity_limit room) plays) (λ e. plays))
+        (λ room. called_plays p place (Joining place) (Head.JoinHead place) (Answer.NewIdentity view.given (view.number + 1)) Answer.ClearFailed (going.quiet (Joining place) tt) (small, free, ltb-true view.given identity_limit room) plays) (λ e. plays))
 
     restart_plays : (p : Playing Kind Op Shown) (i : ℕ) → Plays p → Plays (restart D p i)
     restart_plays p i plays =
@@ -144,7 +140,7 @@ module _ {Kind Op Shown : Type 0} (D : Replication Kind Op Shown) where
         let no = told p (Head.RestartHead i) Answer.TooManyIdentities in
         if_tells (λ q. Q q.events q.world) (not (is_member view i)) (told p (Head.RestartHead i) Answer.Gone) (if nat_lt view.given identity_limit then yes else no) (λ e. plays)
         (λ member. if_tells (λ q. Q q.events q.world) (nat_lt view.given identity_limit) yes no
-        (λ room. called_plays p (place_of view i) (Event.Restart i) (Head.RestartHead i) (Answer.NewIdentity view.given (view.number + 1)) Answer.LoadFailed (going.quiet (Event.Restart i) tt) (not_true (is_member view i) member, lt_of view.given identity_limit room) plays) (λ e. plays))
+        (λ room. called_plays p (place_of view i) (Event.Restart i) (Head.RestartHead i) (Answer.NewIdentity view.given (view.number + 1)) Answer.LoadFailed (going.quiet (Event.Restart i) tt) (not-false (is_member view i) member, ltb-true view.given identity_limit room) plays) (λ e. plays))
 
     view_plays : (p : Playing Kind Op Shown) (i number : ℕ) (o : Option View) → slice_get (views_of p.world) number ≡ o → Plays p → Plays (install_view D p i number o)
     view_plays p i number None e plays = plays

@@ -2,6 +2,7 @@
 use Rattle.std.proofs.Common.{◌≡◌, ℕ, ◌<◌, ◌≤◌, List, refl, sym, ap, subst, ◌∙◌, arith, true, false, Option, Some, None, inl, inr}
 use Rattle.std.specs.Prelude.{if◌then◌else◌, slice_get, nat_lt}
 use Rattle.std.proofs.lemmas.Bool.Decides.{nat_tests}
+use Rattle.std.proofs.lemmas.Bool.{lt-ltb, le-ltb}
 use Rattle.rd_history.specs.Texts.{Text}
 use Rattle.rd_history.specs.Table.{identity_limit}
 use Rattle.rd_history.specs.History.{Record, History, at, HasRecord}
@@ -30,12 +31,6 @@ use Rattle.rd_runs.proofs.StoredParts.LoadedFrom.{LoadedEmpty, LoadedStored}
 use Rattle.rd_runs.proofs.KnownMarks.{Stands}
 use Rattle.rd_runs.proofs.MarksFollow.{HasMarks, stands_later}
 use Rattle.rd_runs.proofs.PruneRecords.{StepPrunes, IsNewPrune, BringsLogs, step_prunes}
-
-lt_true : (a b : ℕ) → a < b → nat_lt a b ≡ true
-lt_true a b h = grind (arith, nat_tests)
-
-lt_false : (a b : ℕ) → b ≤ a → nat_lt a b ≡ false
-lt_false a b h = grind (arith, nat_tests)
 
 -- THE RECORDS MADE ARE THE LOGS
 
@@ -76,11 +71,11 @@ module _ {Kind Op Shown : Type 0} (D : Replication Kind Op Shown) (book : Book O
 
   -- a record that was made keeps its view
   pub made_before : (key : Text) (o k : ℕ) → k < at (book.made key) o → (noted book next).made_in key o k ≡ book.made_in key o k
-  made_before key o k h = ap (λ b. if b then book.made_in key o k else view_number (next.nodes o) 0) (lt_true k (at (book.made key) o) h)
+  made_before key o k h = ap (λ b. if b then book.made_in key o k else view_number (next.nodes o) 0) (lt-ltb k (at (book.made key) o) h)
 
   -- a new record has the view of who made it
   pub made_now : (key : Text) (o k : ℕ) (new : Node Kind Op Shown) → next.nodes o ≡ Some new → at (book.made key) o ≤ k → (noted book next).made_in key o k ≡ new.view.number
-  made_now key o k new runs h = ap (λ b. if b then book.made_in key o k else view_number (next.nodes o) 0) (lt_false k (at (book.made key) o) h) ∙ ap (λ n. view_number n 0) runs
+  made_now key o k new runs h = ap (λ b. if b then book.made_in key o k else view_number (next.nodes o) 0) (le-ltb k (at (book.made key) o) h) ∙ ap (λ n. view_number n 0) runs
 
   old_prune : (prunes : HasPrunes book world) (key : Text) (o k r : ℕ) (x : Record Op) → HasRecord (book.made key) o k x → x.action ≡ Prune r → PruneKnown (views_of next) book' key r o k x
   old_prune prunes key o k r x h e =

@@ -2,6 +2,7 @@
 use Rattle.std.proofs.Common.{◌≡◌, ℕ, ◌<◌, ◌≤◌, refl, sym, ap, subst, ◌∙◌, arith, true, false, Option, Some, None, ◌⊎◌, inl, inr}
 use Rattle.std.specs.Prelude.{slice_get, is_some, IsSome}
 use Rattle.std.proofs.lemmas.Bool.{cases_lt}
+use Rattle.rd_history.proofs.CutLaws.{both_ways}
 use Rattle.rd_history.specs.Texts.{Text}
 use Rattle.rd_history.specs.Log.{IsTakenFrom}
 use Rattle.rd_history.specs.History.{Record, History, at, union, HasRecord, IsPartOf, IsExactlyPruned}
@@ -21,7 +22,7 @@ use Rattle.rd_runs.specs.Pruning.HasGroup.{GroupSent}
 use Rattle.rd_runs.proofs.UnprunedMarks.{plain}
 use Rattle.rd_runs.proofs.Happening.{of_all}
 use Rattle.rd_runs.proofs.Growth.{has_union}
-use Rattle.rd_runs.proofs.RunViews.{same_some, not_both}
+use Rattle.rd_runs.proofs.RunViews.{same_some}
 use Rattle.rd_runs.proofs.KnownMarks.{MarksKnown}
 use Rattle.rd_runs.proofs.PrunesFollow.{PruneKnown}
 use Rattle.rd_runs.proofs.Removed.{IsPast, not_later, IsPastView, past_or_unjoined}
@@ -106,7 +107,7 @@ module _ {Kind Op Shown : Type 0} (D : Replication Kind Op Shown) (book : Book O
       let origin = (safe.parts.groups from to index message sent (record { key = key; item = group }) keyed).0 in
       let past = is_past key group.origin view listed all in
       let gone = not_later D book world safe.views view group.origin past node.view (safe.views.running to node runs).viewed (all_past key group.origin view listed all to node runs) in
-      absurd (not_both (is_member node.view from) member (ap (is_member node.view) (sym origin) ∙ gone))
+      absurd (both_ways (is_member node.view from) member (ap (is_member node.view) (sym origin) ∙ gone))
 
   not_barred : (key : Text) (r : ℕ) (view : View) → AllJoined book key r view → IsBarred book world key r view → ⊥
   not_barred key r view all (LeftUnjoined t member e none) = not_unjoined key r view all t member e

@@ -1,6 +1,7 @@
 -- Identities that a view has removed, over an event: who is past the view takes nothing of them.
 use Rattle.std.proofs.Common.{◌≡◌, ◌≢◌, ℕ, ◌<◌, ◌≤◌, List, [], ◌∷◌, ◌++◌, length, refl, sym, ap, ◌∙◌, arith, Bool, true, false, Option, Some, None, inl, inr}
 use Rattle.std.specs.Prelude.{slice_get}
+use Rattle.rd_history.proofs.CutLaws.{both_ways}
 use Rattle.rd_history.specs.Texts.{Text}
 use Rattle.rd_history.proofs.HistoryLaws.{slice_get-push, slice_get-below}
 use Rattle.rd_model.specs.View.{View, is_member}
@@ -11,7 +12,7 @@ use Rattle.rd_runs.specs.Pruning.{Book, Standing, noted, first_of, joined_by, Ha
 use Rattle.rd_runs.proofs.Happening.{NodeAfter, ViewsAfter, Follows}
 use Rattle.rd_runs.proofs.Happening.NodeAfter.{Same, Stepped, Started}
 use Rattle.rd_runs.proofs.Happening.ViewsAfter.{SameViews, NextViews}
-use Rattle.rd_runs.proofs.RunViews.{HasViews, at_most_last, not_both, past_view, views_follow}
+use Rattle.rd_runs.proofs.RunViews.{HasViews, at_most_last, past_view, views_follow}
 use Rattle.rd_runs.proofs.StoredParts.{HasParts}
 use Rattle.rd_runs.proofs.MarksFollow.{HasMarks, StandsNow, stands_now, joined_known}
 
@@ -29,7 +30,7 @@ module _ {Kind Op Shown : Type 0} (D : Replication Kind Op Shown) (book : Book O
   -- so no running member has this identity
   pub not_running : (t : ℕ) (node : Node Kind Op Shown) → world.nodes t ≡ Some node → t ≢ r
   not_running t node runs is =
-      not_both (is_member (view_of world) r) (ap (is_member (view_of world)) (sym is) ∙ (has.running t node runs).last)
+      both_ways (is_member (view_of world) r) (ap (is_member (view_of world)) (sym is) ∙ (has.running t node runs).last)
       (not_later (view_of world) has.views.listed (at_most_last (views_of world) (view_of world) has.views view.number view past.listed))
 
 -- whether a running member is past a view: it has joined or is no member of it, or it is an unjoined member

@@ -2,6 +2,7 @@
 use Rattle.std.proofs.Common.{◌≡◌, ℕ, zero, suc, ◌+◌, ◌<◌, ◌≤◌, List, [], ◌∷◌, ◌++◌, length, refl, sym, ap, subst, ◌∙◌, arith, Bool, true, false, Option, Some, None, inl, inr, length-append}
 use Rattle.std.specs.Prelude.{slice_get}
 use Rattle.std.proofs.lemmas.Bool.{cases_lt}
+use Rattle.rd_history.proofs.CutLaws.{both_ways}
 use Rattle.rd_history.proofs.HistoryLaws.{slice_get-push, slice_get-below}
 use Rattle.rd_model.specs.View.{View, is_member}
 use Rattle.rd_model.specs.DataType.{Replication}
@@ -45,9 +46,6 @@ pub record AreViews (views : List View) (last : View) : Type 0 where
   pub given : (j k : ℕ) (v w : View) → j ≤ k → slice_get views j ≡ Some v → slice_get views k ≡ Some w → v.given ≤ w.given
   pub gone : (j k : ℕ) (v w : View) (r : ℕ) → j ≤ k → slice_get views j ≡ Some v → slice_get views k ≡ Some w → r < v.given → is_member v r ≡ false → is_member w r ≡ false
 
-pub not_both : (b : Bool) → b ≡ true → b ≡ false → ⊥
-not_both b e f = let g : true ≡ false = sym e ∙ f in cc g
-
 pub is_or_isnt : (b : Bool) → (A : Type 0) → (b ≡ true → A) → (b ≡ false → A) → A
 is_or_isnt true A yes_case no_case = yes_case refl
 is_or_isnt false A yes_case no_case = no_case refl
@@ -57,7 +55,7 @@ module _ (views : List View) (last : View) (are : AreViews views last) where
   pub between : (j k l : ℕ) (u v w : View) (t : ℕ) → j ≤ k → k ≤ l → slice_get views j ≡ Some u → slice_get views k ≡ Some v → slice_get views l ≡ Some w → is_member u t ≡ true → is_member w t ≡ true → is_member v t ≡ true
   between j k l u v w t a b hu hv hw mu mw =
       is_or_isnt (is_member v t) (is_member v t ≡ true) (λ e. e)
-      (λ e. absurd (not_both (is_member w t) mw (are.gone k l v w t b hv hw (let p = are.below j u t hu mu in let q = are.given j k u v a hu hv in omega arith) e)))
+      (λ e. absurd (both_ways (is_member w t) mw (are.gone k l v w t b hv hw (let p = are.below j u t hu mu in let q = are.given j k u v a hu hv in omega arith) e)))
 
   pub at_most_last : (k : ℕ) (view : View) → slice_get views k ≡ Some view → k ≤ last.number
   at_most_last k view e = let a = slice_get-below views view k e in let b = are.long in omega arith
@@ -68,7 +66,7 @@ module _ (views : List View) (last : View) (are : AreViews views last) where
     still_gone r small e = is_or_isnt (is_member next r) (is_member next r ≡ false) (λ m. absurd (go (is_next.member r m))) (λ f. f)
       where
         go : IsMemberAfter last next r → ⊥
-        go (OldMember m p) = not_both (is_member last r) m e
+        go (OldMember m p) = both_ways (is_member last r) m e
         go (NewMember is g) = omega arith
 
     new_below : (t : ℕ) → is_member next t ≡ true → t < next.given
@@ -154,7 +152,7 @@ module _ {Kind Op Shown : Type 0} (D : Replication Kind Op Shown) where
   past_view book world has t node runs view listed stranger = elim (cases_lt node.view.number view.number) [
     | inl early ↦
         let well = has.running t node runs in
-        absurd (not_both (is_member view t)
+        absurd (both_ways (is_member view t)
         (between (views_of world) (view_of world) has.views node.view.number view.number (view_of world).number node.view view (view_of world) t (omega arith) (at_most_last (views_of world) (view_of world) has.views view.number view listed)
         well.viewed listed has.views.listed well.member well.last) stranger)
     | inr late ↦ late

@@ -3,6 +3,7 @@ use Rattle.std.proofs.Common.{◌≡◌, ℕ, zero, suc, ◌<◌, ◌≤◌, Lis
 use Rattle.std.specs.Prelude.{if◌then◌else◌, slice_get, nat_lt, find}
 use Rattle.std.specs.Str.{bytes_eq}
 use Rattle.std.proofs.lemmas.Bool.Decides.{nat_tests}
+use Rattle.std.proofs.lemmas.Bool.{ltb-true, lt-ltb}
 use Rattle.rd_history.specs.Texts.{Text}
 use Rattle.rd_history.specs.Table.{identity_limit}
 use Rattle.rd_history.specs.History.{Record, History, at, no_records, HasRecord}
@@ -26,12 +27,6 @@ use Rattle.rd_runs.proofs.MarksFollow.{HasMarks, marks_follow}
 use Rattle.rd_runs.proofs.PrunesFollow.{HasPrunes, made_follow, prunes_follow}
 use Rattle.rd_runs.proofs.Bounds.{HasBounds, bounds_follow}
 use Rattle.rd_runs.proofs.EarlyPrunes.{HasBars, bars_follow}
-
-lt_of : (a b : ℕ) → nat_lt a b ≡ true → a < b
-lt_of a b e = grind (arith, nat_tests)
-
-lt_true : (a b : ℕ) → a < b → nat_lt a b ≡ true
-lt_true a b h = grind (arith, nat_tests)
 
 module _ {Kind Op Shown : Type 0} (D : Replication Kind Op Shown) where
   -- what holds of the book and the world at each moment of a run
@@ -108,7 +103,7 @@ module _ {Kind Op Shown : Type 0} (D : Replication Kind Op Shown) where
     first_by_test : (t : ℕ) (b : Bool) → nat_lt t members ≡ b → (node : Node Kind Op Shown) → (if b then Some (loaded_node keys t view []) else None) ≡ Some node → IsFirst t node
     first_by_test t true is node e =
         let same : loaded_node keys t view [] ≡ node = cc e in
-        subst (IsFirst t) same (record { small = lt_of t members is; identity = refl; keys_are = refl; view_is = refl; bare = λ key. bare_loaded t (find (λ (d : KeyDecl Kind). bytes_eq d.name key) keys) })
+        subst (IsFirst t) same (record { small = ltb-true t members is; identity = refl; keys_are = refl; view_is = refl; bare = λ key. bare_loaded t (find (λ (d : KeyDecl Kind). bytes_eq d.name key) keys) })
     first_by_test t false is node e = absurd (cc e)
 
     first_node : (t : ℕ) (node : Node Kind Op Shown) → first.nodes t ≡ Some node → IsFirst t node
@@ -151,7 +146,7 @@ module _ {Kind Op Shown : Type 0} (D : Replication Kind Op Shown) where
                 last = first_member members t n.small;
                 installed = ap (λ o. view_number o 0) e;
               };
-          all_run = record { runs = λ t m. (loaded_node keys t view [], ap (λ b. if b then Some (loaded_node keys t view []) else None) (lt_true t members (first_below members t m))) };
+          all_run = record { runs = λ t m. (loaded_node keys t view [], ap (λ b. if b then Some (loaded_node keys t view []) else None) (lt-ltb t members (first_below members t m))) };
           places = first_places members;
           installed = λ t. go t (nat_lt t members);
         }

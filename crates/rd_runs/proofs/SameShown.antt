@@ -5,6 +5,8 @@ use Rattle.std.specs.List.{list_any}
 use Rattle.std.specs.Str.{bytes_eq}
 use Rattle.std.proofs.lemmas.Bool.{cases_lt}
 use Rattle.std.proofs.lemmas.Bool.Decides.{nat_tests}
+use Rattle.rd_history.proofs.Bridge.{has_at}
+use Rattle.rd_model.proofs.Steps.{one_is_enough}
 use Rattle.rd_history.specs.Texts.{Text}
 use Rattle.rd_history.specs.Table.{identities}
 use Rattle.rd_history.specs.History.{Record, History, at, HasRecord}
@@ -23,14 +25,9 @@ use Rattle.rd_runs.proofs.Safety.{IsSafe}
 -- RECORDS
 
 module _ {Op : Type 0} where
-  has_last : (xs : List (Record Op)) (k : ℕ) → k < length xs → (x : Record Op) × (slice_get xs k ≡ Some x)
-  has_last [] k h = absurd (omega arith)
-  has_last (x ∷ xs) zero h = (x, refl)
-  has_last (x ∷ xs) (suc k) h = has_last xs k (omega arith)
-
   no_fewer : (H J : History Op) → ((o k : ℕ) (x : Record Op) → HasRecord H o k x → HasRecord J o k x) → (o : ℕ) → at H o ≤ at J o
   no_fewer H J all o = elim (cases_lt (at J o) (at H o)) [
-    | inl more ↦ let r = has_last (H o) (at J o) more in absurd (let a = slice_get-below (J o) r.0 (at J o) (all o (at J o) r.0 r.1) in omega arith)
+    | inl more ↦ let r = has_at (H o) (at J o) more in absurd (let a = slice_get-below (J o) r.0 (at J o) (all o (at J o) r.0 r.1) in omega arith)
     | inr enough ↦ enough
   ]
 
@@ -53,9 +50,6 @@ module _ {Kind Op Shown : Type 0} (D : Replication Kind Op Shown) where
   abbrev reply_of : Node Kind Op Shown → Option (KeyDecl Kind) → Reply Shown
   reply_of node None = UnknownKey
   reply_of node (Some decl) = value_reply D (shown_of D (state_of node decl))
-
-  one_is_enough : (n : ℕ) → 0 < n → needed Level.Local n ≡ Some 1
-  one_is_enough n h = let e : nat_le 1 n ≡ true = grind (arith, nat_tests) in rw e refl
 
   by_decl : (node : Node Kind Op Shown) (o : Option (KeyDecl Kind)) → 0 < member_count node → (got D (one_step_later node) (option_map (state_of (one_step_later node)) o) Level.Local).output.reply ≡ reply_of node o
   by_decl node None some = refl

@@ -5,6 +5,7 @@ use Rattle.std.specs.List.{AllByRecursion, list_any}
 use Rattle.std.specs.Str.{bytes_eq}
 use Rattle.std.proofs.lemmas.Bool.Decides.{nat_tests}
 use Rattle.std.proofs.lemmas.Slice.Eq.{bytes_eq-Decides}
+use Rattle.std.proofs.lemmas.Bool.{ltb-true}
 use Rattle.rd_history.specs.Texts.{Text}
 use Rattle.rd_model.specs.View.{is_member, leader, others}
 use Rattle.rd_history.specs.History.{Record, at}
@@ -20,7 +21,7 @@ use Rattle.rd_model.specs.Node.Input.{Update, Get, Take, Install, Flush, GossipT
 use Rattle.rd_model.specs.Step.{is_answered_by, status_of, took_deltas, answer_to, value_reply, shown_of, with_answer, KeyGap, AfterGroups, after_groups, after_entries, accepted, answered, sent, opened, to_others, updated, updated_needing, updated_unless, got, got_needing, taken, gossip_to, nack_to, keyed_entry, keyed_option, answered_entry, counted_for, took, flushed, deltas_for, is_behind, goes_as_group, step_of, step, has_failed, member_count, to_store, changed_keys}
 use Rattle.rd_model.specs.World.{keyed_entry as stored_form}
 use Rattle.rd_history.proofs.PruneLaws.{found}
-use Rattle.rd_runs.proofs.Keeping.{if_holds, same_text}
+use Rattle.rd_runs.proofs.Keeping.{if_holds, same_text, found_entry}
 
 -- LISTS
 
@@ -48,9 +49,6 @@ all_mapped Q f h (x ∷ xs) = (h x, all_mapped Q f h xs)
 pub all_both : {X : Type 0} (P Q R : X → Type 0) → ((x : X) → P x → Q x → R x) → (xs : List X) → AllByRecursion P xs → AllByRecursion Q xs → AllByRecursion R xs
 all_both P Q R h [] p q = tt
 all_both P Q R h (x ∷ xs) p q = (h x p.0 q.0, all_both P Q R h xs p.1 q.1)
-
-pub lt_of : (a b : ℕ) → nat_lt a b ≡ true → a < b
-lt_of a b e = grind (arith, nat_tests)
 
 same_bytes : (xs : List ℕ) → bytes_eq xs xs ≡ true
 same_bytes xs = (bytes_eq-Decides xs xs).1 refl
@@ -147,16 +145,6 @@ module _ {Kind Op Shown : Type 0} (D : Replication Kind Op Shown) where
   from_answer held i true op = record { entries = tt; groups = tt }
   from_answer held i false op = record { entries = tt; groups = tt }
 
-  -- what is found of a key is the entry that the member holds
-  held_key : (node : Node Kind Op Shown) (key : Text) (k : KeyState Kind Op) → key_state node key ≡ Some k → k.entry ≡ node.entries key
-  held_key node key k e = go (find (λ decl. bytes_eq decl.name key) node.keys) refl e
-    where
-      go : (o : Option (KeyDecl Kind)) → find (λ decl. bytes_eq decl.name key) node.keys ≡ o → option_map (state_of node) o ≡ Some k → k.entry ≡ node.entries key
-      go None is e' = absurd (cc e')
-      go (Some decl) is e' =
-          let same : state_of node decl ≡ k = cc e' in
-          sym (ap (λ (x : KeyState Kind Op). x.entry) same) ∙ ap node.entries (same_text decl.name key (found (λ (decl : KeyDecl Kind). bytes_eq decl.name key) node.keys decl is))
-
   sends_deltas : (node : Node Kind Op Shown) (from : ℕ) (fate : Fate) (groups_in : AfterGroups Kind Op Shown) (entries : List (Keyed (Entry Op))) → SendsOwn (took_deltas D node from fate groups_in entries)
   sends_deltas node from fate groups_in entries = from_nack D (after_entries groups_in.node entries) from groups_in.gaps
 
@@ -164,7 +152,7 @@ module _ {Kind Op Shown : Type 0} (D : Replication Kind Op Shown) where
   sends_read node from op key None e = (record { entries = tt; groups = tt }, tt)
   sends_read node from op key (Some k) e = (
     if_holds (λ (o : Option (Entry Op)). IsFrom node.entries node.identity (ReadAnswer op key o)) (has_records k.entry) (Some k.entry) None
-        (record { entries = (held_key node key k e, tt); groups = tt }) (record { entries = tt; groups = tt }),
+        (record { entries = (found_entry node key k e, tt); groups = tt }) (record { entries = tt; groups = tt }),
     tt,
   )
 
@@ -188,7 +176,7 @@ module _ {Kind Op Shown : Type 0} (D : Replication Kind Op Shown) where
   own_and_behind node peer =
       all_both _ _ _ (λ k p q. (p, q)) (filter (is_behind D node peer) (key_states node))
       (all_filtered _ (is_behind D node peer) (key_states node) (own_states node))
-      (all_passing _ (is_behind D node peer) (λ k e. lt_of (node.flushed k.name peer) (at k.entry.history node.identity) e) (key_states node))
+      (all_passing _ (is_behind D node peer) (λ k e. ltb-true (node.flushed k.name peer) (at k.entry.history node.identity) e) (key_states node))
 
   not_false : (a b : Bool) → (a && not b) ≡ true → b ≡ false
   not_false true true e = absurd (cc e)

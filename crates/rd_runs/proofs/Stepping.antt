@@ -3,6 +3,7 @@ use Rattle.std.proofs.Common.{◌≡◌, ℕ, ◌+◌, ◌<◌, List, [], ◌∷
 use Rattle.std.specs.Prelude.{if◌then◌else◌, nat_le, ⊤}
 use Rattle.std.specs.List.{AllByRecursion}
 use Rattle.std.proofs.lemmas.Bool.Decides.{nat_tests}
+use Rattle.std.proofs.lemmas.Bool.{leb-false}
 use Rattle.rd_history.specs.Texts.{Text}
 use Rattle.rd_model.specs.View.{View, is_member}
 use Rattle.rd_model.specs.Entry.{Entry, Mark, Group, seen_by}
@@ -14,9 +15,6 @@ use Rattle.rd_model.specs.Node.Input.{Update, Get, Take, Install, Flush, GossipT
 use Rattle.rd_model.specs.Node.Reply.{NotFromMember, OldView, NotStored, Installed}
 use Rattle.rd_model.specs.Step.{step, taken, answered, has_failed}
 use Rattle.rd_runs.proofs.Keeping.{AnyTick, keeps_pruned, AreKept, Keeps, IsKnown, IsKnownInput, keeps_step, keeps_taken, if_tells}
-
-pub greater : (a b : ℕ) → nat_le a b ≡ false → b < a
-greater a b e = grind (arith, nat_tests)
 
 pub all_trivial : {X : Type 0} (xs : List X) → AllByRecursion (λ (x : X). ⊤) xs
 all_trivial [] = tt
@@ -65,7 +63,7 @@ module _ {Kind Op Shown : Type 0} (D : Replication Kind Op Shown) (P M : Text �
         by_test : (b : Bool) → nat_le view.number node.view.number ≡ b → (key : Text)
             → P key ((if b then answered (record node { steps = node.steps + 1 }) OldView else answered (record (record node { steps = node.steps + 1 }) { view = view; entries = λ key. seen_by node.identity view.number (node.entries key) }) (if has_failed fate then NotStored else Installed)).node.entries key)
         by_test true e key = before key
-        by_test false e key = brought (greater view.number node.view.number e) key (node.entries key) (before key)
+        by_test false e key = brought (leb-false view.number node.view.number e) key (node.entries key) (before key)
 
     -- each step keeps P
     pub keeps_any : (input : Input Op) (fate : Fate) → BringsInput input → ((key : Text) → P key (node.entries key)) → (key : Text) → P key ((step D node input fate).node.entries key)
@@ -109,7 +107,7 @@ module _ {Kind Op Shown : Type 0} (D : Replication Kind Op Shown) (node : Node K
   by_view : (view : View) (fate : Fate) → Moves (Install view) (step D node (Install view) fate).node
   by_view view fate = if_tells (λ (s : Stepped Kind Op Shown). Moves (Install view) s.node) (nat_le view.number node.view.number) _ _
       (λ old. record { identity = refl; keys = refl; view = SameView refl })
-      (λ new. record { identity = refl; keys = refl; view = NewView view refl (greater view.number node.view.number new) refl })
+      (λ new. record { identity = refl; keys = refl; view = NewView view refl (leb-false view.number node.view.number new) refl })
 
   pub moves : (input : Input Op) (fate : Fate) → Moves input (step D node input fate).node
   moves (Update key op level) fate = moved (Update key op level) _ (stays (Update key op level) fate tt)

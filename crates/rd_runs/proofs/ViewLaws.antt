@@ -3,13 +3,8 @@ use Rattle.std.proofs.Common.{◌≡◌, ◌≢◌, ℕ, ◌+◌, ◌<◌, ◌�
 use Rattle.std.specs.Prelude.{⊤, if◌then◌else◌, not, filter, find, option_map, unwrap_or, ◌==◌, ◌||◌}
 use Rattle.std.specs.List.{list_any, range_with_len}
 use Rattle.std.proofs.lemmas.Bool.Decides.{eqb_tells}
+use Rattle.std.proofs.lemmas.Bool.{eq-eqb, ne_eqb}
 use Rattle.rd_model.specs.View.{Member, View, first_view, is_member, is_taken, place_of, without_member, with_joined, with_replaced}
-
-eqb_same : (a : ℕ) → (a == a) ≡ true
-eqb_same a = elim (eqb_tells a a) [ inl is ↦ is.0 | inr isnt ↦ absurd (isnt.1 refl) ]
-
-eqb_other : (a b : ℕ) → a ≢ b → (a == b) ≡ false
-eqb_other a b h = elim (eqb_tells a b) [ inl is ↦ absurd (h is.1) | inr isnt ↦ isnt.0 ]
 
 -- MEMBERS AS A LIST
 
@@ -42,7 +37,7 @@ has_left (n ∷ ms) m t e = go (n.identity == t) e (λ h. has_left ms m t h)
     go false h later = later h
 
 has_last : (ms : List Member) (m : Member) → has (ms ++ m ∷ []) m.identity ≡ true
-has_last [] m = ap (λ b. b || false) (eqb_same m.identity)
+has_last [] m = ap (λ b. b || false) (eq-eqb m.identity m.identity refl)
 has_last (n ∷ ms) m = go (n.identity == m.identity) (has_last ms m)
   where
     go : (b : Bool) → has (ms ++ m ∷ []) m.identity ≡ true → (b || has (ms ++ m ∷ []) m.identity) ≡ true
@@ -70,7 +65,7 @@ has_filter i (n ∷ ms) t e = elim (eqb_tells n.identity i) [
 has_kept : (i : ℕ) (ms : List Member) (t : ℕ) → t ≢ i → has ms t ≡ true → has (leaving i ms) t ≡ true
 has_kept i [] t other e = absurd (cc e)
 has_kept i (n ∷ ms) t other e = elim (eqb_tells n.identity i) [
-  | inl is ↦ ap (λ b. has (if not b then n ∷ leaving i ms else leaving i ms) t) is.0 ∙ has_kept i ms t other (sym (ap (λ b. b || has ms t) (eqb_other n.identity t (λ f. other (sym f ∙ is.1)))) ∙ e)
+  | inl is ↦ ap (λ b. has (if not b then n ∷ leaving i ms else leaving i ms) t) is.0 ∙ has_kept i ms t other (sym (ap (λ b. b || has ms t) (ne_eqb n.identity t (λ f. other (sym f ∙ is.1)))) ∙ e)
   | inr isnt ↦ ap (λ b. has (if not b then n ∷ leaving i ms else leaving i ms) t) isnt.0 ∙ go (n.identity == t) e (λ h. has_kept i ms t other h)
 ]
   where
@@ -90,7 +85,7 @@ place_append (n ∷ ms) m t e = go (n.identity == t) e (λ h. place_append ms m 
     go false h later = later h
 
 place_new : (ms : List Member) (m : Member) → has ms m.identity ≡ false → stays_at (ms ++ m ∷ []) m.identity ≡ m.place
-place_new [] m e = ap (λ b. unwrap_or (option_map (λ (x : Member). x.place) (if b then Some m else None)) 0) (eqb_same m.identity)
+place_new [] m e = ap (λ b. unwrap_or (option_map (λ (x : Member). x.place) (if b then Some m else None)) 0) (eq-eqb m.identity m.identity refl)
 place_new (n ∷ ms) m e = go (n.identity == m.identity) e (λ h. place_new ms m h)
   where
     go : (b : Bool) → (b || has ms m.identity) ≡ false → (has ms m.identity ≡ false → stays_at (ms ++ m ∷ []) m.identity ≡ m.place)
@@ -103,7 +98,7 @@ place_filter i [] t other = refl
 place_filter i (n ∷ ms) t other = elim (eqb_tells n.identity i) [
   | inl is ↦
       ap (λ b. stays_at (if not b then n ∷ leaving i ms else leaving i ms) t) is.0 ∙ place_filter i ms t other
-      ∙ sym (ap (λ b. unwrap_or (option_map (λ (x : Member). x.place) (if b then Some n else find (λ (x : Member). x.identity == t) ms)) 0) (eqb_other n.identity t (λ f. other (sym f ∙ is.1))))
+      ∙ sym (ap (λ b. unwrap_or (option_map (λ (x : Member). x.place) (if b then Some n else find (λ (x : Member). x.identity == t) ms)) 0) (ne_eqb n.identity t (λ f. other (sym f ∙ is.1))))
   | inr isnt ↦ ap (λ b. stays_at (if not b then n ∷ leaving i ms else leaving i ms) t) isnt.0 ∙ go (n.identity == t) (place_filter i ms t other)
 ]
   where
@@ -119,7 +114,7 @@ not_taken place (n ∷ ms) t free e = go (n.place == place) refl free (n.identit
     go : (taken : Bool) → (n.place == place) ≡ taken → (taken || list_any (λ (m : Member). m.place == place) ms) ≡ false → (b : Bool) → (b || has ms t) ≡ true → (list_any (λ (m : Member). m.place == place) ms ≡ false → has ms t ≡ true → stays_at ms t ≢ place)
         → unwrap_or (option_map (λ (x : Member). x.place) (if b then Some n else find (λ (x : Member). x.identity == t) ms)) 0 ≢ place
     go true is f b h later = absurd (cc f)
-    go false is f true h later = λ same. absurd (let g : (n.place == place) ≡ true = ap (λ p. n.place == p) (sym same) ∙ eqb_same n.place in let k = sym is ∙ g in cc k)
+    go false is f true h later = λ same. absurd (let g : (n.place == place) ≡ true = ap (λ p. n.place == p) (sym same) ∙ eq-eqb n.place n.place refl in let k = sym is ∙ g in cc k)
     go false is f false h later = later f h
 
 -- RISING IDENTITIES
@@ -151,7 +146,7 @@ rising_range first zero = tt
 rising_range first (suc n) = ((omega arith), (omega arith), (let e : first + 1 + n ≡ first + suc n = omega arith in subst (λ k. IsRising (first + 1) k (map (λ i. record { identity = i; place = i }) (range_with_len (first + 1) n))) e (rising_range (first + 1) n)))
 
 has_first : (m : Member) (ms : List Member) → has (m ∷ ms) m.identity ≡ true
-has_first m ms = ap (λ b. b || has ms m.identity) (eqb_same m.identity)
+has_first m ms = ap (λ b. b || has ms m.identity) (eq-eqb m.identity m.identity refl)
 
 -- of two members one is another than i
 some_other : (i low high : ℕ) (ms : List Member) → IsRising low high ms → 1 < length ms → (t : ℕ) × (has (leaving i ms) t ≡ true)

@@ -4,6 +4,7 @@ use Rattle.std.specs.List.{range_with_len, join_with_byte, cons_option}
 use Rattle.std.specs.Prelude.{filter_map, Option, Some, None}
 use Rattle.std.proofs.lemmas.List.{take_more, map-append, append-nil, length-map, length-take}
 use Rattle.std.proofs.lemmas.List.Elements.{filter-append, filter_map-append}
+use Rattle.rd_vectors.proofs.Walks.{counted_more}
 use Rattle.rd_history.specs.Vector.{VersionVector, IdentitySet}
 use Rattle.rd_model.specs.Report.{words, words_or_dash}
 use Rattle.rd_history.specs.Table.{identity_limit, identities}
@@ -14,15 +15,12 @@ range_next : (a n : ℕ) → range_with_len a (suc n) ≡ range_with_len a n ++ 
 range_next a zero = let e : a ≡ a + 0 = omega arith in ap (λ m. m ∷ []) e
 range_next a (suc n) = let e : a + 1 + n ≡ a + suc n = omega arith in ap (λ xs. a ∷ xs) (range_next (a + 1) n ∙ ap (λ m. range_with_len (a + 1) n ++ m ∷ []) e)
 
-pub range_more : (n : ℕ) → range_with_len 0 (n + 1) ≡ range_with_len 0 n ++ n ∷ []
-range_more n = let e : 0 + n ≡ n = omega arith in rw (add-one n) (range_next 0 n ∙ ap (λ m. range_with_len 0 n ++ m ∷ []) e)
-
 pair_words_at : (v : VersionVector) (n : ℕ) (b : Bool) → not (v n == 0) ≡ b → pair_words v (range_with_len 0 (n + 1)) ≡ pair_words v (range_with_len 0 n) ++ cond b (pair_word v n ∷ []) []
 pair_words_at v n b is =
     let nonzero : ℕ → Bool = λ i. not (v i == 0) in
     let old = filter nonzero (range_with_len 0 n) in
     let one : (b : Bool) → map (pair_word v) (cond b (n ∷ []) []) ≡ cond b (pair_word v n ∷ []) [] = λ b. elim b as (λ b. map (pair_word v) (cond b (n ∷ []) []) ≡ cond b (pair_word v n ∷ []) []) [ true ↦ refl | false ↦ refl ] in
-    ap (pair_words v) (range_more n) ∙ ap (map (pair_word v)) (filter-append nonzero (range_with_len 0 n) (n ∷ [])) ∙ map-append (pair_word v) old (cond (nonzero n) (n ∷ []) [])
+    ap (pair_words v) (counted_more n) ∙ ap (map (pair_word v)) (filter-append nonzero (range_with_len 0 n) (n ∷ [])) ∙ map-append (pair_word v) old (cond (nonzero n) (n ∷ []) [])
     ∙ ap (λ xs. map (pair_word v) old ++ xs) (ap (λ b. map (pair_word v) (cond b (n ∷ []) [])) is ∙ one b)
 
 pub pair_words_more : (v : VersionVector) (n : ℕ) → not (v n == 0) ≡ true → pair_words v (range_with_len 0 (n + 1)) ≡ pair_words v (range_with_len 0 n) ++ pair_word v n ∷ []
@@ -81,7 +79,7 @@ member_words set n = map decimal (filter set (range_with_len 0 n))
 member_words_at : (set : IdentitySet) (n : ℕ) (b : Bool) → set n ≡ b → member_words set (n + 1) ≡ member_words set n ++ cond b (decimal n ∷ []) []
 member_words_at set n b is =
     let one : (b : Bool) → map decimal (cond b (n ∷ []) []) ≡ cond b (decimal n ∷ []) [] = λ b. elim b as (λ b. map decimal (cond b (n ∷ []) []) ≡ cond b (decimal n ∷ []) []) [ true ↦ refl | false ↦ refl ] in
-    ap (λ is. map decimal (filter set is)) (range_more n) ∙ ap (map decimal) (filter-append set (range_with_len 0 n) (n ∷ [])) ∙ map-append decimal (filter set (range_with_len 0 n)) (cond (set n) (n ∷ []) [])
+    ap (λ is. map decimal (filter set is)) (counted_more n) ∙ ap (map decimal) (filter-append set (range_with_len 0 n) (n ∷ [])) ∙ map-append decimal (filter set (range_with_len 0 n)) (cond (set n) (n ∷ []) [])
     ∙ ap (λ xs. member_words set n ++ xs) (ap (λ b. map decimal (cond b (n ∷ []) [])) is ∙ one b)
 
 -- a word more
@@ -95,11 +93,11 @@ pub no_member : (set : IdentitySet) (n : ℕ) → set n ≡ false → member_wor
 no_member set n is = sym (member_words_at set n false is ∙ append-nil (member_words set n))
 
 pub given_more : (word : ℕ → Option (List ℕ)) (n : ℕ) (text : List ℕ) → word n ≡ Some text → filter_map word (range_with_len 0 n) ++ text ∷ [] ≡ filter_map word (range_with_len 0 (n + 1))
-given_more word n text is = sym (ap (filter_map word) (range_more n) ∙ filter_map-append word (range_with_len 0 n) (n ∷ []) ∙ ap (λ o. filter_map word (range_with_len 0 n) ++ cons_option o []) is)
+given_more word n text is = sym (ap (filter_map word) (counted_more n) ∙ filter_map-append word (range_with_len 0 n) (n ∷ []) ∙ ap (λ o. filter_map word (range_with_len 0 n) ++ cons_option o []) is)
 
 pub none_given : (word : ℕ → Option (List ℕ)) (n : ℕ) → word n ≡ None → filter_map word (range_with_len 0 n) ≡ filter_map word (range_with_len 0 (n + 1))
 none_given word n is =
-    sym (ap (filter_map word) (range_more n) ∙ filter_map-append word (range_with_len 0 n) (n ∷ []) ∙ ap (λ o. filter_map word (range_with_len 0 n) ++ cons_option o []) is ∙ append-nil (filter_map word (range_with_len 0 n)))
+    sym (ap (filter_map word) (counted_more n) ∙ filter_map-append word (range_with_len 0 n) (n ∷ []) ∙ ap (λ o. filter_map word (range_with_len 0 n) ++ cons_option o []) is ∙ append-nil (filter_map word (range_with_len 0 n)))
 
 -- the texts of marks, as they are written
 pub performed_parts : (r o a : List ℕ) (x y : ℕ) → r ++ (x ∷ (o ++ (y ∷ a))) ≡ r ++ (x ∷ []) ++ o ++ (y ∷ []) ++ a

@@ -1,6 +1,6 @@
 -- What is due is what the bytes of a source call for, unless a read failed or memory was refused.
 use Rattle.std.proofs.Common.{◌≡◌, ℕ, ◌+◌, ◌<◌, ◌≤◌, ◌⊎◌, inl, inr, List, [], ◌++◌, length, length-append, append-nil, String, Global, string_bytes, arith, refl, sym, ap, subst, ◌∙◌, None, Some, Ok, Err, MatchResult}
-use Rattle.std.proofs.lemmas.Option.{none-some}
+use Rattle.std.proofs.lemmas.Option.{none-some, same_Some}
 use Rattle.std.specs.Option.{unwrap_or}
 use Rattle.std.specs.Io.KnownBytes.{Appends, Consumes}
 use Rattle.std.specs.declared.option.Option.{Option}
@@ -27,9 +27,6 @@ more_read : (bytes read : List ℕ) (new : Option (List ℕ)) → Consumes (Some
 more_read bytes read None h long = absurd h
 more_read bytes read (Some rest) h long = rw h (omega (arith, long, length-append read rest))
 
-same_some : {A : Type 0} (x y : A) → Some x ≡ Some y → x ≡ y
-same_some x y e = ap (λ o. unwrap_or o x) e
-
 ok_err : {A B : Type 0} (x : A) (y : B) → Ok x ≡ Err y → ⊥
 ok_err x y e = subst (λ r. MatchResult r (λ _. Unit {0}) (λ _. ⊥)) e tt
 
@@ -42,7 +39,7 @@ breaks_json bytes rule h none = none-some h.0 (sym (none h.1.0) ∙ h.1.1)
 
 spells_breaks : (bytes : List ℕ) (script : Script) (rule : Rule) → Spells bytes script → Breaks bytes rule → ⊥
 spells_breaks bytes script rule h k =
-    let same : h.0 ≡ k.0 = same_some h.0 k.0 (sym h.1.1 ∙ k.1.1) in
+    let same : h.0 ≡ k.0 = same_Some h.0 k.0 (sym h.1.1 ∙ k.1.1) in
     ok_err script rule (sym h.2 ∙ rw same k.2)
 
 report_called : (bytes : List ℕ) (script : Script) (wanted : Status) → length bytes ≤ limit → Spells bytes script → CallsFor bytes wanted → status.Done ≡ wanted

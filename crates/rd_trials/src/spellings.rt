@@ -91,6 +91,49 @@ const UNWRITTEN: [&str; 4] = [
     "00010a050c0c0c0c0c0c0c0c",
 ];
 
+// Each row in hexadecimal: a place, which is a byte, and bytes that break a rule of spellings there. They were made by hand.
+
+/// Counts above 64, identities that fall, a mark that nobody has seen, and a version of a pruned identity.
+const BAD_HEADS: [&str; 5] = [
+    "02010141",
+    "0301010041",
+    "0d0101000205000000000000000103000000000000000100",
+    "0a0101010200000000010000",
+    "170101010201000000000000000001000000000000000101020000000000000001",
+];
+
+/// Growing counters: a share above `2^63 - 1`, and an identity twice.
+const BAD_SHARES: [&str; 2] = [
+    "060101000001008000000000000000",
+    "0e0101000002000000000000000001000000000000000001",
+];
+
+/// Growing sets: a text of 65 bytes, no UTF-8, texts that fall, a text twice, and more texts than there are.
+const BAD_TEXTS: [&str; 5] = [
+    "0c01030000000000000000000141",
+    "0d01030000000000000000000101ff",
+    "0f010300000000000000000002017a015a",
+    "0f010300000000000000000002017a017a",
+    "0d01030000ffffffffffffffff00",
+];
+
+/// Sets with removes: an element without a dot, an identity above 63, the numbers 0 and `2^62 + 1`, an identity that falls,
+/// and a number that doesn't rise.
+const BAD_DOTS: [&str; 6] = [
+    "0e01040000000000000000000101610000000000000000",
+    "1601040000000000000000000101610000000000000001400000000000000001",
+    "1701040000000000000000000101610000000000000001000000000000000000",
+    "1701040000000000000000000101610000000000000001004000000000000001",
+    "1f01040000000000000000000101610000000000000002030000000000000001010000000000000001",
+    "2001040000000000000000000101610000000000000002010000000000000005010000000000000005",
+];
+
+/// Registers: a timestamp above `2^63 - 1`, and a writer above 63.
+const BAD_WRITES: [&str; 2] = [
+    "040106000080000000000000000000",
+    "0c0106000000000000000000064000",
+];
+
 fn bytes_of(alloc: Global, text: &str) -> Result<Vec<u8>, Fail> {
     match decode(alloc, text) {
         Ok(bytes) => Ok(bytes),
@@ -185,4 +228,29 @@ fn refuses_what_is_left_over_and_another_format(rt: HostRuntime) -> Result<(), F
         assert_eq!(rt; place(alloc, &bytes_of(alloc, bytes)?)?, found);
     }
     Ok(())
+}
+
+/// Each row's bytes are refused at its place.
+fn check_refused(alloc: Global, rows: &[&str]) -> Result<(), Fail> {
+    for row in rows {
+        match bytes_of(alloc, row)?.as_slice() {
+            [found, bytes @ ..] => {
+                if place(alloc, bytes)? != usize::from(*found) {
+                    return Err("refused elsewhere".into());
+                }
+            }
+            [] => return Err("no row".into()),
+        }
+    }
+    Ok(())
+}
+
+#[test]
+fn refuses_what_breaks_a_rule_where_it_stands(rt: HostRuntime) -> Result<(), Fail> {
+    let alloc = rt.alloc();
+    check_refused(alloc, &BAD_HEADS)?;
+    check_refused(alloc, &BAD_SHARES)?;
+    check_refused(alloc, &BAD_TEXTS)?;
+    check_refused(alloc, &BAD_DOTS)?;
+    check_refused(alloc, &BAD_WRITES)
 }

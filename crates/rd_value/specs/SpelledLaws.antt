@@ -1,12 +1,12 @@
 -- The laws of values as bytes: each is the law of the value's kind.
 use Rattle.std.proofs.Common.{◌≡◌, ℕ, ◌≤◌, true, false, List, ◌++◌, Ok, refl, ap, sym, subst, ◌∙◌, arith, ⊎_elim}
 use Rattle.std.specs.Prelude.{nat_le}
-use Rattle.std.proofs.lemmas.Bool.{cases_eq, leb-true}
+use Rattle.std.proofs.lemmas.Bool.{cases_eq, leb-true, and_parts}
 use Rattle.rd_history.specs.Vector.{VersionVector, IdentitySet}
 use Rattle.rd_history.specs.History.{History, cut}
 use Rattle.rd_history.specs.Cuts.{IsPrunedCut}
 use Rattle.rd_bytes.specs.Spelling.{AreBytes, Takes}
-use Rattle.rd_bytes.specs.FieldLaws.{bind_ok, ok_is, both_hold}
+use Rattle.rd_bytes.specs.FieldLaws.{bind_ok, ok_is}
 use Rattle.rd_kinds.specs.declared.operation.Op.{Op}
 use Rattle.rd_kinds.specs.declared.kind.Kind.{Kind}
 use Rattle.rd_kinds.specs.declared.kind.Kind.TheVariants as kinds
@@ -45,7 +45,7 @@ kind_back kinds.LwwRegister = refl
 
 byte_back : (byte : ℕ) → is_known byte ≡ true → byte_of (kind_at byte) ≡ byte
 byte_back byte known =
-    let both = both_hold (nat_le 1 byte) (nat_le byte 6) known in
+    let both = and_parts (nat_le 1 byte) (nat_le byte 6) known in
     let low : 1 ≤ byte = leb-true 1 byte both.0 in
     let high : byte ≤ 6 = leb-true byte 6 both.1 in
     ⊎_elim (λ (e : byte ≡ 1). subst (λ (b : ℕ). byte_of (kind_at b) ≡ b) (sym e) refl) (λ n1.

@@ -9,9 +9,9 @@ use Rattle.rd_bytes.specs.declared.fault.Fault.{Fault}
 use Rattle.rd_bytes.specs.declared.fault.FieldError.{FieldError}
 use Rattle.rd_bytes.specs.declared.fault.FieldError.TheVariants as errors
 use Rattle.rd_bytes.specs.Fields.{◌>>=◌, kept, Fails, number_in}
-use Rattle.rd_bytes.specs.FieldLaws.{bind_ok, ok_is, kept_ok, both_hold}
+use Rattle.rd_bytes.specs.FieldLaws.{bind_ok, ok_is, kept_ok}
 use Rattle.std.specs.Prelude.{◌&&◌, nat_le}
-use Rattle.std.proofs.lemmas.Bool.{leb-true}
+use Rattle.std.proofs.lemmas.Bool.{leb-true, and_parts}
 use Rattle.rd_vectors.specs.Vectors.{Numbers, raised}
 use Rattle.rd_vectors.specs.Fields.{identity_in, positive_in}
 use Rattle.rd_vectors.specs.IdSets.{member_count}
@@ -29,7 +29,7 @@ pair_positive most barred least bytes pair rest e =
     let n : ℕ × List ℕ = b.0 in
     let c = bind_ok (number_in a.0.1) (λ x. kept (nat_le 1 x.0 && nat_le x.0 most) (length a.0.1) >>= λ _. Ok x) n b.1 in
     let rule = kept_ok (nat_le 1 c.0.0 && nat_le c.0.0 most) (length a.0.1) (λ _. Ok c.0) n c.2 in
-    let some : 1 ≤ c.0.0 = leb-true 1 c.0.0 (both_hold (nat_le 1 c.0.0) (nat_le c.0.0 most) rule.0).0 in
+    let some : 1 ≤ c.0.0 = leb-true 1 c.0.0 (and_parts (nat_le 1 c.0.0) (nat_le c.0.0 most) rule.0).0 in
     let here : 1 ≤ n.0 = subst (λ (x : ℕ × List ℕ). 1 ≤ x.0) (ok_is c.0 n rule.1) some in
     subst (λ (x : (ℕ × ℕ) × List ℕ). 1 ≤ x.0.1) (ok_is ((a.0.0, n.0), n.1) (pair, rest) b.2) here
 

@@ -6,6 +6,7 @@ use Rattle.std.specs.List.{range_with_len}
 use Rattle.std.proofs.lemmas.Bool.{cases_eq, cases_Bool}
 use Rattle.std.proofs.lemmas.Nat.{or_shr, or_mod, ones_cat, mod-pow-add, mod_below, pow_pos}
 use Rattle.std.proofs.lemmas.Nat.Bits.{bit_at_lowest, bit_at-suc, bit_at-zero, bit_at-pow_same, bit_at-pow_other}
+use mathlib.Core.Bool.{or_comm}
 use Rattle.rd_history.specs.Vector.{with_member, united}
 use Rattle.rd_vectors.specs.IdSets.{members_in, member_count}
 use Rattle.rd_vectors.proofs.Walks.{range_more}
@@ -40,14 +41,8 @@ members_in-pow k i = ⊎_elim
     (λ (e : i ≡ k). let u : nat_eq i k ≡ true = grind rules in ap (λ j. members_in (2 ^ k) j) e ∙ ap (λ n. n == 1) (bit_at-pow_same k) ∙ sym u)
     (λ (ne : i ≢ k). let u : nat_eq i k ≡ false = grind rules in ap (λ n. n == 1) (bit_at-pow_other k i ne) ∙ sym u) (cases_eq i k)
 
-or_turned : (a b : Bool) → (a || b) ≡ (b || a)
-or_turned true true = refl
-or_turned true false = refl
-or_turned false true = refl
-or_turned false false = refl
-
 pub members_in-with : (bits k i : ℕ) → members_in (bit_or bits (2 ^ k)) i ≡ with_member (members_in bits) k i
-members_in-with bits k i = members_in-or bits (2 ^ k) i ∙ ap (λ b. members_in bits i || b) (members_in-pow k i) ∙ or_turned (members_in bits i) (nat_eq i k)
+members_in-with bits k i = members_in-or bits (2 ^ k) i ∙ ap (λ b. members_in bits i || b) (members_in-pow k i) ∙ or_comm (members_in bits i) (nat_eq i k)
 
 one_or_not : (x y : ℕ) → x < 2 → y < 2 → (x == 1) ≡ (y == 1) → x ≡ y
 one_or_not zero zero l m e = refl

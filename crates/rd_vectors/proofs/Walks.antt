@@ -1,8 +1,9 @@
 -- Going over the identities, from 0 up.
 use Rattle.std.proofs.Common.{rules, nat_lt, Some, None, find, ◌≤◌, cond, List, not, inl, inr, ◌≡◌, ℕ, zero, suc, ◌+◌, ◌<◌, Bool, true, false, ◌&&◌, ◌||◌, [], ◌∷◌, ◌++◌, arith, refl, ap, sym, ◌∙◌, ⊎_elim}
 use Rattle.std.specs.List.{range_with_len, list_any, list_all}
-use Rattle.std.proofs.lemmas.Bool.{cases_eq, cases_Bool}
+use Rattle.std.proofs.lemmas.Bool.{cases_eq, cases_Bool, or_left, or_right, and_from, lt-ltb, le-ltb, and_parts}
 use Rattle.std.proofs.lemmas.List.Folds.{list_any-append, list_all-append}
+use mathlib.Core.Bool.{or-false, and-true}
 use Rattle.rd_history.specs.Vector.{VersionVector, first_lacking}
 use Rattle.rd_history.specs.Table.{identity_limit, identities}
 
@@ -13,49 +14,31 @@ range_more first (suc n) =
     let b : first + 1 + n ≡ first + suc n = omega arith in
     rw a (ap (λ xs. first ∷ xs) (range_more (first + 1) n ∙ ap (λ m. range_with_len (first + 1) n ++ m ∷ []) b))
 
-or_none : (b : Bool) → (b || false) ≡ b
-or_none true = refl
-or_none false = refl
-
-and_none : (b : Bool) → (b && true) ≡ b
-and_none true = refl
-and_none false = refl
+-- the numbers from 0 on, one more
+pub counted_more : (n : ℕ) → range_with_len 0 (n + 1) ≡ range_with_len 0 n ++ n ∷ []
+counted_more n = let e : 0 + n ≡ n = omega arith in range_more 0 n ∙ ap (λ m. range_with_len 0 n ++ m ∷ []) e
 
 -- one more identity passed
 pub any_more : (test : ℕ → Bool) (n : ℕ) → list_any test (range_with_len 0 (n + 1)) ≡ (list_any test (range_with_len 0 n) || test n)
 any_more test n =
-    let e : 0 + n ≡ n = omega arith in
-    ap (list_any test) (range_more 0 n ∙ ap (λ m. range_with_len 0 n ++ m ∷ []) e) ∙ list_any-append test (range_with_len 0 n) (n ∷ []) ∙ ap (λ b. list_any test (range_with_len 0 n) || b) (or_none (test n))
+    ap (list_any test) (counted_more n) ∙ list_any-append test (range_with_len 0 n) (n ∷ []) ∙ ap (λ b. list_any test (range_with_len 0 n) || b) (or-false (test n))
 
 pub all_more : (test : ℕ → Bool) (n : ℕ) → list_all test (range_with_len 0 (n + 1)) ≡ (list_all test (range_with_len 0 n) && test n)
 all_more test n =
-    let e : 0 + n ≡ n = omega arith in
-    ap (list_all test) (range_more 0 n ∙ ap (λ m. range_with_len 0 n ++ m ∷ []) e) ∙ list_all-append test (range_with_len 0 n) (n ∷ []) ∙ ap (λ b. list_all test (range_with_len 0 n) && b) (and_none (test n))
-
-both_true : (b c : Bool) → b ≡ true → c ≡ true → (b && c) ≡ true
-both_true true c e f = f
-both_true false c e f = absurd (let x : false ≡ true = e in cc)
-
-first_true : (b c : Bool) → (b && c) ≡ true → b ≡ true
-first_true true c e = refl
-first_true false c e = e
-
-second_true : (b c : Bool) → (b && c) ≡ true → c ≡ true
-second_true true c e = e
-second_true false c e = absurd (let x : false ≡ true = e in cc)
+    ap (list_all test) (counted_more n) ∙ list_all-append test (range_with_len 0 n) (n ∷ []) ∙ ap (λ b. list_all test (range_with_len 0 n) && b) (and-true (test n))
 
 pub all_below : (test : ℕ → Bool) (n : ℕ) → ((i : ℕ) → i < n → test i ≡ true) → list_all test (range_with_len 0 n) ≡ true
 all_below test zero holds = refl
 all_below test (suc n) holds =
     let e : suc n ≡ n + 1 = omega arith in
-    ap (λ m. list_all test (range_with_len 0 m)) e ∙ all_more test n ∙ both_true _ _ (all_below test n (λ i l. holds i (omega arith))) (holds n (omega arith))
+    ap (λ m. list_all test (range_with_len 0 m)) e ∙ all_more test n ∙ and_from _ _ (all_below test n (λ i l. holds i (omega arith))) (holds n (omega arith))
 
 pub each_below : (test : ℕ → Bool) (n : ℕ) → list_all test (range_with_len 0 n) ≡ true → (i : ℕ) → i < n → test i ≡ true
 each_below test zero all i l = absurd (omega arith)
 each_below test (suc n) all i l =
     let e : suc n ≡ n + 1 = omega arith in
     let both : (list_all test (range_with_len 0 n) && test n) ≡ true = sym (ap (λ m. list_all test (range_with_len 0 m)) e ∙ all_more test n) ∙ all in
-    ⊎_elim (λ (same : i ≡ n). ap test same ∙ second_true _ _ both) (λ ne. each_below test n (first_true _ _ both) i (omega arith)) (cases_eq i n)
+    ⊎_elim (λ (same : i ≡ n). ap test same ∙ (and_parts _ _ both).1) (λ ne. each_below test n (and_parts _ _ both).0 i (omega arith)) (cases_eq i n)
 
 -- every identity passes
 pub all_identities : (test : ℕ → Bool) → ((i : ℕ) → i < identity_limit → test i ≡ true) → list_all test identities ≡ true
@@ -64,20 +47,12 @@ all_identities test holds = all_below test identity_limit holds
 pub each_identity : (test : ℕ → Bool) → list_all test identities ≡ true → (i : ℕ) → i < identity_limit → test i ≡ true
 each_identity test all i l = each_below test identity_limit all i l
 
-any_first : (b c : Bool) → b ≡ true → (b || c) ≡ true
-any_first true c e = refl
-any_first false c e = absurd (let x : false ≡ true = e in cc)
-
-any_second : (b c : Bool) → c ≡ true → (b || c) ≡ true
-any_second true c e = refl
-any_second false c e = e
-
 pub any_below : (test : ℕ → Bool) (n i : ℕ) → i < n → test i ≡ true → list_any test (range_with_len 0 n) ≡ true
 any_below test zero i l holds = absurd (omega arith)
 any_below test (suc n) i l holds =
     let e : suc n ≡ n + 1 = omega arith in
     ap (λ m. list_any test (range_with_len 0 m)) e ∙ any_more test n
-    ∙ ⊎_elim (λ (same : i ≡ n). any_second _ _ (ap test (sym same) ∙ holds)) (λ ne. any_first _ _ (any_below test n i (omega arith) holds)) (cases_eq i n)
+    ∙ ⊎_elim (λ (same : i ≡ n). or_right _ _ (ap test (sym same) ∙ holds)) (λ ne. or_left _ _ (any_below test n i (omega arith) holds)) (cases_eq i n)
 
 -- some identity passes
 pub any_identity : (test : ℕ → Bool) (i : ℕ) → i < identity_limit → test i ≡ true → list_any test identities ≡ true
@@ -131,15 +106,9 @@ find_first test i l holds others = find_from test 0 identity_limit i (omega arit
 pub find_none : (test : ℕ → Bool) → ((i : ℕ) → i < identity_limit → test i ≡ false) → find test identities ≡ None
 find_none test fails = find_nothing test 0 identity_limit (λ i l. fails i (omega arith))
 
-pub below_test : (m n : ℕ) → m < n → nat_lt m n ≡ true
-below_test m n l = grind rules
-
-pub reached_test : (m n : ℕ) → n ≤ m → nat_lt m n ≡ false
-reached_test m n l = grind rules
-
 -- the least identity that lacks, as a search finds it
 pub lacking_first : (vector needs : VersionVector) (id : ℕ) → id < identity_limit → vector id < needs id → ((j : ℕ) → j < id → needs j ≤ vector j) → first_lacking vector needs ≡ Some id
-lacking_first vector needs id l lacks others = find_first (λ i. nat_lt (vector i) (needs i)) id l (below_test (vector id) (needs id) lacks) (λ j m. reached_test (vector j) (needs j) (others j m))
+lacking_first vector needs id l lacks others = find_first (λ i. nat_lt (vector i) (needs i)) id l (lt-ltb (vector id) (needs id) lacks) (λ j m. le-ltb (vector j) (needs j) (others j m))
 
 pub lacking_none : (vector needs : VersionVector) → ((i : ℕ) → i < identity_limit → needs i ≤ vector i) → first_lacking vector needs ≡ None
-lacking_none vector needs covers = find_none (λ i. nat_lt (vector i) (needs i)) (λ i l. reached_test (vector i) (needs i) (covers i l))
+lacking_none vector needs covers = find_none (λ i. nat_lt (vector i) (needs i)) (λ i l. le-ltb (vector i) (needs i) (covers i l))

@@ -1,18 +1,14 @@
 -- An identity or a number that is read is the one that was spelled, and what was spelled is read again.
 use Rattle.std.proofs.Common.{◌≡◌, ℕ, ◌^◌, ◌<◌, ◌≤◌, Bool, true, false, List, [], ◌∷◌, ◌++◌, length, Result, Ok, refl, ap, subst, ◌∙◌, arith}
 use Rattle.std.specs.Prelude.{◌&&◌, not, nat_le, nat_lt}
-use Rattle.std.proofs.lemmas.Bool.{leb-true, le-leb, ltb-true, lt-ltb}
+use Rattle.std.proofs.lemmas.Bool.{leb-true, le-leb, ltb-true, lt-ltb, not-true, and_parts, and_from}
 use Rattle.rd_history.specs.Table.{identity_limit}
 use Rattle.rd_history.specs.Vector.{IdentitySet}
 use Rattle.rd_bytes.specs.declared.fault.Fault.{Fault}
 use Rattle.rd_bytes.specs.Fields.{◌>>=◌, kept, byte_in, number_in}
 use Rattle.rd_bytes.specs.Spelling.{number_spelled, AreBytes, Takes}
-use Rattle.rd_bytes.specs.FieldLaws.{bind_ok, kept_ok, kept_on, ok_is, both_hold, both_on, byte_takes, number_takes, number_again}
+use Rattle.rd_bytes.specs.FieldLaws.{bind_ok, kept_ok, kept_on, ok_is, byte_takes, number_takes, number_again}
 use Rattle.rd_vectors.specs.Fields.{identity_in, positive_in}
-
-not_true : (b : Bool) → not b ≡ true → b ≡ false
-not_true false e = refl
-not_true true e = absurd cc
 
 -- an identity from a least one on that isn't barred
 pub record IsAllowed (least : ℕ) (barred : IdentitySet) (i : ℕ) : Type 0 where
@@ -29,17 +25,17 @@ identity_takes least barred bytes i rest fits e =
     let b = bind_ok (byte_in bytes) (λ x. kept (allowed least barred x.0) (length bytes) >>= λ _. Ok x) (i, rest) e in
     let x : ℕ × List ℕ = b.0 in
     let rule = kept_ok (allowed least barred x.0) (length bytes) (λ _. Ok x) (i, rest) b.2 in
-    let front = both_hold (nat_le least x.0 && nat_lt x.0 identity_limit) (not (barred x.0)) rule.0 in
-    let range = both_hold (nat_le least x.0) (nat_lt x.0 identity_limit) front.0 in
+    let front = and_parts (nat_le least x.0 && nat_lt x.0 identity_limit) (not (barred x.0)) rule.0 in
+    let range = and_parts (nat_le least x.0) (nat_lt x.0 identity_limit) front.0 in
     let taken = byte_takes bytes x.0 x.1 fits b.1 in
     subst (λ (y : ℕ × List ℕ). Takes bytes (y.0 ∷ []) y.1 × IsAllowed least barred y.0) (ok_is x (i, rest) rule.1)
-    (taken.0, record { from = leb-true _ _ range.0; small = ltb-true _ _ range.1; free = not_true _ front.1 })
+    (taken.0, record { from = leb-true _ _ range.0; small = ltb-true _ _ range.1; free = not-true _ front.1 })
 
 pub identity_again : (least : ℕ) (barred : IdentitySet) (i : ℕ) (rest : List ℕ) → IsAllowed least barred i → identity_in least barred ((i ∷ []) ++ rest) ≡ Ok (i, rest)
 unfolding identity_in
 identity_again least barred i rest is =
     kept_on (allowed least barred i) (length (i ∷ rest)) (λ _. Ok (i, rest))
-    (both_on _ _ (both_on _ _ (le-leb _ _ is.from) (lt-ltb _ _ is.small)) (ap not is.free))
+    (and_from _ _ (and_from _ _ (le-leb _ _ is.from) (lt-ltb _ _ is.small)) (ap not is.free))
 
 -- a number from 1 to a greatest one
 pub record IsPositive (most n : ℕ) : Type 0 where
@@ -55,7 +51,7 @@ positive_takes most bytes n rest fits e =
     let b = bind_ok (number_in bytes) (λ x. kept (positive most x.0) (length bytes) >>= λ _. Ok x) (n, rest) e in
     let x : ℕ × List ℕ = b.0 in
     let rule = kept_ok (positive most x.0) (length bytes) (λ _. Ok x) (n, rest) b.2 in
-    let range = both_hold (nat_le 1 x.0) (nat_le x.0 most) rule.0 in
+    let range = and_parts (nat_le 1 x.0) (nat_le x.0 most) rule.0 in
     let taken = number_takes bytes x.0 x.1 fits b.1 in
     subst (λ (y : ℕ × List ℕ). Takes bytes (number_spelled y.0) y.1 × IsPositive most y.0) (ok_is x (n, rest) rule.1)
     (taken.0, record { some = leb-true _ _ range.0; small = leb-true _ _ range.1 })
@@ -65,4 +61,4 @@ unfolding positive_in
 positive_again most n rest limit is =
     let small = is.small in
     ap (λ (r : Result (ℕ × List ℕ) Fault). r >>= λ x. kept (positive most x.0) (length (number_spelled n ++ rest)) >>= λ _. Ok x) (number_again n rest (omega arith))
-    ∙ kept_on (positive most n) (length (number_spelled n ++ rest)) (λ _. Ok (n, rest)) (both_on _ _ (le-leb _ _ is.some) (le-leb _ _ is.small))
+    ∙ kept_on (positive most n) (length (number_spelled n ++ rest)) (λ _. Ok (n, rest)) (and_from _ _ (le-leb _ _ is.some) (le-leb _ _ is.small))

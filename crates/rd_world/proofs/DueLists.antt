@@ -5,6 +5,7 @@ use Rattle.std.specs.List.{range_with_len}
 use Rattle.std.proofs.lemmas.List.{map-append}
 use Rattle.std.proofs.lemmas.List.Concat.{flat_map-append, flat_map-cons}
 use Rattle.std.proofs.lemmas.Bool.Decides.{nat_tests}
+use Rattle.rd_vectors.proofs.Walks.{counted_more}
 use Rattle.rd_history.specs.Texts.{Text}
 use Rattle.rd_history.specs.Vector.{VersionVector, IdentitySet}
 use Rattle.rd_history.specs.History.{History}
@@ -20,7 +21,6 @@ use Rattle.rd_world.specs.declared.world.World.{World}
 use Rattle.rd_world.specs.Channels.{Channel, channel_at, next_on, count_on}
 use Rattle.rd_world.specs.Dues.{due_between, dues_from, dues_of, meant_due}
 use Rattle.rd_world.specs.Standing.{StandsForLink, StandsForWorld}
-use Rattle.rd_world.proofs.Pairs.{range_more}
 use Rattle.rd_world.proofs.Moving.{link_next, link_count}
 use Rattle.rd_world.proofs.Starts.{first_identities}
 
@@ -30,7 +30,7 @@ more_of f start now later n so_far step =
     step ∙ ap (λ xs. xs ++ f n) so_far ∙ append_assoc start (flat_map f (range_with_len 0 n)) (f n)
     ∙ ap (λ xs. start ++ (flat_map f (range_with_len 0 n) ++ xs)) (sym (append_nothing (f n)) ∙ sym (flat_map-cons f n []))
     ∙ ap (λ xs. start ++ xs) (sym (flat_map-append f (range_with_len 0 n) (n ∷ [])))
-    ∙ ap (λ xs. start ++ flat_map f xs) (sym (range_more n))
+    ∙ ap (λ xs. start ++ flat_map f xs) (sym (counted_more n))
 
 map_flat : {X Y Z : Type 0} (g : Y → Z) (f : X → List Y) (h : X → List Z) → ((x : X) → map g (f x) ≡ h x) → (xs : List X) → map g (flat_map f xs) ≡ flat_map h xs
 map_flat g f h same [] = refl

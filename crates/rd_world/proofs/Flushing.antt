@@ -4,6 +4,7 @@ use Rattle.std.specs.Prelude.{nat_lt, ◌&&◌, ◌==◌, not, if◌then◌else�
 use Rattle.std.specs.List.{AllByRecursion, AllZip, list_any, range_with_len}
 use Rattle.std.proofs.lemmas.Bool.Decides.{eqb_tells, nat_tests}
 use Rattle.std.proofs.lemmas.List.FromFn.{length-range_with_len}
+use Rattle.rd_runs.proofs.Sending.{all_filtered}
 use Rattle.rd_history.specs.Texts.{Text}
 use Rattle.rd_history.specs.Vector.{VersionVector, IdentitySet}
 use Rattle.rd_history.specs.History.{History}
@@ -33,14 +34,6 @@ use Rattle.rd_world.proofs.Delivering.{same_sketch}
 
 -- TO WHOM A MEMBER SENDS
 
-filter_all : {X : Type 0} (P : X → Type 0) (p : X → Bool) (xs : List X) → AllByRecursion P xs → AllByRecursion P (filter p xs)
-filter_all P p [] all = tt
-filter_all P p (x ∷ xs) all = go (p x) (filter_all P p xs all.1)
-  where
-    go : (b : Bool) → AllByRecursion P (filter p xs) → AllByRecursion P (if b then x ∷ filter p xs else filter p xs)
-    go true rest = (all.0, rest)
-    go false rest = rest
-
 filter_fewer : {X : Type 0} (p : X → Bool) (xs : List X) → length (filter p xs) ≤ length xs
 filter_fewer p [] = omega arith
 filter_fewer p (x ∷ xs) = go (p x) (filter_fewer p xs)
@@ -59,7 +52,7 @@ module _ {Kind Op : Type 0} (D : Replication Kind Op Shown) (node : nodes.Node K
 
   peers_below : AllByRecursion (λ i. i < n) (others node.view node.identity)
   peers_below =
-      filter_all (λ i. i < n) (λ j. not (j == node.identity)) (identities_of node.view)
+      all_filtered (λ i. i < n) (λ j. not (j == node.identity)) (identities_of node.view)
       (subst (AllByRecursion (λ i. i < n)) (sym (ap identities_of in_first ∙ first_identities n)) (subst (λ m. AllByRecursion (λ i. i < m) (range_with_len 0 n)) (let e : 0 + n ≡ n = omega arith in e) (range_below 0 n)))
 
   posts_of : (peers : List ℕ) → AllByRecursion (λ i. i < n) peers → (message : ℕ → model.Message Op) → AllByRecursion (λ (post : model.Post Op). post.to < n) (map (λ peer. record { to = peer; message = message peer }) peers)
@@ -70,7 +63,7 @@ module _ {Kind Op : Type 0} (D : Replication Kind Op Shown) (node : nodes.Node K
   pub posts_below : AllByRecursion (λ (post : model.Post Op). post.to < n) flushed_posts
   posts_below =
       let later = nodes.one_step_later node in
-      posts_of (filter (λ peer. list_any (is_behind D later peer) (nodes.key_states later)) (others node.view node.identity)) (filter_all (λ i. i < n) _ (others node.view node.identity) peers_below) (deltas_for D later)
+      posts_of (filter (λ peer. list_any (is_behind D later peer) (nodes.key_states later)) (others node.view node.identity)) (all_filtered (λ i. i < n) _ (others node.view node.identity) peers_below) (deltas_for D later)
 
   count_map : {X Y : Type 0} (f : X → Y) (xs : List X) → length (map f xs) ≡ length xs
   count_map f [] = refl

@@ -36,11 +36,3 @@ module _ {A B : Type 0} (R : A → B → Type 0) where
   zip_at (x ∷ xs) [] k all = absurd all
   zip_at (x ∷ xs) (y ∷ ys) zero all = both all.0
   zip_at (x ∷ xs) (y ∷ ys) (suc k) all = zip_at xs ys k all.1
-
--- the numbers from 0 on, one more
-pub range_more : (n : ℕ) → range_with_len 0 (n + 1) ≡ range_with_len 0 n ++ n ∷ []
-range_more n = sym (same (range_with_len 0 (n + 1))) ∙ map-range_with_len_more (λ i. i) 0 n n (omega arith) ∙ ap (λ xs. xs ++ n ∷ []) (same (range_with_len 0 n))
-  where
-    same : (xs : List ℕ) → map (λ i. i) xs ≡ xs
-    same [] = refl
-    same (x ∷ xs) = ap (λ ys. x ∷ ys) (same xs)

@@ -66,7 +66,3 @@ module _ {M : Type 0} where
     | inl same ↦ absurd (e same.1)
     | inr other ↦ ap (λ n. record channel { next = n }) (sym (ap (λ b. if b then suc index else channel.next) other.0))
   ]
-
--- inside a list no default is read
-pub same_default : {X : Type 0} (xs : List X) (k : ℕ) (a b : X) → k < length xs → get_or xs k a ≡ get_or xs k b
-same_default xs k a b within = let e : Some (get_or xs k a) ≡ Some (get_or xs k b) = sym (slice_get-get_or xs k a within) ∙ slice_get-get_or xs k b within in cc e

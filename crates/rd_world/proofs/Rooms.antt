@@ -5,6 +5,7 @@ use Rattle.std.proofs.lemmas.Bool.Decides.{eqb_tells}
 use Rattle.std.proofs.lemmas.Option.{slice_get-get_or, slice_get_within}
 use Rattle.std.proofs.lemmas.List.Elements.{filter-append}
 use Rattle.std.proofs.lemmas.List.{map-append}
+use Rattle.std.proofs.lemmas.Bool.{eq-eqb, ne_eqb}
 use Rattle.rd_lattice.specs.declared.replica.Replica.{Ghosts}
 use Rattle.rd_messages.specs.declared.message.Message.{Message}
 use Rattle.rd_messages.specs.declared.message.Post.{Post}
@@ -60,18 +61,12 @@ module _ {T Kind Op Delta : Type 0} {ghosts : Ghosts T Kind Op Delta} where
     | inl here ↦
         step b ∙ ap (λ x. if x then option_map (extended (post.message ∷ [])) (now b) else now b) here.0 ∙ ap (option_map (extended (post.message ∷ []))) (so_far b)
         ∙ extended_twice (messages_to posts b) (post.message ∷ []) (start b)
-        ∙ ap (λ xs. option_map (extended (messages_to posts b ++ xs)) (start b)) (sym (ap (λ x. if x then post.message ∷ [] else []) (ap (λ i. post.to == i) here.1 ∙ same post.to)))
+        ∙ ap (λ xs. option_map (extended (messages_to posts b ++ xs)) (start b)) (sym (ap (λ x. if x then post.message ∷ [] else []) (ap (λ i. post.to == i) here.1 ∙ eq-eqb post.to post.to refl)))
         ∙ ap (λ xs. option_map (extended xs) (start b)) (sym (messages_push posts post b))
     | inr there ↦
         step b ∙ ap (λ x. if x then option_map (extended (post.message ∷ [])) (now b) else now b) there.0 ∙ so_far b
-        ∙ ap (λ xs. option_map (extended xs) (start b)) (sym (append_nothing (messages_to posts b)) ∙ ap (λ xs. messages_to posts b ++ xs) (sym (ap (λ x. if x then post.message ∷ [] else []) (apart post.to b (λ e. there.1 (sym e))))) ∙ sym (messages_push posts post b))
+        ∙ ap (λ xs. option_map (extended xs) (start b)) (sym (append_nothing (messages_to posts b)) ∙ ap (λ xs. messages_to posts b ++ xs) (sym (ap (λ x. if x then post.message ∷ [] else []) (ne_eqb post.to b (λ e. there.1 (sym e))))) ∙ sym (messages_push posts post b))
   ]
-    where
-      same : (i : ℕ) → (i == i) ≡ true
-      same i = elim (eqb_tells i i) [ inl e ↦ e.0 | inr e ↦ absurd (e.1 refl) ]
-
-      apart : (i j : ℕ) → i ≢ j → (i == j) ≡ false
-      apart i j ne = elim (eqb_tells i j) [ inl e ↦ absurd (ne e.1) | inr e ↦ e.0 ]
 
 module _ {M : Type 0} where
   -- the first links have room for so many messages

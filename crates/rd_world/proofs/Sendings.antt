@@ -68,10 +68,6 @@ module _ {T Kind Op Delta : Type 0} {ghosts : Ghosts T Kind Op Delta} where
 
 -- WEAKER CLAUSES
 
-pub weaker_ok : {A B : Type 0} (r : Result A B) (P Q : A → Type 0) → ((x : A) → P x → Q x) → IfOk r P → IfOk r Q
-weaker_ok (Ok x) P Q f h = f x h
-weaker_ok (Err e) P Q f h = tt
-
 pub weaker_err : {A B : Type 0} (r : Result A B) (P Q : Type 0) → (P → Q) → OnErr r P → OnErr r Q
 weaker_err (Ok x) P Q f h = tt
 weaker_err (Err e) P Q f h = f h

@@ -2,7 +2,7 @@
 use Rattle.std.proofs.Common.{◌≡◌, ℕ, ◌<◌, ◌≤◌, List, [], ◌∷◌, length, get_or, set, refl, sym, ap, subst, ◌∙◌, arith, Bool, true, false, Option, Some, None, inl, inr, length-set, length-append}
 use Rattle.std.specs.Prelude.{is_some, nat_lt, ◌&&◌, ◌==◌, if◌then◌else◌, option_map}
 use Rattle.std.specs.List.{AllByRecursion, AllZip}
-use Rattle.std.proofs.lemmas.Bool.{cases_lt}
+use Rattle.std.proofs.lemmas.Bool.{cases_lt, and_parts}
 use Rattle.std.proofs.lemmas.Bool.Decides.{nat_tests}
 use Rattle.rd_history.specs.Texts.{Text}
 use Rattle.rd_history.specs.Vector.{VersionVector, IdentitySet}
@@ -157,16 +157,12 @@ module _ {T Kind Op Delta : Type 0} (data_type : DataType Kind Op Shown) (kind_o
         let n = length code.nodes.items in
         let some : is_some (channel_at code.links from to) ≡ true = there (channel_at code.links from to) due in
         let both : nat_lt from n && nat_lt to n ≡ true = sym (stands.parts.linked from to) ∙ some in
-        let one : nat_lt from n ≡ true = first_of_two (nat_lt from n) (nat_lt to n) both in
+        let one : nat_lt from n ≡ true = (and_parts (nat_lt from n) (nat_lt to n) both).0 in
         grind (arith, nat_tests)
       where
         there : (o : Option (Channel (Message T Kind Op Delta ghosts))) → index < count_on o → is_some o ≡ true
         there None h = absurd (omega arith)
         there (Some channel) h = refl
-
-        first_of_two : (x y : Bool) → (x && y) ≡ true → x ≡ true
-        first_of_two true y e = refl
-        first_of_two false y e = absurd (cc e)
 
     abbrev was : ℕ → ℕ → Option (Channel (Message T Kind Op Delta ghosts))
     was a b = if (a == from) && (b == to) then option_map (passed index) (channel_at code.links a b) else channel_at code.links a b

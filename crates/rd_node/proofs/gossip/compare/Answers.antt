@@ -3,6 +3,7 @@ use Rattle.std.specs.Prelude.{map, ◌&&◌, ◌||◌, not, is_some}
 use Rattle.rd_model.specs.Entry.{has_records}
 use Rattle.rd_model.specs.Node.{state_of}
 use Rattle.rd_model.specs.Step.{digest_of, named_digest}
+use Rattle.rd_envelope_codec.specs.Entries.{entry_digest}
 use Rattle.rd_messages.specs.Standing.{digest_told}
 use Rattle.rd_node.specs.Keys.{declared_by}
 use Rattle.rd_node.specs.Gossip.{is_told, is_alike}
@@ -16,11 +17,10 @@ returns g c = λ D kinds logs node same holds.
     let k = state_of node (declared_by state) in
     let ds = map digest_told c.args.digests.now in
     let has : c.has_records-has_records.result ≡ has_records k.entry = c.has_records-has_records.ensures.image (logs state.name) (node.entries state.name) holds.held.image in
-    let own : c.in_ok-own.own ≡ digest_of D k =
-    c.in_ok-own.ensures (logs state.name) (node.entries state.name) holds.held.image
-    ∙ digest_is S.byte_of S.history_spelled g.T.Replica.kind_of g.T.Replica.IsDataOf kinds logs D same node state holds in
+    let own : entry_digest S.byte_of S.history_spelled (g.T.Replica.kind_of state.entry.value) (node.entries state.name) ≡ digest_of D k =
+    digest_is S.byte_of S.history_spelled g.T.Replica.kind_of g.T.Replica.IsDataOf kinds logs D same node state holds in
     let told : c.told_of-told.result ≡ named_digest D ds state.name = c.told_of-told.ensures ∙ told_named D c.args.digests.now state.name in
-    let alike : c.is_told-is_alike.result ≡ is_alike D ds k = c.is_told-is_alike.ensures ∙ (λ i. is_told (told i) (own i)) ∙ is_told_is D (named_digest D ds state.name) (digest_of D k) in
+    let alike : c.in_ok-is_alike.is_alike ≡ is_alike D ds k = c.in_ok-is_alike.ensures (logs state.name) (node.entries state.name) holds.held.image ∙ (λ i. is_told (told i) (own i)) ∙ is_told_is D (named_digest D ds state.name) (digest_of D k) in
     record {
       news = c.compared.ensures.news ∙ (λ i. has i && not (alike i));
       wanted = c.compared.ensures.wanted ∙ (λ i. (c.is_some.ensures ∙ ap is_some told) i && (not (has i) || not (alike i)));

@@ -1,4 +1,5 @@
 use Rattle.std.proofs.Common.{◌≡◌, refl, sym, ap, ◌∙◌, subst₂}
+use Rattle.std.proofs.lemmas.Bool.{false_from_ne_true}
 use Rattle.rd_model.specs.Entry.{group_after}
 use Rattle.rd_envelope.specs.Images.{StandsForGroup}
 use Rattle.rd_envelope.specs.Words.{group_parts}
@@ -6,7 +7,7 @@ use Rattle.rd_deltalog.specs.Words.{answer_in}
 use Rattle.rd_deltalog.specs.Answers.Answer.{AsGroup}
 use Rattle.rd_model.specs.Step.{goes_as_group}
 use Rattle.rd_node.specs.Sending.{state_in}
-use Rattle.rd_node.proofs.Grouped.{not_a_group, untrue}
+use Rattle.rd_node.proofs.Grouped.{not_a_group}
 use Rattle.rd_node.proofs.sending.group_for.Goals as goal
 
 pub returns-in-Group : goal.returns-in-Group
@@ -36,4 +37,4 @@ returns-in_default g c = λ D kinds logs id node keeps h behind.
     let own = h.identity ∙ sym h.own.origin in
     let sent = sym (h.held.sent peer) ∙ sym c.at.ensures.value in
     let flush = c.in_ok-group.ensures.flush D node peer (state_in node state) (logs state.name) h.held.logged keeps own sent behind in
-    untrue (goes_as_group D node peer (state_in node state)) (λ goes. not_a_group c.in_ok-group.field-0 c.in_default.not-Group (flush.1 goes))
+    false_from_ne_true (goes_as_group D node peer (state_in node state)) (λ goes. not_a_group c.in_ok-group.field-0 c.in_default.not-Group (flush.1 goes))

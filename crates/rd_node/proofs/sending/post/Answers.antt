@@ -1,8 +1,9 @@
 use Rattle.std.proofs.Common.{◌≡◌, true, false, not, refl, sym, ap, ◌∙◌, arith}
 use Rattle.std.proofs.lemmas.Bool.Decides.{nat_tests}
 use Rattle.std.specs.Prelude.{◌&&◌, ◌==◌}
+use mathlib.Core.Bool.{and-false}
 use Rattle.rd_node.specs.Sending.{is_sent}
-use Rattle.rd_node.proofs.Flushes.{sent_is, neither_false}
+use Rattle.rd_node.proofs.Flushes.{sent_is}
 use Rattle.rd_node.proofs.sending.post.Goals as goal
 use Rattle.rd_node.proofs.sending.post.Goals.{then-eq-via-then-eq, then-eq-via-else-eq+then-not-any_behind}
 
@@ -13,7 +14,7 @@ returns-then-eq g c = λ D kinds logs node keeps held declares.
       | then-eq-via-then-eq w ↦ let same : (c.args.peer == c.args.id) ≡ true = grind (arith, nat_tests) in ap (λ b. not b && is_sent D node c.args.peer) same
       | then-eq-via-else-eq+then-not-any_behind w ↦
           let none = sym (sent_is R.kind_of R.IsDataOf R.IsDeltaOf kinds logs c.args.id node D c.args.peer c.args.keys.now held declares) ∙ sym w.any_behind.ensures ∙ w.if-not-any_behind.true in
-          ap (λ b. not (c.args.peer == c.args.id) && b) none ∙ neither_false (not (c.args.peer == c.args.id))
+          ap (λ b. not (c.args.peer == c.args.id) && b) none ∙ and-false (not (c.args.peer == c.args.id))
     ]
 
 pub returns : goal.returns

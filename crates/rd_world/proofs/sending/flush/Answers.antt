@@ -1,8 +1,9 @@
 use Rattle.std.proofs.Common.{◌∙◌, subst, arith, ℕ, map, set}
+use Rattle.std.proofs.lemmas.Result.{IfOk-weaker}
 use Rattle.rd_messages.specs.declared.message.Message.{Message}
 use Rattle.rd_world.specs.Channels.{Channels, row_of}
 use Rattle.rd_world.specs.Sending.{AreFlushed, IsSentOnRow, IsSentFrom, Sends}
-use Rattle.rd_world.proofs.Sendings.{weaker_ok, weaker_err, row_sends, same_rows}
+use Rattle.rd_world.proofs.Sendings.{weaker_err, row_sends, same_rows}
 use Rattle.rd_world.proofs.sending.flush.Goals as goal
 
 pub returns-clause-stands : goal.returns-clause-stands
@@ -14,7 +15,7 @@ returns-clause-sends g c = λ within.
     let old = c.index_mut.result.now in
     let new = c.flush_row.new.row in
     let after = map row_of (set rows.items c.from-sender.result new) in
-    weaker_ok c.flush_row.result (IsSentOnRow (AreFlushed g.T.Replica.data_type g.T.Replica.kind_of g.T.Replica.IsDataOf c.args.node.now) c.from.result (row_of old) (row_of new))
+    IfOk-weaker c.flush_row.result (IsSentOnRow (AreFlushed g.T.Replica.data_type g.T.Replica.kind_of g.T.Replica.IsDataOf c.args.node.now) c.from.result (row_of old) (row_of new))
     (IsSentFrom (AreFlushed g.T.Replica.data_type g.T.Replica.kind_of g.T.Replica.IsDataOf c.args.node.now) c.args.from c.args.members c.args.links.now after)
     (λ sent s. (
       s.0,

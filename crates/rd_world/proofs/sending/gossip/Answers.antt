@@ -1,9 +1,10 @@
 use Rattle.std.proofs.Common.{◌∙◌, subst, arith, ℕ, map, set}
+use Rattle.std.proofs.lemmas.Result.{IfOk-weaker}
 use Rattle.rd_messages.specs.declared.message.Message.{Message}
 use Rattle.rd_envelope_codec.specs.Entries.{entry_digest}
 use Rattle.rd_world.specs.Channels.{Channels, row_of}
 use Rattle.rd_world.specs.Sending.{AreGossiped, IsSentOnRow, IsSentFrom, Sends}
-use Rattle.rd_world.proofs.Sendings.{weaker_ok, weaker_err, row_sends, same_rows}
+use Rattle.rd_world.proofs.Sendings.{weaker_err, row_sends, same_rows}
 use Rattle.rd_world.proofs.sending.gossip.Goals as goal
 
 pub returns-clause-stands : goal.returns-clause-stands
@@ -18,7 +19,7 @@ returns-clause-sends g c = λ within.
     let old = c.index_mut.result.now in
     let new = c.gossip_row.new.row in
     let after = map row_of (set rows.items c.from-sender.result new) in
-    weaker_ok c.gossip_row.result (λ answered. IsSentOnRow (AreGossiped g.T.Replica.data_type (entry_digest g.T.SpelledData.byte_of g.T.SpelledData.history_spelled) g.T.Replica.kind_of g.T.Replica.IsDataOf c.args.node.now c.args.to) 2 (row_of old) (row_of new) answered.sent)
+    IfOk-weaker c.gossip_row.result (λ answered. IsSentOnRow (AreGossiped g.T.Replica.data_type (entry_digest g.T.SpelledData.byte_of g.T.SpelledData.history_spelled) g.T.Replica.kind_of g.T.Replica.IsDataOf c.args.node.now c.args.to) 2 (row_of old) (row_of new) answered.sent)
     (λ answered. IsSentFrom (AreGossiped g.T.Replica.data_type (entry_digest g.T.SpelledData.byte_of g.T.SpelledData.history_spelled) g.T.Replica.kind_of g.T.Replica.IsDataOf c.args.node.now c.args.to) c.args.at 2 c.args.links.now after answered.sent)
     (λ answered s. (
       s.0,

@@ -1,9 +1,9 @@
 use Rattle.std.proofs.Common.{◌<◌, ◌||◌, nat_eq, arith, ap, sym, ◌∙◌}
+use mathlib.Core.Bool.{or-false}
 use Rattle.rd_vectors.specs.Vectors.{number_at}
 use Rattle.rd_markers.specs.Marks.{is_performed, begun}
 use Rattle.rd_envelope.specs.Words.{parts_of, init_by}
 use Rattle.rd_envelope.proofs.Judging.{init_absent, init_there, unpruned_there, stands_marked}
-use Rattle.rd_envelope.proofs.Tests.{or_false}
 use Rattle.rd_envelope.proofs.envelope.Envelope.init_prune.Goals as goal
 
 pub returns-then-at-eq0-clause-outcome : goal.returns-then-at-eq0-clause-outcome
@@ -13,7 +13,7 @@ pub returns-in_ok-put-in-Marked-clause-image : goal.returns-in_ok-put-in-Marked-
 returns-in_ok-put-in-Marked-clause-image g c = λ log entry s _.
     let some : 0 < number_at c.args.self.now.versions c.args.removed = omega (arith, c.at.ensures.value) in
     stands_marked g.T.Replica.IsDataOf (parts_of c.args.self.now) _ log entry c.args.removed c.args.owner c.args.view c.with-seen.result s some c.in_ok-put-in-Marked.ensures.ok
-    (λ i. c.with-seen.ensures.members i ∙ ap (λ b. nat_eq i c.args.owner || b) (c.empty.ensures.members i) ∙ or_false (nat_eq i c.args.owner))
+    (λ i. c.with-seen.ensures.members i ∙ ap (λ b. nat_eq i c.args.owner || b) (c.empty.ensures.members i) ∙ or-false (nat_eq i c.args.owner))
 
 pub returns-in_ok-put-in-Marked-clause-outcome : goal.returns-in_ok-put-in-Marked-clause-outcome
 returns-in_ok-put-in-Marked-clause-outcome g c = λ log entry s.

@@ -3,7 +3,7 @@ use Rattle.std.specs.FinMap as map
 use Rattle.rd_history.specs.Vector.{with_member}
 use Rattle.rd_history.specs.History.{versions}
 use Rattle.rd_history.specs.Cuts.{grown}
-use Rattle.rd_history.proofs.CutLaws.{with_member_is}
+use Rattle.rd_history.proofs.CutLaws.{with_member_is, uncleaned}
 use Rattle.rd_vectors.specs.Vectors.{raised, removed}
 use Rattle.rd_markers.specs.declared.marker.Marker.TheVariants.{Performed}
 use Rattle.rd_markers.specs.Marks.{performed_in}
@@ -12,7 +12,6 @@ use Rattle.rd_model.specs.Entry.{with_prune}
 use Rattle.rd_lattice.specs.Refusals.{IsPruneRefusal}
 use Rattle.rd_envelope.specs.Images.{StandsFor}
 use Rattle.rd_envelope.specs.Words.{parts_of}
-use Rattle.rd_envelope.proofs.Numbers.{kept}
 use Rattle.rd_envelope.proofs.Tests.{performed_insert}
 use Rattle.rd_envelope.proofs.Holding.{holds_pruned, held_pruned}
 use Rattle.rd_envelope.proofs.Entries.{stands_pruned, next_of_prune, whole, blocked_same}
@@ -28,8 +27,8 @@ returns-in-Ok-clause-image g c = λ log entry s taken _.
     let gone = performed_in one.markers in
     let n = next_of_prune D (parts_of one) log entry owner id s taken in
     let stays = c.requires.unpruned in
-    let seq : c.at-at.result + 1 ≡ held owner + 1 = ap (λ x. x + 1) (c.at-at.ensures.value ∙ s.holds.numbers owner ∙ kept gone held owner c.requires.member) in
-    let upto : c.at-upto.result ≡ held id = c.at-upto.ensures.value ∙ s.holds.numbers id ∙ kept gone held id stays in
+    let seq : c.at-at.result + 1 ≡ held owner + 1 = ap (λ x. x + 1) (c.at-at.ensures.value ∙ s.holds.numbers owner ∙ uncleaned gone held owner c.requires.member) in
+    let upto : c.at-upto.result ≡ held id = c.at-upto.ensures.value ∙ s.holds.numbers id ∙ uncleaned gone held id stays in
     let marks = c.in_ok-put.ensures.ok ∙ ap (λ m. map.insert m id (Performed owner (c.at-at.result + 1) c.at-upto.result)) c.in_ok-markers.ensures
     ∙ ap (λ x. map.insert one.markers id (Performed owner x c.at-upto.result)) seq ∙ ap (λ x. map.insert one.markers id (Performed owner (held owner + 1) x)) upto in
     subst (λ m. StandsFor D (record { value = c.prune.new.self; versions = c.without.new.self; marks = m }) log (with_prune entry owner id)) (sym marks)

@@ -1,6 +1,6 @@
 use Rattle.std.proofs.Common.{◌≡◌, ◌∙◌, ◌<◌, sym, ap, subst, arith, List, [], ◌∷◌, ◌++◌, length, take, get_or}
 use Rattle.std.specs.Prelude.{vec_len}
-use Rattle.std.proofs.lemmas.List.{take_all}
+use Rattle.std.proofs.lemmas.List.{take_all, get_or_default}
 use Rattle.rd_model.specs.Script.{Playing, round_of, due_now}
 use Rattle.rd_kinds.specs.declared.shown.Shown.{Shown}
 use Rattle.rd_node.specs.Members.{delta_groups}
@@ -10,7 +10,6 @@ use Rattle.rd_world.specs.declared.rounds.Due.{Due}
 use Rattle.rd_world.specs.Standing.{StandsForWorld}
 use Rattle.rd_world.specs.Lines.{AreNextLines}
 use Rattle.rd_world.specs.Ways.{Throughout, IsBetween}
-use Rattle.rd_world.proofs.Places.{same_default}
 use Rattle.rd_world.proofs.Calls.{on_err}
 use Rattle.rd_world.proofs.RoundTurns.{IsTurnedUpto, turned, none_turned, one_turned, amid_turn, round_turned, nothing_stands, nothing_told, at_start, empty_count, some_count}
 use Rattle.rd_world.proofs.world.World.round.Goals as goal
@@ -27,7 +26,7 @@ pub loop-due-preserved : goal.loop-due-preserved
 loop-due-preserved g c =
     let dues = c.deref-due-items.result.now in
     let k = c.loop-due.due-index in
-    one_turned g.T.Replica.data_type (entry_digest g.T.SpelledData.byte_of g.T.SpelledData.history_spelled) g.T.Replica.kind_of g.T.Replica.IsDataOf g.T.Replica dues k c.args.self.now c.loop-due.self c.loop-due.events (get_or dues k zero_due) c.loop-due-test.true (same_default dues k zero_due (get_or dues k zero_due) c.loop-due-test.true)
+    one_turned g.T.Replica.data_type (entry_digest g.T.SpelledData.byte_of g.T.SpelledData.history_spelled) g.T.Replica.kind_of g.T.Replica.IsDataOf g.T.Replica dues k c.args.self.now c.loop-due.self c.loop-due.events (get_or dues k zero_due) c.loop-due-test.true (get_or_default dues k zero_due (get_or dues k zero_due) c.loop-due-test.true)
     c.loop-due.invariant c.deliver_due.new.self c.deliver_due.new.events c.in_ok-deliver_due.ensures.stands c.in_ok-deliver_due.ensures.told
 
 pub returns-then-is_empty-clause-stands : goal.returns-then-is_empty-clause-stands
@@ -89,5 +88,5 @@ returns-in_err-deliver_due-clause-err g c = λ kinds logs first p run through st
     let k = c.loop-due.due-index in
     on_err c.from_residual-in_err-deliver_due.result _
     (subst (λ (q : Playing g.row.T-Kind.Denot g.row.T-Op.Denot Shown). (r : Playing g.row.T-Kind.Denot g.row.T-Op.Denot Shown) × IsBetween D first p r q × StandsForWorld g.T.Replica.kind_of g.T.Replica.IsDataOf kinds logs c.deliver_due.new.self r.world) (sym round)
-    (amid_turn g.T.Replica.data_type (entry_digest g.T.SpelledData.byte_of g.T.SpelledData.history_spelled) g.T.Replica.kind_of g.T.Replica.IsDataOf g.T.Replica dues k c.args.self.now c.loop-due.self c.loop-due.events (get_or dues k zero_due) c.loop-due-test.true (same_default dues k zero_due (get_or dues k zero_due) c.loop-due-test.true)
+    (amid_turn g.T.Replica.data_type (entry_digest g.T.SpelledData.byte_of g.T.SpelledData.history_spelled) g.T.Replica.kind_of g.T.Replica.IsDataOf g.T.Replica dues k c.args.self.now c.loop-due.self c.loop-due.events (get_or dues k zero_due) c.loop-due-test.true (get_or_default dues k zero_due (get_or dues k zero_due) c.loop-due-test.true)
     c.loop-due.invariant kinds logs first p c.deliver_due.new.self run (subst (Throughout D logs first) round through) stands (λ q. c.in_err-deliver_due.ensures.err kinds logs first q)))
