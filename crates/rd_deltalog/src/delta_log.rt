@@ -122,6 +122,7 @@ impl<T: Replica> DeltaLog<T> {
         ensures answer { IfOk result (λ grouped. answer_in grouped ≡ answer_by self.now after) }
         ensures group { IfOk result (λ grouped. IfGroup grouped (λ made. IsMadeOf T.combined self.now after (group_parts made))) }
         ensures fits { IfOk result (λ grouped. IfGroup grouped (λ made. T.delta_fits_kind self.now.kind made.delta ≡ true)) }
+        ensures origin { IfOk result (λ grouped. IfGroup grouped (λ made. T.IsOfOrigin made.delta made.origin)) }
         ensures means { (log : History T.Op) (entry : Entry T.Op) → StandsForLog T.IsDeltaOf self.now log entry
             → IfOk result (λ grouped. answer_in grouped ≡ answer_for entry self.now.origin after) }
         ensures image { (log : History T.Op) (entry : Entry T.Op) → StandsForLog T.IsDeltaOf self.now log entry

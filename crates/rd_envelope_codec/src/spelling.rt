@@ -3,8 +3,9 @@ ghost use Rattle.rd_history.specs.History.{History};
 ghost use Rattle.rd_model.specs.Entry.{Entry};
 ghost use Rattle.rd_envelope.specs.Images.{StandsFor};
 ghost use Rattle.rd_envelope.specs.Words.{parts_of};
-ghost use Rattle.rd_envelope_codec.specs.Envelopes.{envelope_spelled, IsSpelled};
+ghost use Rattle.rd_envelope_codec.specs.Envelopes.{envelope_spelled, IsSpelled, IsEnvelope};
 ghost use Rattle.rd_envelope_codec.specs.Entries.{entry_spelled, entry_digest};
+ghost use Rattle.sha1.specs.Sha1.{sha1};
 
 use rd_envelope::Envelope;
 use rd_lattice::SpelledData;
@@ -30,6 +31,9 @@ pub fn spell<T: SpelledData>(alloc: Global, envelope: &Envelope<T>) -> Result<Ve
     ensures value { IfOk result (λ bytes. bytes.items ≡ envelope_spelled (λ value. T.byte_of (T.kind_of value)) T.spelled (parts_of envelope.now)) }
     ensures image { (log : History T.Op) (entry : Entry T.Op) → StandsFor T.IsDataOf (parts_of envelope.now) log entry
         → IfOk result (λ bytes. bytes.items ≡ entry_spelled T.byte_of T.history_spelled (T.kind_of envelope.now.value) entry) }
+    // What is spelled of an entry is what `read` reads again.
+    ensures readable { (log : History T.Op) (entry : Entry T.Op) → StandsFor T.IsDataOf (parts_of envelope.now) log entry
+        → IfOk result (λ _bytes. IsEnvelope T.IsSound T.mentioned (parts_of envelope.now)) }
 {
     let mut bytes = Vec::new(alloc);
     append(envelope, &mut bytes)?;
@@ -38,7 +42,8 @@ pub fn spell<T: SpelledData>(alloc: Global, envelope: &Envelope<T>) -> Result<Ve
 
 /// The SHA-1 (FIPS 180-4) of the envelope's spelling.
 pub fn digest<T: SpelledData>(alloc: Global, envelope: &Envelope<T>) -> Result<[u8; 20], Memory>
-    ensures { (log : History T.Op) (entry : Entry T.Op) → StandsFor T.IsDataOf (parts_of envelope.now) log entry
+    ensures value { IfOk result (λ digest. digest ≡ sha1 (envelope_spelled (λ value. T.byte_of (T.kind_of value)) T.spelled (parts_of envelope.now))) }
+    ensures image { (log : History T.Op) (entry : Entry T.Op) → StandsFor T.IsDataOf (parts_of envelope.now) log entry
         → IfOk result (λ digest. digest ≡ entry_digest T.byte_of T.history_spelled (T.kind_of envelope.now.value) entry) }
 {
     let bytes = spell(alloc, envelope)?;

@@ -54,6 +54,15 @@ const FLUSHED_REGISTER: &str = r#"{"members":2,"keys":[{"key":"r","kind":"lwwreg
     {"do":"round"},
     {"do":"get","at":1,"key":"r"}]}"#;
 
+const REPEATS: &str = r#"{"members":2,"keys":[{"key":"n","kind":"gcounter"}],"steps":[
+    {"do":"update","at":0,"key":"n","op":"increment","by":5},
+    {"do":"update","at":1,"key":"n","op":"increment","by":7},
+    {"do":"flush","at":0},
+    {"do":"deliver","from":0,"to":1},
+    {"do":"deliver","from":0,"to":1,"index":0},
+    {"do":"get","at":0,"key":"n"},
+    {"do":"get","at":1,"key":"n"}]}"#;
+
 const ADD_WINS: &str = r#"{"members":2,"keys":[{"key":"s","kind":"orset"}],"steps":[
     {"do":"update","at":0,"key":"s","op":"add","element":"x"},
     {"do":"flush","at":0},
@@ -170,6 +179,20 @@ member 1 place 1 view 0
 r "a" known 0:1 1:1 marks -
 "#;
 
+const REPEATS_REPORT: &str = r#"1 update 0 n done
+2 update 1 n done
+3 flush 0 done sent 1:deltas/1/0
+4 deliver 0>1 0 deltas/1/0 taken
+5 deliver 0>1 0 deltas/1/0 already
+6 get 0 n value 5
+7 get 1 n value 12
+final view 0
+member 0 place 0 view 0
+n 5 known 0:1 marks -
+member 1 place 1 view 0
+n 12 known 0:1 1:1 marks -
+"#;
+
 const ADD_WINS_REPORT: &str = r#"1 update 0 s done
 2 flush 0 done sent 1:deltas/1/0
 3 deliver 0>1 0 deltas/1/0 taken
@@ -273,6 +296,7 @@ fn prints_the_report(rt: HostRuntime) -> Result<(), Fail> {
         (THREE_MEMBERS, THREE_MEMBERS_REPORT),
         (OTHER_KINDS, OTHER_KINDS_REPORT),
         (FLUSHED_REGISTER, FLUSHED_REGISTER_REPORT),
+        (REPEATS, REPEATS_REPORT),
         (ADD_WINS, ADD_WINS_REPORT),
         (DELTA_OVERTAKES_ITS_CAUSE, DELTA_OVERTAKES_ITS_CAUSE_REPORT),
         (GOSSIP, GOSSIP_REPORT),

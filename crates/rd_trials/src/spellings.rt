@@ -27,7 +27,7 @@ const SET: [&str; 4] = [
     "00170a160dffffffffffffffffffffffffffffffffff31313131313131312aff3131313131313131ffffffffffffffffff",
 ];
 
-/// A growing counter that took over the share of identity 1, which was pruned.
+/// A growing counter that took over the share of identity 2, which was pruned.
 const PRUNED: [&str; 4] = [
     "01010102010000000000000000010000000000000001010000000000000000010100000000000000000a",
     "a554cc38b413d4aba946cae2bd4a12a97a8de9d1",
@@ -93,12 +93,14 @@ const UNWRITTEN: [&str; 4] = [
 
 // Each row in hexadecimal: a place, which is a byte, and bytes that break a rule of spellings there. They were made by hand.
 
-/// Counts above 64, identities that fall, a mark that nobody has seen, and a version of a pruned identity.
-const BAD_HEADS: [&str; 5] = [
+/// Counts above 64, identities that fall, a mark that nobody has seen, a mark that 65 have seen, of whom the last is none, and
+/// a version of a pruned identity.
+const BAD_HEADS: [&str; 6] = [
     "02010141",
     "0301010041",
     "0d0101000205000000000000000103000000000000000100",
     "0a0101010200000000010000",
+    "4b0101010200000000010041000102030405060708090a0b0c0d0e0f101112131415161718191a1b1c1d1e1f202122232425262728292a2b2c2d2e2f303132333435363738393a3b3c3d3e3f40",
     "170101010201000000000000000001000000000000000101020000000000000001",
 ];
 
@@ -108,11 +110,12 @@ const BAD_SHARES: [&str; 2] = [
     "0e0101000002000000000000000001000000000000000001",
 ];
 
-/// Growing sets: a text of 65 bytes, no UTF-8, texts that fall, a text twice, and more texts than there are.
-const BAD_TEXTS: [&str; 5] = [
+/// Growing sets: a text of 65 bytes, no UTF-8, texts that fall, also to the empty one, a text twice, and more texts than there are.
+const BAD_TEXTS: [&str; 6] = [
     "0c01030000000000000000000141",
     "0d01030000000000000000000101ff",
     "0f010300000000000000000002017a015a",
+    "0f010300000000000000000002016100",
     "0f010300000000000000000002017a017a",
     "0d01030000ffffffffffffffff00",
 ];
@@ -132,6 +135,18 @@ const BAD_DOTS: [&str; 6] = [
 const BAD_WRITES: [&str; 2] = [
     "040106000080000000000000000000",
     "0c0106000000000000000000064000",
+];
+
+/// A share and a dot of identity 2, which was pruned.
+const BAD_PRUNED: [&str; 2] = [
+    "18010101020100000000000000000100000000000000010001020000000000000001",
+    "320104010201000000000000000001000000000000000101000000000000000001000000000000000101780000000000000001020000000000000001",
+];
+
+/// Identity 2 was pruned, and is read as the writer of a register, and as the owner of a mark who has seen it.
+const PRUNED_NAMED: [&str; 2] = [
+    "ff0106010201000000000000000001000000000000000101000000000000000001000000000000006502026869",
+    "ff010502020100000000000000000100000000000000010300000000010201020100000000000000000101",
 ];
 
 fn bytes_of(alloc: Global, text: &str) -> Result<Vec<u8>, Fail> {
@@ -230,13 +245,13 @@ fn refuses_what_is_left_over_and_another_format(rt: HostRuntime) -> Result<(), F
     Ok(())
 }
 
-/// Each row's bytes are refused at its place.
-fn check_refused(alloc: Global, rows: &[&str]) -> Result<(), Fail> {
+/// Each row's bytes are refused at its place, or are read.
+fn check_places(alloc: Global, rows: &[&str]) -> Result<(), Fail> {
     for row in rows {
         match bytes_of(alloc, row)?.as_slice() {
             [found, bytes @ ..] => {
                 if place(alloc, bytes)? != usize::from(*found) {
-                    return Err("refused elsewhere".into());
+                    return Err("another place".into());
                 }
             }
             [] => return Err("no row".into()),
@@ -246,11 +261,15 @@ fn check_refused(alloc: Global, rows: &[&str]) -> Result<(), Fail> {
 }
 
 #[test]
-fn refuses_what_breaks_a_rule_where_it_stands(rt: HostRuntime) -> Result<(), Fail> {
+fn refuses_what_breaks_a_rule_where_it_stands_and_nothing_else(
+    rt: HostRuntime,
+) -> Result<(), Fail> {
     let alloc = rt.alloc();
-    check_refused(alloc, &BAD_HEADS)?;
-    check_refused(alloc, &BAD_SHARES)?;
-    check_refused(alloc, &BAD_TEXTS)?;
-    check_refused(alloc, &BAD_DOTS)?;
-    check_refused(alloc, &BAD_WRITES)
+    check_places(alloc, &BAD_HEADS)?;
+    check_places(alloc, &BAD_SHARES)?;
+    check_places(alloc, &BAD_TEXTS)?;
+    check_places(alloc, &BAD_DOTS)?;
+    check_places(alloc, &BAD_WRITES)?;
+    check_places(alloc, &BAD_PRUNED)?;
+    check_places(alloc, &PRUNED_NAMED)
 }
