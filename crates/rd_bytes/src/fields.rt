@@ -9,7 +9,7 @@ use crate::memory::Memory;
 use crate::text::Text;
 use std::alloc::Global;
 
-/// The rule of the field at the front of these bytes.
+/// Nothing where the rule of the field at the front of these bytes holds; else the fault that it breaks its rule there.
 pub fn keep(rule: bool, field: &[u8]) -> Result<(), FieldError>
     ensures { Gives (λ x. x) result (kept rule (length field.now)) }
 {

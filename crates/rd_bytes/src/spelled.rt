@@ -39,7 +39,7 @@ pub trait Spelled: Sized {
     ghost spelled_is_read: { (x : Self) (rest : List ℕ) → IsSound x → read_in (spelled x ++ rest) ≡ Ok (x, rest) };
 }
 
-/// What was read at the front of the last of so many bytes, by places among them.
+/// What was read at the front of the last of so many bytes, with places among all of them in place of how many were left.
 pub fn placed<X: Drop>(
     total: usize,
     read: Result<(X, &[u8]), FieldError>,

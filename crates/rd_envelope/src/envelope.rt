@@ -203,7 +203,12 @@ impl<T: Replica> Envelope<T> {
         self.markers.add_seen(id, view)
     }
 
-    /// Adds a record of the identity, which has taken the records of this entry.
+    /// Adds the operation as the next record of the identity, which has taken the records of this entry, and answers the
+    /// record's delta.
+    ///
+    /// # Errors
+    ///
+    /// The refusal that the kind has for the operation of this identity, or memory was refused. Nothing changed then.
     pub fn update(&mut self, op: &T::Op, id: Id) -> Result<T::Delta, ApplyError>
         requires fits { T.data_type.fits (T.kind_of self.old.value) op.now ≡ true }
         requires member { performed_in self.old.markers id ≡ false }
@@ -310,7 +315,8 @@ impl<T: Replica> Envelope<T> {
         Ok(())
     }
 
-    /// Marks an identity as one that an owner is to prune in a view, unless a mark of this view or of a greater one stands.
+    /// Marks an identity as one that an owner is to prune in a view, unless a mark of this view or of a greater one stands,
+    /// or the entry has no record of the identity, or it was pruned.
     pub fn init_prune(&mut self, removed: Id, owner: Id, view: u32) -> Result<Init, Memory>
         ensures image { (log : History T.Op) (entry : Entry T.Op) → StandsFor T.IsDataOf (parts_of self.old) log entry → result ≡ Ok initial.Marked
             → StandsFor T.IsDataOf (parts_of self.new) log (with_mark entry removed owner view) }

@@ -4,7 +4,7 @@ use rd_lattice::Replica;
 use rd_vectors::{Id, Memory, Seq, VersionVector};
 use std::alloc::Global;
 
-/// An origin's records after a number up to another, as one delta.
+/// An origin's records after one number and up to another, as one delta. The numbers rise, and are at most `2^62`.
 #[derive(Drop)]
 pub struct Group<T: Replica> {
     pub origin: Id,

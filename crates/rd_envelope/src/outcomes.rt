@@ -3,6 +3,7 @@ use rd_vectors::Id;
 /// Whether a group of records is to be taken.
 #[derive(Clone, Copy, Debug, PartialEq, Eq)]
 pub enum Judgement {
+    /// Some of its records are new, and none that it needs is missing.
     Take,
     /// All its records are known.
     Already,
@@ -13,6 +14,7 @@ pub enum Judgement {
 /// What became of the first step of a prune.
 #[derive(Clone, Copy, Debug, PartialEq, Eq)]
 pub enum Init {
+    /// The mark was made.
     Marked,
     /// The mark of this view stands.
     Standing,
@@ -25,6 +27,7 @@ pub enum Init {
 /// What became of a prune.
 #[derive(Clone, Copy, Debug, PartialEq, Eq)]
 pub enum Perform {
+    /// The prune is the owner's new record.
     Performed,
     /// The first member that has not seen the mark.
     Waiting(Id),

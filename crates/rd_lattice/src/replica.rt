@@ -16,12 +16,19 @@ use rd_kinds::Shown;
 use rd_vectors::{Dot, Id, Memory, VersionVector};
 use std::alloc::Global;
 
-/// Data of one kind, without the records that made them.
+/// Data of one kind, without the records that made them: the state of a delta state replicated data type, after Almeida,
+/// Shoker and Baquero, "Delta State Replicated Data Types", 2018.
+///
+/// What a replica counts of each identity is handed to the calls that need it as a version vector, its causal context. A
+/// call that changes data leaves them as they were where it answers an error.
 pub trait Replica: Drop {
+    /// Which kinds there are.
     type Kind: Copy;
 
+    /// What an update does.
     type Op;
 
+    /// What records of one origin do, as a part that can be sent.
     type Delta: Drop;
 
     // What histories of these operations mean.
@@ -67,18 +74,27 @@ pub trait Replica: Drop {
 
     ghost IsWithin: { Self → VersionVector → Type 0 };
 
+    /// The data of the kind without a record.
     fn empty(alloc: Global, kind: &Self::Kind) -> Result<Self, Memory>
         ensures { IfOk result (λ state. state ≡ empty_of kind.now) };
 
+    /// Equal data.
     fn copy(&self, alloc: Global) -> Result<Self, Memory>
         ensures { IfOk result (λ copy. copy ≡ self.now) };
 
+    /// Whether both are of one kind.
     fn same_kind(&self, other: &Self) -> bool
         ensures { IsTrue result ↔ (kind_of self.now ≡ kind_of other.now) };
 
+    /// Whether the operation is one of the kind.
     fn fits(&self, op: &Self::Op) -> bool
         ensures { result ≡ data_type.fits (kind_of self.now) op.now };
 
+    /// Applies an operation as the record of this name, of a number from 1 to `2^62`, and answers its delta.
+    ///
+    /// # Errors
+    ///
+    /// The refusal that the kind has for the operation of this origin, or memory was refused.
     fn apply(&mut self, alloc: Global, op: &Self::Op, dot: Dot) -> Result<Self::Delta, ApplyError>
         requires fits { data_type.fits (kind_of self.old) op.now ≡ true }
         requires seq { (1 ≤ dot.seq) × (dot.seq ≤ 2 ^ 62) }
@@ -88,6 +104,7 @@ pub trait Replica: Drop {
         ensures refused { IfErr result (IsApplyRefusal (apply_refusal self.old op.now dot.origin)) }
         ensures err { OnErr result (self.new ≡ self.old) };
 
+    /// Joins other data of the same kind. `mine` and `theirs` are the numbers of records that either side counts.
     fn join(
         &mut self,
         mine: &VersionVector,
@@ -98,11 +115,13 @@ pub trait Replica: Drop {
         ensures ok { OnOk result (self.new ≡ joined self.old (number_at mine.now) other.now (number_at theirs.now)) }
         ensures err { OnErr result (self.new ≡ self.old) };
 
+    /// Takes a delta of the kind. `mine` are the numbers of records that were counted before.
     fn absorb(&mut self, mine: &VersionVector, delta: &Self::Delta) -> Result<(), Memory>
         requires { delta_fits_kind (kind_of self.old) delta.now ≡ true }
         ensures ok { OnOk result (self.new ≡ absorbed self.old (number_at mine.now) delta.now) }
         ensures err { OnErr result (self.new ≡ self.old) };
 
+    /// Two deltas of one origin and one kind as one, the earlier first.
     fn combine(
         alloc: Global,
         first: &Self::Delta,
@@ -112,15 +131,23 @@ pub trait Replica: Drop {
         requires kind { (kind : Self.Kind) × (delta_fits_kind kind first.now ≡ true) × (delta_fits_kind kind later.now ≡ true) }
         ensures { IfOk result (λ delta. delta ≡ combined first.now later.now) };
 
+    /// An equal delta.
     fn copy_delta(alloc: Global, delta: &Self::Delta) -> Result<Self::Delta, Memory>
         ensures { IfOk result (λ copy. copy ≡ delta.now) };
 
+    /// Whether the delta is one of the kind.
     fn delta_fits(&self, delta: &Self::Delta) -> bool
         ensures { result ≡ delta_fits_kind (kind_of self.now) delta.now };
 
+    /// Drops what the data have of an identity that was pruned.
     fn clean(&mut self, id: Id)
         ensures { self.new ≡ cleaned self.old id };
 
+    /// Moves what another identity, the removed one, holds to the origin of the record of this name.
+    ///
+    /// # Errors
+    ///
+    /// The two shares add to more than one identity may hold, or memory was refused.
     fn prune(&mut self, removed: Id, dot: Dot) -> Result<(), PruneError>
         requires other { removed ≡ dot.origin → ⊥ }
         requires seq { (1 ≤ dot.seq) × (dot.seq ≤ 2 ^ 62) }
@@ -129,9 +156,11 @@ pub trait Replica: Drop {
         ensures refused { IfErr result (IsPruneRefusal (prune_refusal self.old removed dot.origin)) }
         ensures err { OnErr result (self.new ≡ self.old) };
 
+    /// Whether the data have anything of the identity.
     fn mentions(&self, id: Id) -> bool
         ensures { result ≡ mentioned self.now id };
 
+    /// The value as it is shown.
     fn show(&self, alloc: Global) -> Result<Shown, Memory>
         ensures { IfOk result (λ value. value ≡ shown self.now) };
 

@@ -10,7 +10,9 @@ use rd_vectors::{Id, IdSet, Seq};
 /// How far the pruning of an identity is.
 #[derive(Clone, Copy, Debug, PartialEq, Eq)]
 pub enum Marker {
+    /// The owner is to prune the identity in this view; these members, at least one, have seen the mark.
     Initialized { view: u32, owner: Id, seen: IdSet },
+    /// The owner's record of this number pruned the identity, of which it found so many records; both are 1 to `2^62`.
     Performed { owner: Id, at: Seq, upto: Seq },
 }
 

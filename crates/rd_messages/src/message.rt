@@ -58,7 +58,7 @@ pub struct Post<T: Replica> {
     pub message: Message<T>,
 }
 
-/// Messages, at most one to each peer, in the order of the peers.
+/// Messages on their way to members, in the order in which they were sent.
 pub type Posts<T> = Items<Post<T>>;
 
 impl<T: Replica> Message<T> {

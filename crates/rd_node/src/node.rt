@@ -15,7 +15,7 @@ use rd_messages::{Message, Posts};
 use rd_vectors::Id;
 use std::alloc::Global;
 
-/// A member makes at most so many steps.
+/// A member makes at most so many steps: updates, gets, flushes, gossips, and messages taken, also where it replies a refusal.
 pub const MOST_STEPS: usize = 16_384;
 
 /// A member: its identity, the view that it has installed, and what it holds of each declared key.

@@ -18,15 +18,15 @@ pub enum Reply {
     UnknownKey,
     /// The operation is not one of the key's kind.
     WrongKind,
-    /// The own share of a counter would pass its limit.
+    /// The own share of a counter and the amount add to more than `2^63 - 1`; nothing changed.
     Overflow { share: u64, amount: u64 },
-    /// A register was written at the last moment of its clock.
+    /// The timestamp of the register is `2^63 - 1` already; nothing changed.
     ClockSpent,
-    /// A set has as many elements as it may have.
+    /// The set shows 256 elements or more, and the added one is none of them; nothing changed.
     SetFull,
-    /// The message changed an entry.
+    /// The message changed an entry, or was a nack or a status.
     Taken,
-    /// The message changed nothing.
+    /// Any other message that changed no entry. It may have been answered.
     Already,
     /// The member lacks a record of this identity, which a group of the message needs.
     Gap(Id),

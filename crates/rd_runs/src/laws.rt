@@ -11,7 +11,7 @@ ghost use Rattle.rd_model.specs.Script.{ScriptStep, IsStep, IsRun, played_all};
 ghost use Rattle.rd_runs.specs.Logs.{HasLogs, AreLogsOf};
 ghost use Rattle.rd_runs.specs.Pruning.{book_of, IsLawfulRun, AllSeeTheirMarks, HasUnprunedMarks, SeenHaveInstalled, SeenAreKept, JoinedUnpruned, PrunersHaveInstalled, NoLateRecord, NoLateGroup, NoEarlierPrune, GroupsHaveNoPrunes, StoredIsHeld, PrunesFollowMarks, OnePruneAView, EntriesArePruned, UnionsArePruned};
 
-/// Whatever happens, each member stands in the marks that it holds.
+/// Whatever happens, each member stands in the marks that it holds and whose view is at most its own.
 pub fn own_marks<Kind, Operation, Shown>()
     ensures { (D : Replication Kind Operation Shown) (members : ℕ) (keys : List (KeyDecl Kind)) (events : List (Event Operation))
         → AllSeeTheirMarks (run D (start members keys) events) }

@@ -16,6 +16,7 @@ impl Due {
     ghost use Rattle.std.specs.Prelude.{◌≡◌};
     ghost use Rattle.rd_top.specs.Due.{text_due, status_due};
 
+    /// The text that is to be written, which ends with a newline or is empty.
     pub fn text(&self) -> &str
         ensures { result.now ≡ text_due self.now }
     {
@@ -29,6 +30,7 @@ impl Due {
         }
     }
 
+    /// The exit status.
     pub fn status(&self) -> Status
         ensures { result ≡ status_due self.now }
     {

@@ -54,7 +54,7 @@ impl IdSet {
         (self.bits >> id.number()) & 1 == 1
     }
 
-    /// The members of both sets.
+    /// The identities that are members of either set.
     pub fn union(self, other: IdSet) -> IdSet
         ensures bits { result ≡ bit_or self other }
         ensures members { (i : ℕ) → members_in result i ≡ united (members_in self) (members_in other) i }

@@ -41,7 +41,7 @@ impl<T: Replica> World<T> {
         self.nodes.as_slice()
     }
 
-    /// Members 0 and up, each with these keys and no record, and no message between them.
+    /// From 1 to 8 members, 0 and up, each with these keys, which are distinct, and no record; and no message between them.
     pub fn start(alloc: Global, members: u8, keys: &[KeyDecl<T>]) -> Result<World<T>, Memory>
         requires some { 1 ≤ members }
         requires few { members ≤ 8 }
