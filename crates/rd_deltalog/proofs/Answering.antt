@@ -4,7 +4,7 @@ use Rattle.std.specs.Prelude.{nat_le, nat_lt, if◌then◌else◌, slice_get, So
 use Rattle.std.specs.List.{list_any}
 use Rattle.std.proofs.lemmas.Bool.{cases_lt}
 use Rattle.std.proofs.lemmas.Bool.Decides.{nat_tests}
-use Rattle.rd_history.specs.History.{Record, History, at, records}
+use Rattle.rd_history.specs.History.{Record, History, at}
 use Rattle.rd_history.proofs.PartLaws.{slice_get-dropped}
 use Rattle.rd_history.proofs.Bridge.{part_record_at}
 use Rattle.rd_model.specs.Entry.{Entry, is_prune}
@@ -55,7 +55,7 @@ module _ {Kind Delta : Type 0} (parts : LogParts Kind Delta) (after : ℕ) where
 
 module _ {Op : Type 0} (entry : Entry Op) (origin after : ℕ) where
   abbrev rest : List (Record Op)
-  rest = drop after (records entry.history origin)
+  rest = drop after (entry.history origin)
 
   abbrev pruned : Bool
   pruned = list_any (λ (r : Record Op). is_prune r.action) rest
@@ -89,9 +89,9 @@ module _ {Kind Delta Op : Type 0} (IsDeltaOf : Delta → History Op → ℕ → 
 
   same_lacking : after < parts.last → parts.last ≤ after + length parts.records → list_any lacks_delta (wanted parts after) ≡ pruned entry parts.origin after
   same_lacking some kept = alike lacks_delta (λ (r : Record Op). is_prune r.action) (wanted parts after) (rest entry parts.origin after)
-      (wanted_length kept ∙ ap (λ n. n - after) stands.last ∙ sym (length-drop after (records entry.history parts.origin)))
+      (wanted_length kept ∙ ap (λ n. n - after) stands.last ∙ sym (length-drop after (entry.history parts.origin)))
       (λ k own r has has'.
-      let here = sym (slice_get-dropped (records entry.history parts.origin) after k) ∙ has' in
+      let here = sym (slice_get-dropped (entry.history parts.origin) after k) ∙ has' in
       (wanted_kept some kept k own has).placeholder ∙ ap (λ (x : Record Op). is_prune x.action) (part_record_at log entry.history stands.taken.part parts.origin (after + k) r here))
 
   -- the log answers what the entry calls for
@@ -100,7 +100,7 @@ module _ {Kind Delta Op : Type 0} (IsDeltaOf : Delta → History Op → ℕ → 
     | inr none ↦ answers_nothing parts after none ∙ sym (for_nothing entry parts.origin after (subst (λ n. n ≤ after) stands.last none))
     | inl some ↦
         let more : after < at entry.history parts.origin = subst (λ n. after < n) stands.last some in
-        let long : length (rest entry parts.origin after) ≡ parts.last - after = length-drop after (records entry.history parts.origin) ∙ sym (ap (λ n. n - after) stands.last) in
+        let long : length (rest entry parts.origin after) ≡ parts.last - after = length-drop after (entry.history parts.origin) ∙ sym (ap (λ n. n - after) stands.last) in
         elim (cases_lt (after + length parts.records) parts.last) [
           | inl old ↦ answers_too_old parts after old ∙ sym (for_too_old entry parts.origin after more (let c = stands.count in omega arith))
           | inr kept ↦ answers_kept parts after _ some kept (same_lacking some kept) ∙ sym (for_kept entry parts.origin after more (let c = stands.count in omega arith))
@@ -128,6 +128,6 @@ module _ {Kind Op Shown : Type 0} (D : Replication Kind Op Shown) (node : Node K
       is ∙ ap (λ b. answer_of b (nat_lt most_kept (length (rest key.entry origin after))) (pruned key.entry origin after)) some
       ∙ ap (λ b. answer_of false b (pruned key.entry origin after)) (longer (length (rest key.entry origin after))) in
       let there : goes_as_group D node peer key ≡ (nat_le (length (rest key.entry origin after)) most_kept && not (pruned key.entry origin after)) =
-      λ i. nat_le (length (drop (sent i) (records key.entry.history (own i)))) (keeps i) && not (list_any (λ (r : Record Op). is_prune r.action) (drop (sent i) (records key.entry.history (own i)))) in
+      λ i. nat_le (length (drop (sent i) (key.entry.history (own i)))) (keeps i) && not (list_any (λ (r : Record Op). is_prune r.action) (drop (sent i) (key.entry.history (own i)))) in
       let both = as_group (nat_le (length (rest key.entry origin after)) most_kept) (pruned key.entry origin after) in
       (λ e. there ∙ both.0 (sym here ∙ e), λ e. here ∙ both.1 (sym there ∙ e))

@@ -4,7 +4,7 @@ use Rattle.std.specs.Prelude.{slice_get, fold}
 use Rattle.std.proofs.lemmas.Bool.{cases_eq, cases_lt}
 use Rattle.rd_model.proofs.GroupLaws.{joined_past, past_in_join}
 use Rattle.rd_history.specs.Vector.{VersionVector, join, none_counted}
-use Rattle.rd_history.specs.History.{Record, History, at, records, HasRecord}
+use Rattle.rd_history.specs.History.{Record, History, at, HasRecord}
 use Rattle.rd_history.specs.Cuts.{record_at, action_of, past_of, AreOperations}
 use Rattle.rd_history.proofs.HistoryLaws.{with_at_other, slice_get-below}
 use Rattle.rd_history.proofs.PartLaws.{slice_get-dropped, part-le, in_whole}
@@ -33,19 +33,19 @@ module _ {Kind Delta Op : Type 0} (IsDeltaOf : Delta → History Op → ℕ → 
   more = subst (λ n. after < n) stands.last some
 
   -- the past of the last record holds the pasts of those before it
-  last_past : (i : ℕ) → fold joined_past none_counted (drop after (records entry.history parts.origin)) i ≡ past_of log parts.origin (at entry.history parts.origin - 1) i
+  last_past : (i : ℕ) → fold joined_past none_counted (drop after (entry.history parts.origin)) i ≡ past_of log parts.origin (at entry.history parts.origin - 1) i
   last_past i =
       let n : ℕ = at entry.history parts.origin in
       let m = more in
       let here : HasRecord entry.history parts.origin (n - 1) (record_at log parts.origin (n - 1)) = record_at_part log entry.history stands.taken.part parts.origin (n - 1) (omega arith) in
       let there : HasRecord log parts.origin (n - 1) (record_at log parts.origin (n - 1)) = in_whole entry.history log stands.taken.part parts.origin (n - 1) (record_at log parts.origin (n - 1)) here in
       let numbered : past_of log parts.origin (n - 1) parts.origin ≡ n - 1 = stands.histories.numbered parts.origin (n - 1) (record_at log parts.origin (n - 1)) there in
-      let low = past_in_join (drop after (records entry.history parts.origin)) none_counted (n - 1 - after) (record_at log parts.origin (n - 1)) i
-      (slice_get-dropped (records entry.history parts.origin) after (n - 1 - after) ∙ (let place : after + (n - 1 - after) ≡ n - 1 = omega arith in ap (slice_get (records entry.history parts.origin)) place ∙ here)) in
-      let high = joined_most (drop after (records entry.history parts.origin)) none_counted i (past_of log parts.origin (n - 1) i) (omega arith)
+      let low = past_in_join (drop after (entry.history parts.origin)) none_counted (n - 1 - after) (record_at log parts.origin (n - 1)) i
+      (slice_get-dropped (entry.history parts.origin) after (n - 1 - after) ∙ (let place : after + (n - 1 - after) ≡ n - 1 = omega arith in ap (slice_get (entry.history parts.origin)) place ∙ here)) in
+      let high = joined_most (drop after (entry.history parts.origin)) none_counted i (past_of log parts.origin (n - 1) i) (omega arith)
       (λ k r has.
-      let old : HasRecord entry.history parts.origin (after + k) r = sym (slice_get-dropped (records entry.history parts.origin) after k) ∙ has in
-      let below = slice_get-below (records entry.history parts.origin) r (after + k) old in
+      let old : HasRecord entry.history parts.origin (after + k) r = sym (slice_get-dropped (entry.history parts.origin) after k) ∙ has in
+      let below = slice_get-below (entry.history parts.origin) r (after + k) old in
       elim (cases_lt (after + k) (n - 1)) [
         | inl earlier ↦ stands.histories.transitive parts.origin (n - 1) parts.origin (after + k) (record_at log parts.origin (n - 1)) r there (in_whole entry.history log stands.taken.part parts.origin (after + k) r old) (omega (arith, numbered)) i
         | inr last ↦
@@ -64,8 +64,8 @@ module _ {Kind Delta Op : Type 0} (IsDeltaOf : Delta → History Op → ℕ → 
       let place : parts.last - length parts.records + (length parts.records - 1) ≡ at entry.history parts.origin - 1 = (let l = stands.last in let c = stands.count in let s = some_kept in omega arith) in
       let before : (j : ℕ) → number_at last.0.before j ≡ past_of log parts.origin (at entry.history parts.origin - 1) j = (subst (IsKeptOf IsDeltaOf last.0 log parts.origin) place (stands.kept (length parts.records - 1) last.0 last.1)).before in
       made.needed last.0 last.1 i ∙ elim (cases_eq i parts.origin) [
-        | inl is ↦ with_at_is (number_at last.0.before) parts.origin after i is ∙ sym (with_at_is (fold joined_past none_counted (drop after (records entry.history parts.origin))) parts.origin after i is)
-        | inr isnt ↦ with_at_other (number_at last.0.before) parts.origin after i isnt ∙ before i ∙ sym (last_past i) ∙ sym (with_at_other (fold joined_past none_counted (drop after (records entry.history parts.origin))) parts.origin after i isnt)
+        | inl is ↦ with_at_is (number_at last.0.before) parts.origin after i is ∙ sym (with_at_is (fold joined_past none_counted (drop after (entry.history parts.origin))) parts.origin after i is)
+        | inr isnt ↦ with_at_other (number_at last.0.before) parts.origin after i isnt ∙ before i ∙ sym (last_past i) ∙ sym (with_at_other (fold joined_past none_counted (drop after (entry.history parts.origin))) parts.origin after i isnt)
       ]
 
   -- THE GROUP

@@ -1,7 +1,7 @@
 -- What a log answers of the own records after a number, by the model's rule of what a flush sends.
 use Rattle.std.specs.Prelude.{ℕ, length, drop, nat_le, nat_lt, if◌then◌else◌}
 use Rattle.std.specs.List.{list_any}
-use Rattle.rd_history.specs.History.{Record, records, at}
+use Rattle.rd_history.specs.History.{Record, at}
 use Rattle.rd_model.specs.Entry.{Entry, is_prune}
 
 -- a member keeps so many of its last own records of a key
@@ -18,5 +18,5 @@ pub data Answer : Type 0 where
 abbrev pub answer_for : {Op : Type 0} → Entry Op → ℕ → ℕ → Answer
 answer_for {Op} entry origin after =
     if nat_le (at entry.history origin) after then Nothing
-    else (if nat_lt most_kept (length (drop after (records entry.history origin))) then TooOld
-    else (if list_any (λ (r : Record Op). is_prune r.action) (drop after (records entry.history origin)) then NoDelta else AsGroup))
+    else (if nat_lt most_kept (length (drop after (entry.history origin))) then TooOld
+    else (if list_any (λ (r : Record Op). is_prune r.action) (drop after (entry.history origin)) then NoDelta else AsGroup))

@@ -8,8 +8,9 @@ use Rattle.rd_history.specs.Vector.{VersionVector, IdentitySet, alone, first_lac
 use Rattle.rd_history.specs.History.{History, at, versions, is_pruned}
 use Rattle.rd_history.proofs.HistoryLaws.{with_at_other}
 use Rattle.rd_history.proofs.CutLaws.{with_at_is}
-use Rattle.rd_model.specs.Entry.{Entry, Group, judged, judged_by, needs}
+use Rattle.rd_model.specs.Entry.{Entry, Group, judged, needs}
 use Rattle.rd_model.specs.Entry.Judgement.{Wanted, Stale, Missing}
+use Rattle.rd_model.proofs.Cases.{judged_by}
 use Rattle.rd_vectors.specs.Vectors.{number_at}
 use Rattle.rd_vectors.specs.IdSets.{members_in}
 use Rattle.rd_vectors.proofs.Sets.{members_in-zero}

@@ -3,7 +3,7 @@ use Rattle.std.specs.Prelude.{ℕ, ◌<◌, ◌≤◌, Bool, ◌&&◌, ◌||◌,
 use Rattle.rd_history.specs.Table.{identity_limit, with_at}
 use Rattle.rd_history.specs.Vector.{VersionVector, alone}
 use Rattle.rd_history.specs.History.{at, is_pruned}
-use Rattle.rd_model.specs.Entry.{Entry, Mark, mark_at, is_same_mark}
+use Rattle.rd_model.specs.Entry.{Entry, Mark, is_same_mark}
 use Rattle.rd_model.specs.Entry.{Judgement as Meant}
 use Rattle.rd_model.specs.Entry.Judgement.{Wanted, Stale, Missing}
 use Rattle.rd_envelope.specs.declared.envelope.Envelope.{Envelope}
@@ -24,7 +24,7 @@ module _ {T Kind Op Delta : Type 0} where
 
 -- as many records of an identity, and the same mark
 abbrev pub is_unchanged_at : {Op : Type 0} → Entry Op → Entry Op → ℕ → Bool
-is_unchanged_at old new i = (at old.history i == at new.history i) && is_same_mark (mark_at old.marks i) (mark_at new.marks i)
+is_unchanged_at old new i = (at old.history i == at new.history i) && is_same_mark (old.marks i) (new.marks i)
 
 -- the judgement, as the model says it
 abbrev pub judgement_of : Judgement → Meant
@@ -45,7 +45,7 @@ init_by (Some mark) view = if nat_lt mark.view view then Marked else (if nat_lt 
 module _ {Op : Type 0} where
   -- what becomes of the first step of a prune in a view
   abbrev pub init_at : Entry Op → ℕ → ℕ → Init
-  init_at entry r view = if (at entry.history r == 0) || is_pruned entry.history r then NothingKnown else init_by (mark_at entry.marks r) view
+  init_at entry r view = if (at entry.history r == 0) || is_pruned entry.history r then NothingKnown else init_by (entry.marks r) view
 
   -- the entry with the first mark of a view, which its owner alone has seen
   abbrev pub with_mark : Entry Op → ℕ → ℕ → ℕ → Entry Op

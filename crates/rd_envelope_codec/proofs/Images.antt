@@ -5,7 +5,7 @@ use Rattle.rd_history.specs.Vector.{VersionVector, IdentitySet}
 use Rattle.rd_history.specs.History.{History, Stamped, cut, versions, is_pruned, prune_of}
 use Rattle.rd_history.specs.Cuts.{IsPrunedCut, without}
 use Rattle.rd_history.proofs.Bridge.{cut_of_part}
-use Rattle.rd_model.specs.Entry.{Entry, mark_at}
+use Rattle.rd_model.specs.Entry.{Entry}
 use Rattle.rd_vectors.specs.Vectors.{number_at}
 use Rattle.rd_vectors.specs.Spelling.{numbers_spelled}
 use Rattle.rd_markers.specs.declared.marker.Marker.{Marker}
@@ -27,11 +27,11 @@ begun_piece r (Some (Performed owner at upto)) h = absurd (cc h)
 module _ {State Kind Op : Type 0} (D : State → History Op → VersionVector → IdentitySet → Type 0) (kind_of : State → Kind) (byte_of : Kind → ℕ) (spelled : State → List ℕ) (history_spelled : Kind → History Op → List ℕ)
     (means : (state : State) (log : History Op) (held : VersionVector) (gone : IdentitySet) → IsPrunedCut log held gone → D state log held gone → spelled state ≡ history_spelled (kind_of state) (cut log held))
     (parts : Parts State) (log : History Op) (entry : Entry Op) (stands : StandsFor D parts log entry) where
-  piece_is : (r : ℕ) (o : Option (Stamped Op)) → prune_of entry.history r ≡ o → piece_of parts.marks r ≡ mark_piece o r (mark_at entry.marks r)
+  piece_is : (r : ℕ) (o : Option (Stamped Op)) → prune_of entry.history r ≡ o → piece_of parts.marks r ≡ mark_piece o r (entry.marks r)
   piece_is r (Some x) e = ap (option_map (mark_spelled r)) (mark_of_prune D parts log entry stands r x e)
   piece_is r None e = go (mark_of parts.marks r) refl (none_performed D parts log entry stands r e)
     where
-      go : (o : Option Marker) → mark_of parts.marks r ≡ o → is_performed (mark_of parts.marks r) ≡ false → piece_of parts.marks r ≡ mark_piece {Op = Op} None r (mark_at entry.marks r)
+      go : (o : Option Marker) → mark_of parts.marks r ≡ o → is_performed (mark_of parts.marks r) ≡ false → piece_of parts.marks r ≡ mark_piece {Op = Op} None r (entry.marks r)
       go None is f = ap (option_map (mark_spelled r)) is ∙ sym (ap (mark_piece {Op = Op} None r) (stands.marks r ∙ ap begun is))
       go (Some (Initialized view owner seen)) is f = ap (option_map (mark_spelled r)) is ∙ sym (ap (mark_piece {Op = Op} None r) (stands.marks r ∙ ap begun is))
       go (Some (Performed owner at upto)) is f = absurd (let no : true ≡ false = sym (ap is_performed is) ∙ f in cc no)

@@ -2,7 +2,7 @@
 use Rattle.std.specs.Prelude.{ℕ, List, ◌∷◌, ◌++◌, Option, None, Some}
 use Rattle.rd_history.specs.History.{History, Stamped, versions, is_pruned, prune_of}
 use Rattle.rd_history.specs.Cuts.{without}
-use Rattle.rd_model.specs.Entry.{Entry, Mark, mark_at}
+use Rattle.rd_model.specs.Entry.{Entry, Mark}
 use Rattle.rd_vectors.specs.Spelling.{numbers_spelled}
 use Rattle.rd_markers.specs.Spelling.{begun_tail, performed_tail, pieces_spelled}
 use Rattle.sha1.specs.Sha1.{sha1}
@@ -15,7 +15,7 @@ module _ {Op : Type 0} where
   mark_piece (Some prune) removed mark = Some (removed ∷ performed_tail prune.origin prune.number (prune.past removed))
 
   abbrev pub entry_piece : Entry Op → ℕ → Option (List ℕ)
-  entry_piece entry removed = mark_piece (prune_of entry.history removed) removed (mark_at entry.marks removed)
+  entry_piece entry removed = mark_piece (prune_of entry.history removed) removed (entry.marks removed)
 
 module _ {Kind Op : Type 0} (byte_of : Kind → ℕ) (history_spelled : Kind → History Op → List ℕ) where
   -- format 1, the kind, the marks, the numbers of records, and the data, nothing of pruned identities in these

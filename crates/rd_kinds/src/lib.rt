@@ -3,11 +3,13 @@
 #![tactic(auto)]
 
 mod kind;
+mod laws;
 mod moment;
 mod operation;
 mod shown;
 
 pub use kind::Kind;
+pub use laws::prunes_show_nothing_new;
 pub use moment::Moment;
 pub use operation::Op;
 pub use shown::{Shown, Texts};

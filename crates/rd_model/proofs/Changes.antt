@@ -10,8 +10,9 @@ use Rattle.rd_model.specs.Entry.{Entry, with_action}
 use Rattle.rd_model.specs.DataType.{Replication}
 use Rattle.rd_model.specs.Node.{KeyDecl, KeyState, Node, Input, Fate, Level, key_state, state_of, with_entry, one_step_later, needed}
 use Rattle.rd_model.specs.Node.Reply.{Done, WrongKind, NotStored}
-use Rattle.rd_model.specs.Step.{step, updated, updated_needing, updated_unless, got, got_needing, answered, has_failed, member_count}
+use Rattle.rd_model.specs.Step.{step, answered, has_failed, member_count}
 use Rattle.rd_model.proofs.Steps.{bytes_eq-tells}
+use Rattle.rd_model.proofs.Cases.{updated, updated_needing, updated_unless, got, got_needing}
 
 -- a counted step that changes at most one key's entry
 pub record ChangesOnly {Kind Op Shown : Type 0} (node : Node Kind Op Shown) (key : Text) (next : Node Kind Op Shown) : Type 0 where

@@ -1,4 +1,9 @@
+pub mod Cases
 pub mod GroupLaws
 pub mod Steps
 pub mod Taking
 pub mod Changes
+pub mod Judgements
+pub mod Unchanged
+pub mod Levels
+pub mod FailedStores

@@ -12,7 +12,8 @@ use Rattle.rd_model.specs.DataType.{Replication}
 use Rattle.rd_model.specs.Node.{KeyDecl, KeyState, Node, Input, Fate, Level, HasKey, key_state, state_of, with_entry, with_text_at, one_step_later, needed}
 use Rattle.rd_model.specs.Node.Reply.{Done, UnknownKey, WrongKind, Refused, NotStored}
 use Rattle.rd_model.specs.Node.{Stepped}
-use Rattle.rd_model.specs.Step.{step, updated, updated_needing, updated_unless, got, got_needing, shown_of, value_reply, answered, has_failed, member_count}
+use Rattle.rd_model.specs.Step.{step, shown_of, value_reply, answered, has_failed, member_count}
+use Rattle.rd_model.proofs.Cases.{updated, updated_needing, updated_unless, got, got_needing}
 
 pub bytes_eq-same : (xs : Text) → bytes_eq xs xs ≡ true
 bytes_eq-same xs = (slice_eq-Decides Decides-eqb xs xs _ refl).1 refl

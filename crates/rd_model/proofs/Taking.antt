@@ -1,6 +1,6 @@
 -- What a message of whole entries does to a member.
 use Rattle.std.proofs.Common.{◌≡◌, ℕ, List, [], ◌∷◌, length, refl, sym, ap, ◌∙◌, subst, arith, Bool, true, false, not, ◌&&◌, ◌||◌, Option, Some, None}
-use Rattle.std.specs.Prelude.{if◌then◌else◌, option_map, find, fold, map, filter, nat_lt, nat_eq, ◌==◌}
+use Rattle.std.specs.Prelude.{if◌then◌else◌, option_map, find, fold, map, filter, nat_lt, ◌==◌}
 use Rattle.std.specs.List.{list_any, list_all}
 use Rattle.std.specs.Str.{bytes_eq}
 use Rattle.std.proofs.lemmas.Bool.{eq-eqb}
@@ -13,17 +13,18 @@ use Rattle.rd_model.specs.DataType.{Replication}
 use Rattle.rd_model.specs.Message.{Keyed, Message}
 use Rattle.rd_model.specs.Node.{KeyDecl, KeyState, Node, Input, Fate, HasKey, state_of, key_state, with_entry, one_step_later}
 use Rattle.rd_model.specs.Node.Reply.{NotFromMember, Taken, Already}
-use Rattle.rd_model.specs.Step.{step, is_strange_entry, with_taken_entry, take_entry, after_entries, is_changed, answered, taken}
+use Rattle.rd_model.specs.Step.{step, is_entry_passed_over, take_entry, after_entries, is_changed, answered, step_of_take}
 use Rattle.rd_history.proofs.PruneLaws.{found}
-use Rattle.std.proofs.lemmas.Bool.Decides.{Decides-eqb, nat_tests}
+use Rattle.std.proofs.lemmas.Bool.Decides.{nat_tests}
 use Rattle.rd_model.proofs.Steps.{IsQuiet, bytes_eq-same, bytes_eq-tells, with_text_at-same}
+use Rattle.rd_model.proofs.Cases.{with_taken_entry}
 
 -- THE ENTRY OF A KEY
 
 -- a key's entry after a message's entry: one of another key, or a strange one, changes nothing
 abbrev pub taken_entry : {Op : Type 0} → ℕ → ℕ → Text → Entry Op → Keyed (Entry Op) → Entry Op
 taken_entry i view key mine e =
-    if bytes_eq key e.key then (if is_strange_entry i mine e.item then mine else seen_by i view (merged mine e.item)) else mine
+    if bytes_eq key e.key then (if is_entry_passed_over i mine e.item then mine else seen_by i view (merged mine e.item)) else mine
 
 abbrev names : {Kind : Type 0} → Text → KeyDecl Kind → Bool
 names key decl = bytes_eq decl.name key
@@ -40,7 +41,7 @@ module _ {Kind Op Shown : Type 0} where
 
       by_state : (o : Option (KeyState Kind Op)) → with_taken_entry node o e.item ≡ record node { entries = (with_taken_entry node o e.item).entries }
       by_state None = refl
-      by_state (Some k) = by_test k (is_strange_entry node.identity k.entry e.item)
+      by_state (Some k) = by_test k (is_entry_passed_over node.identity k.entry e.item)
 
   pub after_entries-only : (es : List (Keyed (Entry Op))) (node : Node Kind Op Shown) → after_entries node es ≡ record node { entries = (after_entries node es).entries }
   after_entries-only [] node = refl
@@ -54,8 +55,8 @@ module _ {Kind Op Shown : Type 0} where
       → (take_entry node (record { key = name; item = item })).entries name ≡ taken_entry node.identity node.view.number name (node.entries name) (record { key = name; item = item })
   here node name kind has item =
       ap (λ o. (with_taken_entry node (option_map (state_of node) o) item).entries name) has.1
-      ∙ by_test (is_strange_entry node.identity (node.entries name) item)
-      ∙ sym (ap (λ b. if b then (if is_strange_entry node.identity (node.entries name) item then node.entries name else seen) else node.entries name) (bytes_eq-same name))
+      ∙ by_test (is_entry_passed_over node.identity (node.entries name) item)
+      ∙ sym (ap (λ b. if b then (if is_entry_passed_over node.identity (node.entries name) item then node.entries name else seen) else node.entries name) (bytes_eq-same name))
     where
       seen : Entry Op
       seen = seen_by node.identity node.view.number (merged (node.entries name) item)
@@ -78,7 +79,7 @@ module _ {Kind Op Shown : Type 0} where
       by_search None is = refl
       by_search (Some decl) is =
           let same : decl.name ≡ e.key = bytes_eq-tells decl.name e.key (found (names e.key) node.keys decl is) in
-          by_test decl (is_strange_entry node.identity (node.entries decl.name) e.item) (ap (bytes_eq name) same ∙ other)
+          by_test decl (is_entry_passed_over node.identity (node.entries decl.name) e.item) (ap (bytes_eq name) same ∙ other)
 
   pub take_entry-at : (node : Node Kind Op Shown) (name : Text) (kind : Kind) → HasKey node name kind → (e : Keyed (Entry Op))
       → (take_entry node e).entries name ≡ taken_entry node.identity node.view.number name (node.entries name) e
@@ -90,7 +91,7 @@ module _ {Kind Op Shown : Type 0} where
           (bytes_eq-tells name e.key is) (here node name kind has e.item)
       by_test false is =
           elsewhere node name e is
-          ∙ sym (ap (λ b. if b then (if is_strange_entry node.identity (node.entries name) e.item then node.entries name else seen_by node.identity node.view.number (merged (node.entries name) e.item)) else node.entries name) is)
+          ∙ sym (ap (λ b. if b then (if is_entry_passed_over node.identity (node.entries name) e.item then node.entries name else seen_by node.identity node.view.number (merged (node.entries name) e.item)) else node.entries name) is)
 
   still_has : (node : Node Kind Op Shown) (name : Text) (kind : Kind) → HasKey node name kind → (e : Keyed (Entry Op)) → HasKey (take_entry node e) name kind
   still_has node name kind has e = (has.0, ap (λ (n : Node Kind Op Shown). find (names name) n.keys) (take_entry-only node e) ∙ has.1)
@@ -143,18 +144,18 @@ is_changed-any {Kind} {Op} old new = some_left (λ (k : KeyState Kind Op). not (
 module _ {Kind Op Shown : Type 0} (D : Replication Kind Op Shown) (node : Node Kind Op Shown) (from : ℕ) where
   -- a message from no member
   pub step-take-stranger : (message : Message Op) (fate : Fate) → is_member node.view from ≡ false → step D node (Input.Take from message) fate ≡ answered (one_step_later node) NotFromMember
-  step-take-stranger message fate no_member = ap (λ b. if b then taken D (one_step_later node) from fate message else answered (one_step_later node) NotFromMember) no_member
+  step-take-stranger message fate no_member = ap (λ b. if b then step_of_take D (one_step_later node) from fate message else answered (one_step_later node) NotFromMember) no_member
 
   -- whole entries from a member
   pub step-take-entries : (entries : List (Keyed (Entry Op))) → is_member node.view from ≡ true
       → step D node (Input.Take from (Message.Deltas [] entries)) Fate.NoStore
       ≡ answered (after_entries (one_step_later node) entries) (if not (is_changed (one_step_later node) (after_entries (one_step_later node) entries)) then Already else Taken)
-  step-take-entries entries member = ap (λ b. if b then taken D (one_step_later node) from Fate.NoStore (Message.Deltas [] entries) else answered (one_step_later node) NotFromMember) member
+  step-take-entries entries member = ap (λ b. if b then step_of_take D (one_step_later node) from Fate.NoStore (Message.Deltas [] entries) else answered (one_step_later node) NotFromMember) member
 
   -- taking whole entries sends nothing
   pub step-take-quiet : (entries : List (Keyed (Entry Op))) (fate : Fate) → IsQuiet (step D node (Input.Take from (Message.Deltas [] entries)) fate)
   step-take-quiet entries fate = go (is_member node.view from)
     where
-      go : (b : Bool) → IsQuiet (if b then taken D (one_step_later node) from fate (Message.Deltas [] entries) else answered (one_step_later node) NotFromMember)
+      go : (b : Bool) → IsQuiet (if b then step_of_take D (one_step_later node) from fate (Message.Deltas [] entries) else answered (one_step_later node) NotFromMember)
       go true = record { posts = refl; ended = refl }
       go false = record { posts = refl; ended = refl }

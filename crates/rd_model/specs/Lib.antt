@@ -2,6 +2,7 @@ pub mod View
 pub mod Entry
 pub mod DataType
 pub mod Message
+pub mod Relations
 pub mod Node
 pub mod Step
 pub mod World

@@ -1,12 +1,12 @@
 -- The text of a report. `value_text` writes a shown value.
-use Rattle.std.specs.Prelude.{ℕ, suc, Bool, List, [], ◌∷◌, ◌++◌, length, map, filter, filter_map, not, ◌==◌, if◌then◌else◌, Option, None, Some, codes, decimal, flat_map, option_map, unwrap_or}
+use Rattle.std.specs.Prelude.{ℕ, suc, List, [], ◌∷◌, ◌++◌, length, map, filter, filter_map, not, ◌==◌, if◌then◌else◌, Option, None, Some, codes, decimal, flat_map, option_map, unwrap_or}
 use Rattle.std.specs.List.{join_with_byte}
 use Rattle.rd_history.specs.Table.{identities}
 use Rattle.rd_history.specs.Texts.{Text}
 use Rattle.rd_history.specs.Vector.{VersionVector, members_of}
 use Rattle.rd_model.specs.View.{Member}
 use Rattle.rd_history.specs.History.{Stamped, versions, prune_of}
-use Rattle.rd_model.specs.Entry.{Entry, Mark, Outcome, mark_at, has_records}
+use Rattle.rd_model.specs.Entry.{Entry, Mark, Outcome, has_records}
 use Rattle.rd_model.specs.Entry.Outcome.{Marked, Performed, WaitingFor, Blocked, Newer}
 use Rattle.rd_meanings.specs.Refusal.{Refusal}
 use Rattle.rd_model.specs.DataType.{Replication}
@@ -16,8 +16,8 @@ use Rattle.rd_model.specs.Message.Message.{Deltas, Nack, Status, Gossip, Write, 
 use Rattle.rd_model.specs.Node.{KeyDecl, KeyState, Node, key_states, Result, Finished, KeyOutcome, Reply}
 use Rattle.rd_model.specs.Node.Result.{Wrote, ReadValue, ReadNothing}
 use Rattle.rd_model.specs.Node.Reply.{Done, Pending, Value, NotFound, UnknownKey, WrongKind, TooFew, Refused, NotStored, Taken, Already, Gap, NotFromMember, Installed, OldView, NotAPeer, Ticked, TickedNotStored, NotLeader, TimedOut, NoSuchOp}
-use Rattle.rd_model.specs.World.{World, start, view_of, node_of}
-use Rattle.rd_model.specs.Script.{Told, Head, Answer, ScriptStep, Playing, played_all, lines_of}
+use Rattle.rd_model.specs.World.{World}
+use Rattle.rd_model.specs.Script.{Told, Head, Answer, ScriptStep, KeeperAnswers, opening, played_all, lines_of}
 use Rattle.rd_model.specs.Script.Head.{UpdateHead, GetHead, FlushHead, TickHead, GossipHead, DeliverHead, RoundHead, LoseHead, TimeoutHead, RemoveHead, JoinHead, RestartHead, InstallHead, SettleHead}
 use Rattle.rd_model.specs.Script.Answer.{Replied, Gone, HistoryFull, NoSuchView, NoSuchMessage, Lost, Nothing, LastMember, PlaceTaken, TooManyIdentities, ClearFailed, LoadFailed, Stopped, NewView, NewIdentity, Settled}
 
@@ -159,7 +159,7 @@ module _ {Op : Type 0} where
   mark_text (Some prune) r mark = Some (decimal r ++ codes ">" ++ decimal prune.origin ++ codes "@" ++ decimal prune.number)
 
   abbrev pub marks_text : Entry Op → Text
-  marks_text entry = words_or_dash (filter_map (λ r. mark_text (prune_of entry.history r) r (mark_at entry.marks r)) identities)
+  marks_text entry = words_or_dash (filter_map (λ r. mark_text (prune_of entry.history r) r (entry.marks r)) identities)
 
 module _ {Kind Op Shown : Type 0} (D : Replication Kind Op Shown) (value_text : Shown → Text) where
   abbrev pub told_text : ℕ → Told Op Shown → Text
@@ -180,17 +180,13 @@ module _ {Kind Op Shown : Type 0} (D : Replication Kind Op Shown) (value_text : 
       ++ flat_map key_text (key_states node)
 
   abbrev pub member_text : World Kind Op Shown → Member → Text
-  member_text world member = unwrap_or (option_map (node_text member.place) (node_of world member.identity)) []
+  member_text world member = unwrap_or (option_map (node_text member.place) (world.nodes member.identity)) []
 
   abbrev pub final_block : World Kind Op Shown → Text
-  final_block world = line_of (codes "final view " ++ decimal (view_of world).number) ++ flat_map (member_text world) (view_of world).members
-
-  -- a script before its first step: members 0 and up, and what the keepers of the places are going to answer
-  abbrev pub opening : (ℕ → List Bool) → ℕ → List (KeyDecl Kind) → Playing Kind Op Shown
-  opening keepers members keys = record { world = start members keys; keepers = keepers; events = []; lines = [] }
+  final_block world = line_of (codes "final view " ++ decimal world.view.number) ++ flat_map (member_text world) world.view.members
 
   -- the text of a script's run: the lines of its steps, and the values at the end
-  abbrev pub report : (ℕ → List Bool) → ℕ → List (KeyDecl Kind) → List (ScriptStep Op) → Text
-  report keepers members keys steps =
-      let first = opening keepers members keys in
+  abbrev pub report : KeeperAnswers → ℕ → List (KeyDecl Kind) → List (ScriptStep Op) → Text
+  report answers members keys steps =
+      let first = opening answers members keys in
       steps_text 1 (lines_of D first steps) ++ final_block (played_all D first steps).world

@@ -1,5 +1,5 @@
 -- The steps of a script, and the run and the answers that they make.
-use Rattle.std.specs.Prelude.{◌≡◌, ◌<◌, ℕ, ◌+◌, ◌-◌, List, [], ◌∷◌, ◌++◌, length, filter, fold, sum_by, Bool, true, false, not, nat_lt, ◌==◌, if◌then◌else◌, Option, None, Some, is_some, option_map, unwrap_or, slice_get, flat_map}
+use Rattle.std.specs.Prelude.{◌<◌, ℕ, suc, ◌+◌, ◌-◌, List, [], ◌∷◌, ◌++◌, length, map, filter, fold, sum_by, Bool, true, false, not, nat_lt, ◌==◌, if◌then◌else◌, Option, None, Some, is_some, option_map, unwrap_or, slice_get, flat_map}
 use Rattle.std.specs.List.{list_any, range_with_len}
 use Rattle.rd_history.specs.Table.{identity_limit, with_at}
 use Rattle.rd_history.specs.Texts.{Text}
@@ -7,10 +7,10 @@ use Rattle.rd_model.specs.View.{View, identities_of, is_member, is_taken, place_
 use Rattle.rd_model.specs.Entry.{Outcome}
 use Rattle.rd_model.specs.DataType.{Replication}
 use Rattle.rd_model.specs.Message.{Message, Post}
-use Rattle.rd_model.specs.Node.{Node, Level, Input, Fate, KeyOutcome, Reply, Finished, Stepped}
+use Rattle.rd_model.specs.Node.{KeyDecl, Node, Level, Input, Fate, KeyOutcome, Output, Reply, Finished}
 use Rattle.rd_model.specs.Node.Fate.{NoStore, Stored, StoreFailed}
-use Rattle.rd_model.specs.Step.{step, is_full}
-use Rattle.rd_model.specs.World.{World, Event, Link, view_of, views_of, stores, node_of, link_of, message_at, happens, run, AreLawful}
+use Rattle.rd_model.specs.Step.{is_full}
+use Rattle.rd_model.specs.World.{World, Event, Link, Turn, start, views_of, stores, message_at, turn_of, output_of, happens}
 use Rattle.rd_model.specs.World.Event.{InputAt, Delivery, Loss, Removal, Joining}
 
 pub data ScriptStep (Op : Type 0) : Type 0 where
@@ -65,16 +65,25 @@ pub record Told (Op Shown : Type 0) : Type 0 where
   pub posts : List (Post Op)
   pub ended : Option (Finished Shown)
 
--- a script at work: the world, the answers that the keepers have still to give by place (true is Ok), the events so far, and the lines of the current step
+-- for each place what the calls of its keeper answer, by the call's number: true is Ok. Call 0 is the clear at the start
+abbrev pub KeeperAnswers : Type 0
+KeeperAnswers = ℕ → ℕ → Bool
+
+-- no call fails
+abbrev pub none_fails : KeeperAnswers
+none_fails place call = true
+
+-- what the calls of a place answer, from one number on and up to another
+abbrev pub answers_between : KeeperAnswers → ℕ → ℕ → ℕ → List Bool
+answers_between answers place from until = map (answers place) (range_with_len from (until - from))
+
+-- a script at work: the world, what the keepers answer, how many calls each has answered, the events so far, and the lines of the current step
 pub record Playing (Kind Op Shown : Type 0) : Type 0 where
   pub world : World Kind Op Shown
-  pub keepers : ℕ → List Bool
+  pub answers : KeeperAnswers
+  pub calls : ℕ → ℕ
   pub events : List (Event Op)
   pub lines : List (Told Op Shown)
-
-abbrev pub tail : List Bool → List Bool
-tail [] = []
-tail (x ∷ xs) = xs
 
 abbrev pub is_full_answer : {Shown : Type 0} → Answer Shown → Bool
 is_full_answer HistoryFull = true
@@ -96,18 +105,22 @@ last_of (t ∷ []) = Some t
 last_of (t ∷ u ∷ ts) = last_of (u ∷ ts)
 
 module _ {Kind Op Shown : Type 0} where
+  -- a script before its first step: members 0 and up. Each keeper has answered its first call, the clear at the start
+  abbrev pub opening : KeeperAnswers → ℕ → List (KeyDecl Kind) → Playing Kind Op Shown
+  opening answers members keys = record { world = start members keys; answers = answers; calls = λ place. 1; events = []; lines = [] }
+
   abbrev pub told : Playing Kind Op Shown → Head Op → Answer Shown → Playing Kind Op Shown
   told p head answer = record p { lines = p.lines ++ record { head = head; answer = answer; posts = []; ended = None } ∷ [] }
 
-  -- the next answer of a place's keeper. One that isn't given is Ok
-  abbrev pub keeper_answer : Playing Kind Op Shown → ℕ → Bool
-  keeper_answer p place = unwrap_or (slice_get (p.keepers place) 0) true
+  -- the answer of a place's keeper to its next call
+  abbrev pub next_answer : Playing Kind Op Shown → ℕ → Bool
+  next_answer p place = p.answers place (p.calls place)
 
-  abbrev pub keeper_called : Playing Kind Op Shown → ℕ → ℕ → List Bool
-  keeper_called p place = with_at p.keepers place (tail (p.keepers place))
+  abbrev pub with_call : Playing Kind Op Shown → ℕ → Playing Kind Op Shown
+  with_call p place = record p { calls = with_at p.calls place (suc (p.calls place)) }
 
   abbrev pub last_number : Playing Kind Op Shown → ℕ → ℕ → ℕ
-  last_number p from to = length (link_of p.world.links from to).messages - 1
+  last_number p from to = length (p.world.links from to).messages - 1
 
   abbrev pub has_met_full : Playing Kind Op Shown → Bool
   has_met_full p = list_any (λ (t : Told Op Shown). is_full_answer t.answer) p.lines
@@ -130,45 +143,41 @@ due_on from to link =
     if nat_lt link.next (length link.messages) then record { from = from; to = to; first = link.next; count = length link.messages - link.next } ∷ [] else []
 
 module _ {Kind Op Shown : Type 0} (D : Replication Kind Op Shown) where
-  -- an event and its line
-  abbrev pub did : Playing Kind Op Shown → Event Op → Head Op → Answer Shown → List (Post Op) → Option (Finished Shown) → Playing Kind Op Shown
-  did p event head answer posts ended =
-      record p {
-        world = happens D p.world event;
-        events = p.events ++ event ∷ [];
-        lines = p.lines ++ record { head = head; answer = answer; posts = posts; ended = ended } ∷ [];
-      }
+  -- an event, and what it told
+  abbrev pub did : Playing Kind Op Shown → Event Op → List (Told Op Shown) → Playing Kind Op Shown
+  did p event lines = record p { world = happens D p.world event; events = p.events ++ event ∷ []; lines = p.lines ++ lines }
 
-  abbrev pub fate_of : Bool → Fate
-  fate_of ok = if ok then Stored else StoreFailed
+  -- an event of no member's, and its line
+  abbrev pub did_plainly : Playing Kind Op Shown → Event Op → Head Op → Answer Shown → Playing Kind Op Shown
+  did_plainly p event head answer = did p event (record { head = head; answer = answer; posts = []; ended = None } ∷ [])
 
-  -- an input given to a running member. The store is called where an entry of a durable key changed
-  abbrev pub given_fate : Playing Kind Op Shown → Head Op → (Fate → Event Op) → ℕ → Stepped Kind Op Shown → Fate → Playing Kind Op Shown
-  given_fate p head event i stepped fate = did p (event fate) head (Replied stepped.output.reply) stepped.output.posts stepped.output.ended
+  -- the line of what an event puts out
+  abbrev pub output_lines : Head Op → Option (Output Op Shown) → List (Told Op Shown)
+  output_lines head None = []
+  output_lines head (Some output) = record { head = head; answer = Replied output.reply; posts = output.posts; ended = output.ended } ∷ []
 
-  abbrev pub given_room : Playing Kind Op Shown → Head Op → (Fate → Event Op) → ℕ → Input Op → Node Kind Op Shown → Playing Kind Op Shown
-  given_room p head event i input node =
-      let place = place_of (view_of p.world) i in
-      let stored = nat_lt 0 (length (stores D node input)) in
-      let fate = if stored then fate_of (keeper_answer p place) else NoStore in
-      let called = if stored then record p { keepers = keeper_called p place } else p in
-      given_fate called head event i (step D node input fate) fate
+  -- a member takes an input. Its keeper is called where an entry of a durable key changes
+  abbrev pub take_turn : Playing Kind Op Shown → Head Op → (Fate → Event Op) → Turn Kind Op Shown → Playing Kind Op Shown
+  take_turn p head event turn =
+      let place = place_of p.world.view turn.at in
+      let stored = nat_lt 0 (length (stores D turn.before turn.input)) in
+      let fate = if stored then (if next_answer p place then Stored else StoreFailed) else NoStore in
+      did (if stored then with_call p place else p) (event fate) (output_lines head (output_of D p.world (event fate)))
 
-  abbrev pub given_to : Playing Kind Op Shown → Head Op → (Fate → Event Op) → ℕ → Input Op → Option (Node Kind Op Shown) → Playing Kind Op Shown
-  given_to p head event i input None = told p head Gone
-  given_to p head event i input (Some node) = if is_full node then told p head HistoryFull else given_room p head event i input node
-
-  abbrev pub given : Playing Kind Op Shown → Head Op → ℕ → Input Op → Playing Kind Op Shown
-  given p head i input = given_to p head (InputAt i input) i input (node_of p.world i)
-
-  abbrev pub deliver_message : Playing Kind Op Shown → ℕ → ℕ → ℕ → Option (Message Op) → Playing Kind Op Shown
-  deliver_message p from to index None = told p (DeliverHead from to index None) NoSuchMessage
-  deliver_message p from to index (Some message) =
-      given_to p (DeliverHead from to index (Some message)) (Delivery from to index) to (Input.Take from message) (node_of p.world to)
+  -- an input is given to a member, unless it doesn't run or is full
+  abbrev pub given : Playing Kind Op Shown → Head Op → (Fate → Event Op) → Playing Kind Op Shown
+  given p head event = elim (turn_of p.world (event NoStore)) [
+    | None ↦ told p head Gone
+    | Some turn ↦ if is_full turn.before then told p head HistoryFull else take_turn p head event turn
+  ]
 
   abbrev pub deliver : Playing Kind Op Shown → ℕ → ℕ → ℕ → Playing Kind Op Shown
   deliver p from to index =
-      if is_some (node_of p.world to) then deliver_message p from to index (message_at p.world from to index)
+      if is_some (p.world.nodes to)
+      then elim (message_at p.world from to index) [
+        | None ↦ told p (DeliverHead from to index None) NoSuchMessage
+        | Some message ↦ given p (DeliverHead from to index (Some message)) (Delivery from to index)
+      ]
       else told p (DeliverHead from to index None) Gone
 
   -- the messages due on a link, one after another
@@ -176,7 +185,7 @@ module _ {Kind Op Shown : Type 0} (D : Replication Kind Op Shown) where
   deliver_due p due = fold (λ q index. deliver q due.from due.to index) p (range_with_len due.first due.count)
 
   abbrev pub due_now : Playing Kind Op Shown → List Due
-  due_now p = flat_map (λ from. flat_map (λ to. due_on from to (p.world.links from to)) (identities_of (view_of p.world))) (range_with_len 0 (view_of p.world).given)
+  due_now p = flat_map (λ from. flat_map (λ to. due_on from to (p.world.links from to)) (identities_of p.world.view)) (range_with_len 0 p.world.view.given)
 
   abbrev pub round_of : Playing Kind Op Shown → List Due → Playing Kind Op Shown
   round_of p [] = told p RoundHead Nothing
@@ -184,41 +193,42 @@ module _ {Kind Op Shown : Type 0} (D : Replication Kind Op Shown) where
 
   abbrev pub lose : Playing Kind Op Shown → ℕ → ℕ → Playing Kind Op Shown
   lose p from to =
-      let link = link_of p.world.links from to in
-      if nat_lt link.next (length link.messages) then did p (Loss from to) (LoseHead from to link.next) Lost [] None
+      let link = p.world.links from to in
+      if nat_lt link.next (length link.messages) then did_plainly p (Loss from to) (LoseHead from to link.next) Lost
       else told p (LoseHead from to link.next) NoSuchMessage
 
   abbrev pub remove : Playing Kind Op Shown → ℕ → Playing Kind Op Shown
   remove p i =
-      let view = view_of p.world in
+      let view = p.world.view in
       if not (is_member view i) then told p (RemoveHead i) Gone
-      else (if nat_lt 1 (length view.members) then did p (Removal i) (RemoveHead i) (NewView (view.number + 1)) [] None else told p (RemoveHead i) LastMember)
+      else (if nat_lt 1 (length view.members) then did_plainly p (Removal i) (RemoveHead i) (NewView (view.number + 1)) else told p (RemoveHead i) LastMember)
 
   -- a keeper is called before an event
   abbrev pub called : Playing Kind Op Shown → ℕ → Event Op → Head Op → Answer Shown → Answer Shown → Playing Kind Op Shown
   called p place event head answer failed =
-      let after = record p { keepers = keeper_called p place } in
-      if keeper_answer p place then did after event head answer [] None else told after head failed
+      let after = with_call p place in
+      if next_answer p place then did_plainly after event head answer else told after head failed
 
   abbrev pub join : Playing Kind Op Shown → ℕ → Playing Kind Op Shown
   join p place =
-      let view = view_of p.world in
+      let view = p.world.view in
       if is_taken view place then told p (JoinHead place) PlaceTaken
       else (if nat_lt view.given identity_limit then called p place (Joining place) (JoinHead place) (NewIdentity view.given (view.number + 1)) ClearFailed else told p (JoinHead place) TooManyIdentities)
 
   abbrev pub restart : Playing Kind Op Shown → ℕ → Playing Kind Op Shown
   restart p i =
-      let view = view_of p.world in
+      let view = p.world.view in
       if not (is_member view i) then told p (RestartHead i) Gone
       else (if nat_lt view.given identity_limit then called p (place_of view i) (Event.Restart i) (RestartHead i) (NewIdentity view.given (view.number + 1)) LoadFailed else told p (RestartHead i) TooManyIdentities)
 
-  abbrev pub install_view : Playing Kind Op Shown → ℕ → ℕ → Option View → Playing Kind Op Shown
-  install_view p i number None = told p (InstallHead i number) NoSuchView
-  install_view p i number (Some view) = given p (InstallHead i number) i (Input.Install view)
-
   abbrev pub install : Playing Kind Op Shown → ℕ → ℕ → Playing Kind Op Shown
   install p i number =
-      if is_some (node_of p.world i) then install_view p i number (slice_get (views_of p.world) number) else told p (InstallHead i number) Gone
+      if is_some (p.world.nodes i)
+      then elim (slice_get (views_of p.world) number) [
+        | None ↦ told p (InstallHead i number) NoSuchView
+        | Some view ↦ given p (InstallHead i number) (InputAt i (Input.Install view))
+      ]
+      else told p (InstallHead i number) Gone
 
   -- SETTLING
 
@@ -232,18 +242,18 @@ module _ {Kind Op Shown : Type 0} (D : Replication Kind Op Shown) where
   -- a member gossips to the leader, and the messages of this exchange are delivered as they are sent, at most three
   abbrev pub exchange : ℕ → Playing Kind Op Shown → ℕ → Playing Kind Op Shown
   exchange lead p i =
-      let first = unless_full (λ q. given q (GossipHead i lead) i (Input.GossipTo lead)) p in
+      let first = unless_full (λ q. given q (GossipHead i lead) (InputAt i (Input.GossipTo lead))) p in
       let second = deliver_last (posted p) i lead first in
       let third = deliver_last (posted first) lead i second in
       deliver_last (posted second) i lead third
 
   abbrev pub sweep : Playing Kind Op Shown → Playing Kind Op Shown
   sweep p =
-      let view = view_of p.world in
+      let view = p.world.view in
       fold (exchange (leader view)) p (filter (λ i. not (i == leader view)) (identities_of view))
 
   abbrev pub tick : Playing Kind Op Shown → Playing Kind Op Shown
-  tick p = unless_full (λ q. given q (TickHead (leader (view_of q.world))) (leader (view_of q.world)) Input.PruneTick) p
+  tick p = unless_full (λ q. given q (TickHead (leader q.world.view)) (InputAt (leader q.world.view) Input.PruneTick)) p
 
   abbrev pub is_older : View → Option (Node Kind Op Shown) → Bool
   is_older view None = false
@@ -251,15 +261,15 @@ module _ {Kind Op Shown : Type 0} (D : Replication Kind Op Shown) where
 
   abbrev pub install_last : Playing Kind Op Shown → ℕ → Playing Kind Op Shown
   install_last p i =
-      let view = view_of p.world in
-      if is_older view (node_of p.world i) then unless_full (λ q. given q (InstallHead i view.number) i (Input.Install view)) p else p
+      let view = p.world.view in
+      if is_older view (p.world.nodes i) then unless_full (λ q. given q (InstallHead i view.number) (InputAt i (Input.Install view))) p else p
 
   abbrev pub settle_line : Playing Kind Op Shown → ℕ → Answer Shown
   settle_line p blocked = if has_met_full p then Stopped else Settled (posted p) blocked
 
   abbrev pub settle : Playing Kind Op Shown → Playing Kind Op Shown
   settle p =
-      let installed = fold install_last (record p { lines = [] }) (identities_of (view_of p.world)) in
+      let installed = fold install_last (record p { lines = [] }) (identities_of p.world.view) in
       let ticked = tick (sweep (tick (sweep (sweep installed)))) in
       let end = sweep ticked in
       told (record end { lines = p.lines }) SettleHead (settle_line end (last_answer_blocked ticked))
@@ -267,16 +277,16 @@ module _ {Kind Op Shown : Type 0} (D : Replication Kind Op Shown) where
   -- ONE STEP OF A SCRIPT, AND ALL
 
   abbrev pub played : Playing Kind Op Shown → ScriptStep Op → Playing Kind Op Shown
-  played p (Update i key op level) = given p (UpdateHead i key) i (Input.Update key op level)
-  played p (Get i key level) = given p (GetHead i key) i (Input.Get key level)
-  played p (Flush i) = given p (FlushHead i) i Input.Flush
-  played p (Gossip i to) = given p (GossipHead i to) i (Input.GossipTo to)
-  played p (Deliver from to None) = deliver p from to (link_of p.world.links from to).next
+  played p (Update i key op level) = given p (UpdateHead i key) (InputAt i (Input.Update key op level))
+  played p (Get i key level) = given p (GetHead i key) (InputAt i (Input.Get key level))
+  played p (Flush i) = given p (FlushHead i) (InputAt i Input.Flush)
+  played p (Gossip i to) = given p (GossipHead i to) (InputAt i (Input.GossipTo to))
+  played p (Deliver from to None) = deliver p from to (p.world.links from to).next
   played p (Deliver from to (Some index)) = deliver p from to index
   played p (Lose from to) = lose p from to
   played p Round = round_of p (due_now p)
-  played p (Tick i) = given p (TickHead i) i Input.PruneTick
-  played p (Timeout i op) = given p (TimeoutHead i op) i (Input.Timeout op)
+  played p (Tick i) = given p (TickHead i) (InputAt i Input.PruneTick)
+  played p (Timeout i op) = given p (TimeoutHead i op) (InputAt i (Input.Timeout op))
   played p (Remove i) = remove p i
   played p (Join place) = join p place
   played p (Restart i) = restart p i
@@ -292,8 +302,3 @@ module _ {Kind Op Shown : Type 0} (D : Replication Kind Op Shown) where
   abbrev pub lines_of : Playing Kind Op Shown → List (ScriptStep Op) → List (List (Told Op Shown))
   lines_of p [] = []
   lines_of p (s ∷ ss) = let q = played p s in q.lines ∷ lines_of (record q { lines = [] }) ss
-
-  -- these events are a lawful run from one world to another
-  pub record IsRun (first : World Kind Op Shown) (events : List (Event Op)) (last : World Kind Op Shown) : Type 0 where
-    pub leads : last ≡ run D first events
-    pub lawful : AreLawful D first events

@@ -1,18 +1,17 @@
 -- One step of a member: a function of its state, the input and what the store did.
-use Rattle.std.specs.Prelude.{ℕ, ◌+◌, List, [], ◌∷◌, ◌++◌, length, drop, map, filter, fold, Bool, true, false, ◌&&◌, ◌||◌, not, nat_lt, nat_le, ◌==◌, if◌then◌else◌, Option, None, Some, is_some, find, option_map}
+use Rattle.std.specs.Prelude.{ℕ, ◌+◌, List, [], ◌∷◌, ◌++◌, length, drop, map, filter, fold, Bool, true, false, ◌&&◌, ◌||◌, not, nat_lt, nat_le, ◌==◌, if◌then◌else◌, Option, None, Some, is_some, find, option_map, flat_map}
 use Rattle.std.specs.List.{list_any}
 use Rattle.std.specs.Str.{bytes_eq}
 use Rattle.rd_history.specs.Texts.{Text, contains_text}
 use Rattle.rd_history.specs.Vector.{with_member, alone, members_of}
 use Rattle.rd_model.specs.View.{View, identities_of, is_member, leader, others, removed_of}
-use Rattle.rd_history.specs.History.{Action, Record, records, at, is_pruned}
-use Rattle.rd_model.specs.Entry.{Entry, Group, Judgement, Tick, merged, seen_by, with_action, judged, with_group, group_after, is_prune, has_records, is_unchanged, ticked}
+use Rattle.rd_history.specs.History.{Action, Record, at, is_pruned}
+use Rattle.rd_model.specs.Entry.{Entry, Group, merged, seen_by, with_action, judged, with_group, group_after, is_prune, has_records, is_unchanged, ticked}
 use Rattle.rd_model.specs.Entry.Judgement.{Wanted, Stale, Missing}
-use Rattle.rd_meanings.specs.Refusal.{Refusal}
 use Rattle.rd_model.specs.DataType.{Replication}
 use Rattle.rd_model.specs.Message.{Keyed, Message, Post}
 use Rattle.rd_model.specs.Message.Message.{Deltas, Nack, Status, Gossip, Write, WriteAck, WriteNack, Read, ReadAnswer}
-use Rattle.rd_model.specs.Node.{KeyState, OpenOperation, Result, Finished, Node, Level, needed, Input, Fate, KeyOutcome, Reply, Stepped, key_state, key_states, with_entry, one_step_later}
+use Rattle.rd_model.specs.Node.{KeyState, OpenOperation, Result, Finished, Node, Level, needed, Input, Fate, KeyOutcome, Reply, Stepped, key_state, key_states, keyed_entry, with_entry, one_step_later}
 use Rattle.rd_model.specs.Node.Result.{Wrote, ReadValue, ReadNothing}
 use Rattle.rd_model.specs.Node.Input.{Update, Get, Take, Install, Flush, GossipTo, PruneTick, Timeout}
 use Rattle.rd_model.specs.Node.Fate.{StoreFailed}
@@ -22,12 +21,13 @@ abbrev pub has_failed : Fate → Bool
 has_failed StoreFailed = true
 has_failed _ = false
 
--- no entry that a run sends counts more of the taker's records than it made, or has a prune of it
-abbrev pub is_strange_entry : {Op : Type 0} → ℕ → Entry Op → Entry Op → Bool
-is_strange_entry i mine theirs = nat_lt (at mine.history i) (at theirs.history i) || is_pruned theirs.history i
+-- an entry that counts more of the taker's records than it made, or has a prune of it. No message of a run brings one
+abbrev pub is_entry_passed_over : {Op : Type 0} → ℕ → Entry Op → Entry Op → Bool
+is_entry_passed_over i mine theirs = nat_lt (at mine.history i) (at theirs.history i) || is_pruned theirs.history i
 
-abbrev pub is_strange_group : {Op : Type 0} → ℕ → Entry Op → Group Op → Bool
-is_strange_group i mine group = (group.origin == i) || is_pruned mine.history group.origin
+-- a group of the taker's own records, or of an identity that it has a prune of. No message of a run brings one
+abbrev pub is_group_passed_over : {Op : Type 0} → ℕ → Entry Op → Group Op → Bool
+is_group_passed_over i mine group = (group.origin == i) || is_pruned mine.history group.origin
 
 -- COUNTING ANSWERS
 
@@ -72,14 +72,13 @@ module _ {Kind Op Shown : Type 0} where
   abbrev pub to_store : Node Kind Op Shown → Node Kind Op Shown → List (KeyState Kind Op)
   to_store old new = filter (λ k. k.durable) (changed_keys old new)
 
-  abbrev pub with_taken_entry : Node Kind Op Shown → Option (KeyState Kind Op) → Entry Op → Node Kind Op Shown
-  with_taken_entry node None theirs = node
-  with_taken_entry node (Some k) theirs =
-      if is_strange_entry node.identity k.entry theirs then node
-      else with_entry node k.name (seen_by node.identity node.view.number (merged k.entry theirs))
-
+  -- an entry of a declared key is merged, and the member stands in its marks
   abbrev pub take_entry : Node Kind Op Shown → Keyed (Entry Op) → Node Kind Op Shown
-  take_entry node e = with_taken_entry node (key_state node e.key) e.item
+  take_entry node e = elim (key_state node e.key) [
+    | None ↦ node
+    | Some k ↦ if is_entry_passed_over node.identity k.entry e.item then node
+        else with_entry node k.name (seen_by node.identity node.view.number (merged k.entry e.item))
+  ]
 
 -- a key at whose group the member lacks a record of an identity
 pub record KeyGap : Type 0 where
@@ -91,18 +90,17 @@ pub record AfterGroups (Kind Op Shown : Type 0) : Type 0 where
   pub gaps : List KeyGap
 
 module _ {Kind Op Shown : Type 0} where
-  abbrev pub with_judged : AfterGroups Kind Op Shown → KeyState Kind Op → Group Op → Judgement → AfterGroups Kind Op Shown
-  with_judged so_far k group Wanted = record so_far { node = with_entry so_far.node k.name (with_group k.entry group) }
-  with_judged so_far k group Stale = so_far
-  with_judged so_far k group (Missing i) = record so_far { gaps = so_far.gaps ++ record { key = k.name; lacking = i } ∷ [] }
-
-  abbrev pub with_taken_group : AfterGroups Kind Op Shown → Option (KeyState Kind Op) → Group Op → AfterGroups Kind Op Shown
-  with_taken_group so_far None group = so_far
-  with_taken_group so_far (Some k) group =
-      if is_strange_group so_far.node.identity k.entry group then so_far else with_judged so_far k group (judged k.entry group)
-
+  -- a group of a declared key is taken, is stale, or lacks a record before it
   abbrev pub take_group : AfterGroups Kind Op Shown → Keyed (Group Op) → AfterGroups Kind Op Shown
-  take_group so_far g = with_taken_group so_far (key_state so_far.node g.key) g.item
+  take_group so_far g = elim (key_state so_far.node g.key) [
+    | None ↦ so_far
+    | Some k ↦ if is_group_passed_over so_far.node.identity k.entry g.item then so_far
+        else elim (judged k.entry g.item) [
+          | Wanted ↦ record so_far { node = with_entry so_far.node k.name (with_group k.entry g.item) }
+          | Stale ↦ so_far
+          | Missing i ↦ record so_far { gaps = so_far.gaps ++ record { key = k.name; lacking = i } ∷ [] }
+        ]
+  ]
 
   abbrev pub after_groups : Node Kind Op Shown → List (Keyed (Group Op)) → AfterGroups Kind Op Shown
   after_groups node groups = fold take_group (record { node = node; gaps = [] }) groups
@@ -122,53 +120,54 @@ module _ {Kind Op Shown : Type 0} (D : Replication Kind Op Shown) where
   abbrev pub result_of : Node Kind Op Shown → OpenOperation → Result Shown
   result_of node operation = if operation.reads then read_result (option_map shown_of (key_state node operation.key)) else Wrote
 
-  -- an answer counted for an open operation, which may end it
-  abbrev pub counted_for : Stepped Kind Op Shown → ℕ → Option OpenOperation → Stepped Kind Op Shown
-  counted_for stepped from None = stepped
-  counted_for stepped from (Some operation) =
-      let node = stepped.node in
-      let now = with_answer from operation in
-      let rest = filter (λ o. not (o.op == operation.op)) node.open_operations in
-      let end : Finished Shown = record { op = operation.op; result = result_of node operation } in
-      if nat_le operation.needed (length (members_of now.counted))
-      then record { node = record node { open_operations = rest; finished = node.finished ++ end ∷ [] }; output = record stepped.output { ended = Some end } }
-      else record stepped { node = record node { open_operations = map (λ o. if o.op == operation.op then now else o) node.open_operations } }
-
+  -- the answer of a member counts for the open operation that passes the test, and may end it
   abbrev pub counted : Stepped Kind Op Shown → ℕ → (OpenOperation → Bool) → Stepped Kind Op Shown
-  counted stepped from test = counted_for stepped from (find test stepped.node.open_operations)
+  counted stepped from test = elim (find test stepped.node.open_operations) [
+    | None ↦ stepped
+    | Some operation ↦
+        let node = stepped.node in
+        let now = with_answer from operation in
+        let rest = filter (λ (o : OpenOperation). not (o.op == operation.op)) node.open_operations in
+        let end : Finished Shown = record { op = operation.op; result = result_of node operation } in
+        if nat_le operation.needed (length (members_of now.counted))
+        then record { node = record node { open_operations = rest; finished = node.finished ++ end ∷ [] }; output = record stepped.output { ended = Some end } }
+        else record stepped { node = record node { open_operations = map (λ (o : OpenOperation). if o.op == operation.op then now else o) node.open_operations } }
+  ]
 
   -- UPDATE AND GET
 
-  abbrev pub accepted : Node Kind Op Shown → Text → ℕ → Fate → Entry Op → Stepped Kind Op Shown
-  accepted node key n fate entry =
-      let after = with_entry node key entry in
-      if has_failed fate then answered after NotStored
-      else (if nat_le n 1 then answered after Done else opened after key false n (Write node.next_op key entry))
-
-  abbrev pub updated_unless : Node Kind Op Shown → KeyState Kind Op → Op → ℕ → Fate → Option Refusal → Stepped Kind Op Shown
-  updated_unless node k op n fate None = accepted node k.name n fate (with_action k.entry node.identity (Action.Operation op))
-  updated_unless node k op n fate (Some refusal) = answered node (Refused refusal)
-
-  abbrev pub updated_needing : Node Kind Op Shown → KeyState Kind Op → Op → Option ℕ → Fate → Stepped Kind Op Shown
-  updated_needing node k op None fate = answered node TooFew
-  updated_needing node k op (Some n) fate = updated_unless node k op n fate (D.data_type.refusal k.kind node.identity op k.entry.history)
-
-  abbrev pub updated : Node Kind Op Shown → Option (KeyState Kind Op) → Op → Level → Fate → Stepped Kind Op Shown
-  updated node None op level fate = answered node UnknownKey
-  updated node (Some k) op level fate =
-      if D.data_type.fits k.kind op then updated_needing node k op (needed level (member_count node)) fate else answered node WrongKind
+  -- in this order: an undeclared key, an operation of another kind, too few members, a refusal of the data type, a store that failed
+  abbrev pub step_of_update : Node Kind Op Shown → Text → Op → Level → Fate → Stepped Kind Op Shown
+  step_of_update node key op level fate = elim (key_state node key) [
+    | None ↦ answered node UnknownKey
+    | Some k ↦ if D.data_type.fits k.kind op
+        then elim (needed level (member_count node)) [
+          | None ↦ answered node TooFew
+          | Some n ↦ elim (D.data_type.refusal k.kind node.identity op k.entry.history) [
+            | Some refusal ↦ answered node (Refused refusal)
+            | None ↦
+                let entry = with_action k.entry node.identity (Action.Operation op) in
+                let after = with_entry node k.name entry in
+                if has_failed fate then answered after NotStored
+                else (if nat_le n 1 then answered after Done else opened after k.name false n (Write node.next_op k.name entry))
+          ]
+        ]
+        else answered node WrongKind
+  ]
 
   abbrev pub value_reply : Option Shown → Reply Shown
   value_reply None = NotFound
   value_reply (Some shown) = Value shown
 
-  abbrev pub got_needing : Node Kind Op Shown → KeyState Kind Op → Option ℕ → Stepped Kind Op Shown
-  got_needing node k None = answered node TooFew
-  got_needing node k (Some n) = if nat_le n 1 then answered node (value_reply (shown_of k)) else opened node k.name true n (Read node.next_op k.name)
-
-  abbrev pub got : Node Kind Op Shown → Option (KeyState Kind Op) → Level → Stepped Kind Op Shown
-  got node None level = answered node UnknownKey
-  got node (Some k) level = got_needing node k (needed level (member_count node))
+  -- in this order: an undeclared key, too few members; then the value, or an operation that asks for it
+  abbrev pub step_of_get : Node Kind Op Shown → Text → Level → Stepped Kind Op Shown
+  step_of_get node key level = elim (key_state node key) [
+    | None ↦ answered node UnknownKey
+    | Some k ↦ elim (needed level (member_count node)) [
+      | None ↦ answered node TooFew
+      | Some n ↦ if nat_le n 1 then answered node (value_reply (shown_of k)) else opened node k.name true n (Read node.next_op k.name)
+    ]
+  ]
 
   -- TAKING A MESSAGE
 
@@ -189,9 +188,6 @@ module _ {Kind Op Shown : Type 0} (D : Replication Kind Op Shown) where
   abbrev pub nack_to : ℕ → List KeyGap → List (Post Op)
   nack_to i [] = []
   nack_to i (gap ∷ gaps) = answer_to i (Nack (map (λ (g : KeyGap). g.key) (gap ∷ gaps)))
-
-  abbrev pub keyed_entry : KeyState Kind Op → Keyed (Entry Op)
-  keyed_entry k = record { key = k.name; item = k.entry }
 
   -- the named entries that have records
   abbrev pub named_entries : Node Kind Op Shown → List Text → List (Keyed (Entry Op))
@@ -232,19 +228,19 @@ module _ {Kind Op Shown : Type 0} (D : Replication Kind Op Shown) where
   took_deltas node from fate groups_in entries = took node (after_entries groups_in.node entries) fate groups_in.gaps (nack_to from groups_in.gaps)
 
   -- a message from a member of the view
-  abbrev pub taken : Node Kind Op Shown → ℕ → Fate → Message Op → Stepped Kind Op Shown
-  taken node from fate (Deltas groups entries) = took_deltas node from fate (after_groups node groups) entries
-  taken node from fate (Nack keys) = sent node Taken (gossip_to from (named_entries node keys) [])
-  taken node from fate (Status digests) = sent node Taken (gossip_to from (news_for node digests) (wanted_from node digests))
-  taken node from fate (Gossip entries wants) =
+  abbrev pub step_of_take : Node Kind Op Shown → ℕ → Fate → Message Op → Stepped Kind Op Shown
+  step_of_take node from fate (Deltas groups entries) = took_deltas node from fate (after_groups node groups) entries
+  step_of_take node from fate (Nack keys) = sent node Taken (gossip_to from (named_entries node keys) [])
+  step_of_take node from fate (Status digests) = sent node Taken (gossip_to from (news_for node digests) (wanted_from node digests))
+  step_of_take node from fate (Gossip entries wants) =
       let after = after_entries node entries in
       took node after fate [] (gossip_to from (named_entries after wants) [])
-  taken node from fate (Write op key entry) =
+  step_of_take node from fate (Write op key entry) =
       took node (after_entries node (record { key = key; item = entry } ∷ [])) fate [] (answer_to from (if has_failed fate then WriteNack op else WriteAck op))
-  taken node from fate (WriteAck op) = counted (answered node Taken) from (is_answered_by false op)
-  taken node from fate (WriteNack op) = answered node Taken
-  taken node from fate (Read op key) = sent node Taken (answer_to from (ReadAnswer op key (answered_entry (key_state node key))))
-  taken node from fate (ReadAnswer op key entry) =
+  step_of_take node from fate (WriteAck op) = counted (answered node Taken) from (is_answered_by false op)
+  step_of_take node from fate (WriteNack op) = answered node Taken
+  step_of_take node from fate (Read op key) = sent node Taken (answer_to from (ReadAnswer op key (answered_entry (key_state node key))))
+  step_of_take node from fate (ReadAnswer op key entry) =
       counted (took node (after_entries node (keyed_option key entry)) fate [] []) from (λ o. is_answered_by true op o && bytes_eq o.key key)
 
   -- FLUSH, GOSSIP, INSTALL, TIMEOUT
@@ -258,7 +254,7 @@ module _ {Kind Op Shown : Type 0} (D : Replication Kind Op Shown) where
   -- whether the own records after the flushed number go as a group: no more than the log keeps, and no prune
   abbrev pub goes_as_group : Node Kind Op Shown → ℕ → KeyState Kind Op → Bool
   goes_as_group node peer k =
-      let after = drop (node.flushed k.name peer) (records k.entry.history node.identity) in
+      let after = drop (node.flushed k.name peer) (k.entry.history node.identity) in
       nat_le (length after) D.log_length && not (list_any (λ (r : Record Op). is_prune r.action) after)
 
   abbrev pub deltas_for : Node Kind Op Shown → ℕ → Message Op
@@ -268,25 +264,25 @@ module _ {Kind Op Shown : Type 0} (D : Replication Kind Op Shown) where
       (map (λ k. record { key = k.name; item = group_after k.entry node.identity (node.flushed k.name peer) }) (filter (goes_as_group node peer) behind))
       (map keyed_entry (filter (λ k. not (goes_as_group node peer k)) behind))
 
-  abbrev pub flushed : Node Kind Op Shown → Stepped Kind Op Shown
-  flushed node =
+  abbrev pub step_of_flush : Node Kind Op Shown → Stepped Kind Op Shown
+  step_of_flush node =
       sent (record node { flushed = λ key peer. if list_any (λ i. i == peer) (others node.view node.identity) then at (node.entries key).history node.identity else node.flushed key peer }) Done
       (map (λ peer. record { to = peer; message = deltas_for node peer }) (filter (λ peer. list_any (is_behind node peer) (key_states node)) (others node.view node.identity)))
 
   abbrev pub status_of : Node Kind Op Shown → Message Op
   status_of node = Status (map (λ k. record { key = k.name; item = digest_of k }) (filter (λ k. has_records k.entry) (key_states node)))
 
-  abbrev pub gossiped : Node Kind Op Shown → ℕ → Stepped Kind Op Shown
-  gossiped node i =
+  abbrev pub step_of_gossip : Node Kind Op Shown → ℕ → Stepped Kind Op Shown
+  step_of_gossip node i =
       if (i == node.identity) || not (is_member node.view i) then answered node NotAPeer else sent node Done (answer_to i (status_of node))
 
-  abbrev pub installed : Node Kind Op Shown → View → Fate → Stepped Kind Op Shown
-  installed node view fate =
+  abbrev pub step_of_install : Node Kind Op Shown → View → Fate → Stepped Kind Op Shown
+  step_of_install node view fate =
       if nat_le view.number node.view.number then answered node OldView
       else answered (record node { view = view; entries = λ key. seen_by node.identity view.number (node.entries key) }) (if has_failed fate then NotStored else Installed)
 
-  abbrev pub timed_out : Node Kind Op Shown → ℕ → Stepped Kind Op Shown
-  timed_out node op =
+  abbrev pub step_of_timeout : Node Kind Op Shown → ℕ → Stepped Kind Op Shown
+  step_of_timeout node op =
       if list_any (λ (o : OpenOperation). o.op == op) node.open_operations
       then answered (record node { open_operations = filter (λ o. not (o.op == op)) node.open_operations }) TimedOut
       else answered node NoSuchOp
@@ -301,42 +297,38 @@ pub record Ticking (Op : Type 0) : Type 0 where
   pub outcomes : List KeyOutcome
 
 module _ {Kind Op Shown : Type 0} (D : Replication Kind Op Shown) where
-  abbrev pub with_tick : KeyState Kind Op → Ticking Op → ℕ → Tick Op → Ticking Op
-  with_tick k so_far r tick = record { entry = tick.entry; outcomes = so_far.outcomes ++ record { key = k.name; removed = r; outcome = tick.outcome } ∷ [] }
-
   -- a removed identity with records and no prune gets an outcome
   abbrev pub tick_identity : Node Kind Op Shown → KeyState Kind Op → Ticking Op → ℕ → Ticking Op
   tick_identity node k so_far r =
       let H = so_far.entry.history in
       if (at H r == 0) || is_pruned H r then so_far
-      else with_tick k so_far r (ticked (D.data_type.blocked k.kind node.identity r H) node.identity node.view.number (identities_of node.view) so_far.entry r)
+      else (let tick = ticked (D.data_type.blocked k.kind node.identity r H) node.identity node.view.number (identities_of node.view) so_far.entry r in
+      record { entry = tick.entry; outcomes = so_far.outcomes ++ record { key = k.name; removed = r; outcome = tick.outcome } ∷ [] })
 
   abbrev pub tick_key : Node Kind Op Shown → KeyState Kind Op → Ticking Op
   tick_key node k = fold (tick_identity node k) (record { entry = k.entry; outcomes = [] }) (removed_of node.view)
 
-  abbrev pub outcomes_of : Node Kind Op Shown → List (KeyState Kind Op) → List KeyOutcome
-  outcomes_of node [] = []
-  outcomes_of node (k ∷ ks) = (tick_key node k).outcomes ++ outcomes_of node ks
+  abbrev pub outcomes_of : Node Kind Op Shown → List KeyOutcome
+  outcomes_of node = flat_map (λ k. (tick_key node k).outcomes) (key_states node)
 
-  abbrev pub entry_after_tick : Node Kind Op Shown → Option (KeyState Kind Op) → Entry Op → Entry Op
-  entry_after_tick node None entry = entry
-  entry_after_tick node (Some k) entry = (tick_key node k).entry
+  abbrev pub entry_after_tick : Node Kind Op Shown → Text → Entry Op
+  entry_after_tick node key = elim (key_state node key) [ None ↦ node.entries key | Some k ↦ (tick_key node k).entry ]
 
-  abbrev pub pruned : Node Kind Op Shown → Fate → Stepped Kind Op Shown
-  pruned node fate =
+  abbrev pub step_of_tick : Node Kind Op Shown → Fate → Stepped Kind Op Shown
+  step_of_tick node fate =
       if not (leader node.view == node.identity) then answered node (NotLeader (leader node.view))
-      else answered (record node { entries = λ key. entry_after_tick node (key_state node key) (node.entries key) })
-      (if has_failed fate then TickedNotStored (outcomes_of node (key_states node)) else Ticked (outcomes_of node (key_states node)))
+      else answered (record node { entries = entry_after_tick node })
+      (if has_failed fate then TickedNotStored (outcomes_of node) else Ticked (outcomes_of node))
 
   abbrev pub step_of : Node Kind Op Shown → Input Op → Fate → Stepped Kind Op Shown
-  step_of node (Update key op level) fate = updated D node (key_state node key) op level fate
-  step_of node (Get key level) fate = got D node (key_state node key) level
-  step_of node (Take from message) fate = if is_member node.view from then taken D node from fate message else answered node NotFromMember
-  step_of node (Install view) fate = installed D node view fate
-  step_of node Flush fate = flushed D node
-  step_of node (GossipTo i) fate = gossiped D node i
-  step_of node PruneTick fate = pruned node fate
-  step_of node (Timeout op) fate = timed_out D node op
+  step_of node (Update key op level) fate = step_of_update D node key op level fate
+  step_of node (Get key level) fate = step_of_get D node key level
+  step_of node (Take from message) fate = if is_member node.view from then step_of_take D node from fate message else answered node NotFromMember
+  step_of node (Install view) fate = step_of_install D node view fate
+  step_of node Flush fate = step_of_flush D node
+  step_of node (GossipTo i) fate = step_of_gossip D node i
+  step_of node PruneTick fate = step_of_tick node fate
+  step_of node (Timeout op) fate = step_of_timeout D node op
 
   -- one step, counted
   abbrev pub step : Node Kind Op Shown → Input Op → Fate → Stepped Kind Op Shown

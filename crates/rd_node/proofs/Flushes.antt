@@ -16,9 +16,9 @@ use Rattle.rd_model.specs.DataType.{Replication}
 use Rattle.rd_model.specs.Message as sending
 use Rattle.rd_model.specs.Message.{Message}
 use Rattle.rd_model.specs.Node as nodes
-use Rattle.rd_model.specs.Node.{one_step_later, key_states, state_of}
+use Rattle.rd_model.specs.Node.{one_step_later, key_states, state_of, keyed_entry}
 use Rattle.rd_model.specs.Step as steps
-use Rattle.rd_model.specs.Step.{deltas_for, goes_as_group, keyed_entry}
+use Rattle.rd_model.specs.Step.{deltas_for, goes_as_group}
 use Rattle.rd_vectors.specs.Vectors.{number_at}
 use Rattle.rd_markers.specs.Marks.{performed_in}
 use Rattle.rd_kinds.specs.declared.shown.Shown.{Shown}
@@ -114,20 +114,20 @@ module _ {Kind Op : Type 0} (D : Replication Kind Op Shown) (node : nodes.Node K
   groups_of-current k = passes_neither (steps.is_behind D node peer) (goes_as_group D node peer) group_of k
 
   pub entries_of-current : (k : nodes.KeyState Kind Op) → steps.is_behind D node peer k ≡ false → entries_of D node peer (k ∷ []) ≡ []
-  entries_of-current k = passes_neither (steps.is_behind D node peer) (λ k. not (goes_as_group D node peer k)) (keyed_entry D) k
+  entries_of-current k = passes_neither (steps.is_behind D node peer) (λ k. not (goes_as_group D node peer k)) keyed_entry k
 
   pub groups_of-one : (k : nodes.KeyState Kind Op) → steps.is_behind D node peer k ≡ true → goes_as_group D node peer k ≡ true
       → groups_of D node peer (k ∷ []) ≡ record { key = k.name; item = group_after k.entry node.identity (node.flushed k.name peer) } ∷ []
   groups_of-one k = passes_both (steps.is_behind D node peer) (goes_as_group D node peer) group_of k
 
   pub entries_of-grouped : (k : nodes.KeyState Kind Op) → steps.is_behind D node peer k ≡ true → goes_as_group D node peer k ≡ true → entries_of D node peer (k ∷ []) ≡ []
-  entries_of-grouped k behind goes = passes_first (steps.is_behind D node peer) (λ k. not (goes_as_group D node peer k)) (keyed_entry D) k behind (ap not goes)
+  entries_of-grouped k behind goes = passes_first (steps.is_behind D node peer) (λ k. not (goes_as_group D node peer k)) keyed_entry k behind (ap not goes)
 
   pub groups_of-whole : (k : nodes.KeyState Kind Op) → steps.is_behind D node peer k ≡ true → goes_as_group D node peer k ≡ false → groups_of D node peer (k ∷ []) ≡ []
   groups_of-whole k = passes_first (steps.is_behind D node peer) (goes_as_group D node peer) group_of k
 
-  pub entries_of-one : (k : nodes.KeyState Kind Op) → steps.is_behind D node peer k ≡ true → goes_as_group D node peer k ≡ false → entries_of D node peer (k ∷ []) ≡ keyed_entry D k ∷ []
-  entries_of-one k behind goes = passes_both (steps.is_behind D node peer) (λ k. not (goes_as_group D node peer k)) (keyed_entry D) k behind (ap not goes)
+  pub entries_of-one : (k : nodes.KeyState Kind Op) → steps.is_behind D node peer k ≡ true → goes_as_group D node peer k ≡ false → entries_of D node peer (k ∷ []) ≡ keyed_entry k ∷ []
+  entries_of-one k behind goes = passes_both (steps.is_behind D node peer) (λ k. not (goes_as_group D node peer k)) keyed_entry k behind (ap not goes)
 
   -- one key more
   module _ {T Delta : Type 0} (keys : List (KeyState T Kind Op Delta)) (i : ℕ) (state : KeyState T Kind Op Delta) (within : i < length keys) (is : state ≡ get_or keys i state) where
@@ -138,7 +138,7 @@ module _ {Kind Op : Type 0} (D : Replication Kind Op Shown) (node : nodes.Node K
     groups_of-more = ap (groups_of D node peer) states_more ∙ passing_more (steps.is_behind D node peer) (goes_as_group D node peer) group_of (map (state_in node) (take i keys)) (state_in node state)
 
     pub entries_of-more : entries_of D node peer (map (state_in node) (take (i + 1) keys)) ≡ entries_of D node peer (map (state_in node) (take i keys)) ++ entries_of D node peer (state_in node state ∷ [])
-    entries_of-more = ap (entries_of D node peer) states_more ∙ passing_more (steps.is_behind D node peer) (λ k. not (goes_as_group D node peer k)) (keyed_entry D) (map (state_in node) (take i keys)) (state_in node state)
+    entries_of-more = ap (entries_of D node peer) states_more ∙ passing_more (steps.is_behind D node peer) (λ k. not (goes_as_group D node peer k)) keyed_entry (map (state_in node) (take i keys)) (state_in node state)
 
 -- KEYS THAT ARE HELD
 
@@ -181,7 +181,7 @@ module _ {Kind Op : Type 0} (D : Replication Kind Op Shown) (node : nodes.Node K
     posts_to-none either = ap posts_to (one_more members i peer within is) ∙ passing_none (λ j. not (j == id)) (is_sent D node) (post_to D node) (take i members) peer either
 
   -- they are those of the model's flush
-  pub posts_are : (members : List ℕ) → node.identity ≡ id → identities_of node.view ≡ members → posts_to members ≡ (steps.flushed D node).output.posts
+  pub posts_are : (members : List ℕ) → node.identity ≡ id → identities_of node.view ≡ members → posts_to members ≡ (steps.step_of_flush D node).output.posts
   posts_are members own viewed = λ i. map (post_to D node) (filter (is_sent D node) (filter (λ j. not (j == sym own i)) (sym viewed i)))
 
 -- MEMBERS

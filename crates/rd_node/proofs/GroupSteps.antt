@@ -8,14 +8,15 @@ use Rattle.rd_model.specs.Entry.{Group, Judgement, judged, with_group}
 use Rattle.rd_model.specs.Entry.Judgement.{Wanted, Stale, Missing}
 use Rattle.rd_model.specs.Message.{Keyed}
 use Rattle.rd_model.specs.Node.{KeyDecl, KeyState, state_of, key_state}
-use Rattle.rd_model.specs.Step.{AfterGroups, is_strange_group, with_judged, with_taken_group, take_group}
+use Rattle.rd_model.specs.Step.{AfterGroups, is_group_passed_over, take_group}
 use Rattle.rd_model.proofs.Steps.{with_text_at-same}
+use Rattle.rd_model.proofs.Cases.{with_judged, with_taken_group}
 use Rattle.rd_node.specs.Taking.{judged_for, entry_after, lacking_in, gap_told, gaps_at}
 
 module _ {Kind Op Shown : Type 0} where
   -- a group that is passed over is as one that is known
   judged_one : (so_far : AfterGroups Kind Op Shown) (k : KeyState Kind Op) (group : Group Op) → with_taken_group so_far (Some k) group ≡ with_judged so_far k group (judged_for so_far.node.identity k.entry group)
-  judged_one so_far k group = go (is_strange_group so_far.node.identity k.entry group)
+  judged_one so_far k group = go (is_group_passed_over so_far.node.identity k.entry group)
     where
       go : (b : Bool) → (if b then so_far else with_judged so_far k group (judged k.entry group)) ≡ with_judged so_far k group (if b then Stale else judged k.entry group)
       go true = refl

@@ -12,8 +12,8 @@ use Rattle.rd_model.specs.Entry.{has_records}
 use Rattle.rd_model.specs.DataType.{Replication}
 use Rattle.rd_model.specs.Message as sending
 use Rattle.rd_model.specs.Node as nodes
-use Rattle.rd_model.specs.Node.{state_of}
-use Rattle.rd_model.specs.Step.{named_entries, keyed_entry}
+use Rattle.rd_model.specs.Node.{state_of, keyed_entry}
+use Rattle.rd_model.specs.Step.{named_entries}
 use Rattle.rd_kinds.specs.declared.shown.Shown.{Shown}
 use Rattle.rd_envelope.specs.declared.envelope.Envelope.{Envelope}
 use Rattle.rd_messages.specs.declared.message.Keyed.{Keyed}
@@ -29,10 +29,10 @@ module _ {Kind Op : Type 0} (D : Replication Kind Op Shown) (names : List Text) 
   abbrev pub is_asked : nodes.KeyState Kind Op → Bool
   is_asked k = contains_text names k.name && has_records k.entry
 
-  one_named : (k : nodes.KeyState Kind Op) (b : Bool) → is_asked k ≡ b → map (keyed_entry D) (filter is_asked (k ∷ [])) ≡ (if b then keyed_entry D k ∷ [] else [])
-  one_named k b is = ap (λ x. map (keyed_entry D) (if x then k ∷ [] else [])) is ∙ go b
+  one_named : (k : nodes.KeyState Kind Op) (b : Bool) → is_asked k ≡ b → map keyed_entry (filter is_asked (k ∷ [])) ≡ (if b then keyed_entry k ∷ [] else [])
+  one_named k b is = ap (λ x. map keyed_entry (if x then k ∷ [] else [])) is ∙ go b
     where
-      go : (b : Bool) → map (keyed_entry D) (if b then k ∷ [] else []) ≡ (if b then keyed_entry D k ∷ [] else [])
+      go : (b : Bool) → map keyed_entry (if b then k ∷ [] else []) ≡ (if b then keyed_entry k ∷ [] else [])
       go true = refl
       go false = refl
 
@@ -42,21 +42,21 @@ module _ {T Kind Op Delta : Type 0} (D : Replication Kind Op Shown) (node : node
 
   -- those of these keys
   abbrev pub named_of : List (KeyState T Kind Op Delta) → List (sending.Keyed (model.Entry Op))
-  named_of keys = map (keyed_entry D) (filter (is_asked D names) (map state_in keys))
+  named_of keys = map keyed_entry (filter (is_asked D names) (map state_in keys))
 
   pub named_all : (keys : List (KeyState T Kind Op Delta)) → node.keys ≡ map declared_by keys → named_of keys ≡ named_entries D node names
-  named_all keys declares = ap (λ ks. map (keyed_entry D) (filter (is_asked D names) ks)) (sym (ap (map (state_of node)) declares ∙ map-map (state_of node) declared_by keys))
+  named_all keys declares = ap (λ ks. map keyed_entry (filter (is_asked D names) ks)) (sym (ap (map (state_of node)) declares ∙ map-map (state_of node) declared_by keys))
 
   named_more : (keys : List (KeyState T Kind Op Delta)) (state : KeyState T Kind Op Delta) (b : Bool) → is_asked D names (state_of node (declared_by state)) ≡ b
-      → named_of (keys ++ state ∷ []) ≡ named_of keys ++ (if b then keyed_entry D (state_of node (declared_by state)) ∷ [] else [])
+      → named_of (keys ++ state ∷ []) ≡ named_of keys ++ (if b then keyed_entry (state_of node (declared_by state)) ∷ [] else [])
   named_more keys state b is =
-      ap (λ ks. map (keyed_entry D) (filter (is_asked D names) ks)) (map-append state_in keys (state ∷ []))
-      ∙ ap (map (keyed_entry D)) (filter-append (is_asked D names) (map state_in keys) (state_in state ∷ []))
-      ∙ map-append (keyed_entry D) (filter (is_asked D names) (map state_in keys)) (filter (is_asked D names) (state_in state ∷ []))
-      ∙ ap (λ xs. map (keyed_entry D) (filter (is_asked D names) (map state_in keys)) ++ xs) (one_named D names (state_in state) b is)
+      ap (λ ks. map keyed_entry (filter (is_asked D names) ks)) (map-append state_in keys (state ∷ []))
+      ∙ ap (map keyed_entry) (filter-append (is_asked D names) (map state_in keys) (state_in state ∷ []))
+      ∙ map-append keyed_entry (filter (is_asked D names) (map state_in keys)) (filter (is_asked D names) (state_in state ∷ []))
+      ∙ ap (λ xs. map keyed_entry (filter (is_asked D names) (map state_in keys)) ++ xs) (one_named D names (state_in state) b is)
 
   pub named_one : (keys : List (KeyState T Kind Op Delta)) (state : KeyState T Kind Op Delta) → is_asked D names (state_of node (declared_by state)) ≡ true
-      → named_of (keys ++ state ∷ []) ≡ named_of keys ++ keyed_entry D (state_of node (declared_by state)) ∷ []
+      → named_of (keys ++ state ∷ []) ≡ named_of keys ++ keyed_entry (state_of node (declared_by state)) ∷ []
   named_one keys state is = named_more keys state true is
 
   pub named_none : (keys : List (KeyState T Kind Op Delta)) (state : KeyState T Kind Op Delta) → is_asked D names (state_of node (declared_by state)) ≡ false → named_of (keys ++ state ∷ []) ≡ named_of keys

@@ -11,7 +11,7 @@ use Rattle.rd_model.specs.Message.{Message as Sent}
 use Rattle.rd_model.specs.Node.{Node, Input, Level, Fate, one_step_later}
 use Rattle.rd_model.specs.Node.Reply.{Done, NotFromMember, NotAPeer}
 use Rattle.rd_model.specs.Step as steps
-use Rattle.rd_model.specs.Step.{step, taken, answered, answer_to, status_of}
+use Rattle.rd_model.specs.Step.{step, step_of_take, answered, answer_to, status_of}
 use Rattle.rd_model.proofs.Steps.{IsQuiet, step-update-quiet, step-get-quiet}
 use Rattle.rd_kinds.specs.declared.shown.Shown.{Shown}
 use Rattle.rd_lattice.specs.declared.replica.Replica.{Ghosts}
@@ -44,13 +44,13 @@ module _ {Kind Op : Type 0} (data_type : DataType Kind Op Shown) (digest : Kind 
       → StandsForMessage kind_of IsDataOf kinds logs message sent → (step (delta_groups data_type digest) node (Input.Take from sent) Fate.NoStore).output.ended ≡ None
   take-ends_nothing {T} {Delta} {ghosts} kind_of IsDataOf kinds logs from message sent stands = go (is_member node.view from) (ends message stands)
     where
-      ends : (m : Message T Kind Op Delta ghosts) → StandsForMessage kind_of IsDataOf kinds logs m sent → (taken (delta_groups data_type digest) (one_step_later node) from Fate.NoStore sent).output.ended ≡ None
+      ends : (m : Message T Kind Op Delta ghosts) → StandsForMessage kind_of IsDataOf kinds logs m sent → (step_of_take (delta_groups data_type digest) (one_step_later node) from Fate.NoStore sent).output.ended ≡ None
       ends (Deltas groups entries) s = (brings (delta_groups data_type digest) {ghosts = ghosts} kind_of IsDataOf kinds logs (one_step_later node) from (Deltas groups entries) sent s refl).takes.ends
       ends (Nack keys) s = (brings (delta_groups data_type digest) {ghosts = ghosts} kind_of IsDataOf kinds logs (one_step_later node) from (Nack keys) sent s refl).takes.ends
-      ends (Status digests) s = subst (λ m. (taken (delta_groups data_type digest) (one_step_later node) from Fate.NoStore m).output.ended ≡ None) (sym s) refl
+      ends (Status digests) s = subst (λ m. (step_of_take (delta_groups data_type digest) (one_step_later node) from Fate.NoStore m).output.ended ≡ None) (sym s) refl
       ends (Gossip entries wants) s = (brings (delta_groups data_type digest) {ghosts = ghosts} kind_of IsDataOf kinds logs (one_step_later node) from (Gossip entries wants) sent s refl).takes.ends
 
-      go : (b : Bool) → (taken (delta_groups data_type digest) (one_step_later node) from Fate.NoStore sent).output.ended ≡ None
-          → (if b then taken (delta_groups data_type digest) (one_step_later node) from Fate.NoStore sent else answered (one_step_later node) NotFromMember).output.ended ≡ None
+      go : (b : Bool) → (step_of_take (delta_groups data_type digest) (one_step_later node) from Fate.NoStore sent).output.ended ≡ None
+          → (if b then step_of_take (delta_groups data_type digest) (one_step_later node) from Fate.NoStore sent else answered (one_step_later node) NotFromMember).output.ended ≡ None
       go true none = none
       go false none = refl

@@ -12,8 +12,8 @@ use Rattle.rd_model.specs.DataType.{Replication}
 use Rattle.rd_model.specs.Message as sending
 use Rattle.rd_model.specs.Message.{Message as Sent}
 use Rattle.rd_model.specs.Node as nodes
-use Rattle.rd_model.specs.Node.{Reply as Meant, Fate, key_states}
-use Rattle.rd_model.specs.Step.{KeyGap, after_groups, after_entries, is_changed, take_reply, taken, nack_to, gossip_to, named_entries, keyed_entry}
+use Rattle.rd_model.specs.Node.{Reply as Meant, Fate, key_states, keyed_entry}
+use Rattle.rd_model.specs.Step.{KeyGap, after_groups, after_entries, is_changed, take_reply, step_of_take, nack_to, gossip_to, named_entries}
 use Rattle.rd_model.proofs.Taking.{is_changed-any}
 use Rattle.rd_kinds.specs.declared.shown.Shown.{Shown}
 use Rattle.rd_lattice.specs.declared.replica.Replica.{Ghosts}
@@ -46,7 +46,7 @@ keys_told (g ∷ gs) = ap (λ ks. g.key ∷ ks) (keys_told gs)
 module _ {Kind Op : Type 0} (D : Replication Kind Op Shown) where
   -- of no names there are no entries
   none_named : (node : nodes.Node Kind Op Shown) → named_entries D node [] ≡ []
-  none_named node = ap (map (keyed_entry D)) (none (key_states node))
+  none_named node = ap (map keyed_entry) (none (key_states node))
     where
       none : (ks : List (nodes.KeyState Kind Op)) → filter (λ (k : nodes.KeyState Kind Op). contains_text [] k.name && has_records k.entry) ks ≡ []
       none [] = refl
@@ -66,7 +66,7 @@ module _ {Kind Op : Type 0} (D : Replication Kind Op Shown) where
     pub sent_entries : List (sending.Keyed (model.Entry Op))
     pub groups_stand : AllZip (StandsForKeyedGroup kinds logs) (groups_of message) sent_groups
     pub entries_stand : AllZip (StandsForKeyed kind_of IsDataOf kinds logs) (entries_of message) sent_entries
-    pub takes : Takes node from sent_groups sent_entries (names_of message) (only_asks message) (taken D node from Fate.NoStore sent)
+    pub takes : Takes node from sent_groups sent_entries (names_of message) (only_asks message) (step_of_take D node from Fate.NoStore sent)
 
   pub brings : {T Delta : Type 0} {ghosts : Ghosts T Kind Op Delta} (kind_of : T → Kind) (IsDataOf : T → History Op → VersionVector → IdentitySet → Type 0) (kinds : Text → Kind) (logs : Text → History Op) (node : nodes.Node Kind Op Shown) (from : ℕ)
       (message : Message T Kind Op Delta ghosts) (sent : Sent Op) → StandsForMessage kind_of IsDataOf kinds logs message sent → is_status message ≡ false → Brings kind_of IsDataOf kinds logs node from message sent
@@ -79,7 +79,7 @@ module _ {Kind Op : Type 0} (D : Replication Kind Op Shown) where
         sent_entries = s.sent_entries;
         groups_stand = s.groups_stand;
         entries_stand = s.entries_stand;
-        takes = subst (λ m. Takes node from gs es [] false (taken D node from Fate.NoStore m)) (sym s.is) (record {
+        takes = subst (λ m. Takes node from gs es [] false (step_of_take D node from Fate.NoStore m)) (sym s.is) (record {
           next = refl;
           reply = refl;
           ends = refl;
@@ -91,7 +91,7 @@ module _ {Kind Op : Type 0} (D : Replication Kind Op Shown) where
     sent_entries = [];
     groups_stand = tt;
     entries_stand = tt;
-    takes = subst (λ m. Takes node from [] [] keys true (taken D node from Fate.NoStore m)) (sym s) (record { next = refl; reply = refl; posts = refl; ends = refl });
+    takes = subst (λ m. Takes node from [] [] keys true (step_of_take D node from Fate.NoStore m)) (sym s) (record { next = refl; reply = refl; posts = refl; ends = refl });
   }
   brings kind_of IsDataOf kinds logs node from (Status digests) sent s other = absurd (cc other)
   brings kind_of IsDataOf kinds logs node from (Gossip entries wants) sent s other = record {
@@ -99,7 +99,7 @@ module _ {Kind Op : Type 0} (D : Replication Kind Op Shown) where
     sent_entries = s.sent_entries;
     groups_stand = tt;
     entries_stand = s.entries_stand;
-    takes = subst (λ m. Takes node from [] s.sent_entries wants false (taken D node from Fate.NoStore m)) (sym s.is) (record { next = refl; reply = refl; posts = refl; ends = refl });
+    takes = subst (λ m. Takes node from [] s.sent_entries wants false (step_of_take D node from Fate.NoStore m)) (sym s.is) (record { next = refl; reply = refl; posts = refl; ends = refl });
   }
 
   -- THE REPLY

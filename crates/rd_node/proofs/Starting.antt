@@ -13,7 +13,7 @@ use Rattle.rd_history.specs.History.{History, IsHistory}
 use Rattle.rd_model.specs.View.{View, identities_of}
 use Rattle.rd_model.specs.Entry.{Entry, empty_entry}
 use Rattle.rd_model.specs.Node as nodes
-use Rattle.rd_model.specs.World.{loaded_entry, loaded_node}
+use Rattle.rd_model.specs.World.{loaded_entry, loaded_node, no_entries}
 use Rattle.rd_vectors.specs.Vectors.{Numbers, number_at}
 use Rattle.rd_vectors.proofs.Laws.{number_at-empty}
 use Rattle.rd_markers.specs.Marks.{Marks, is_performed, performed_in}
@@ -47,11 +47,11 @@ module _ {T Kind Op Delta : Type 0} (kind_of : T → Kind) (IsDataOf : T → His
   }
 
 -- no key is durable, so nothing was loaded
-nothing_loaded : {T Kind Op Delta : Type 0} (id : ℕ) (view : View) (decls : List (KeyDecl T Kind Op Delta)) (name : Text) → (loaded_node {Op = Op} {Shown = Shown} (map declared decls) id view []).entries name ≡ empty_entry
+nothing_loaded : {T Kind Op Delta : Type 0} (id : ℕ) (view : View) (decls : List (KeyDecl T Kind Op Delta)) (name : Text) → (loaded_node {Op = Op} {Shown = Shown} (map declared decls) id view no_entries).entries name ≡ empty_entry
 nothing_loaded {T} {Kind} {Op} {Delta} id view decls name =
-    ap (loaded_entry {Op = Op} id view []) (find-map (λ (decl : nodes.KeyDecl Kind). bytes_eq decl.name name) declared decls) ∙ go (find (λ (decl : KeyDecl T Kind Op Delta). bytes_eq decl.key name) decls)
+    ap (loaded_entry {Op = Op} id view no_entries) (find-map (λ (decl : nodes.KeyDecl Kind). bytes_eq decl.name name) declared decls) ∙ go (find (λ (decl : KeyDecl T Kind Op Delta). bytes_eq decl.key name) decls)
   where
-    go : (o : Option (KeyDecl T Kind Op Delta)) → loaded_entry {Op = Op} id view [] (option_map declared o) ≡ empty_entry
+    go : (o : Option (KeyDecl T Kind Op Delta)) → loaded_entry {Op = Op} id view no_entries (option_map declared o) ≡ empty_entry
     go None = refl
     go (Some decl) = refl
 
@@ -61,7 +61,7 @@ module _ {T Kind Op Delta : Type 0} {ghosts : Ghosts T Kind Op Delta} (kind_of :
       → map declared_by code.keys.items ≡ map declared decls → All (IsFresh kind_of IsDataOf ghosts.IsDeltaOf code.id) code.keys.items → AreDistinct (map (λ (decl : KeyDecl T Kind Op Delta). decl.key) decls)
       → ((key : Text) → IsHistory (logs key)) → AreOfKinds kinds decls
       → view.number ≡ code.view → identities_of view ≡ code.members.items → code.steps ≡ 0
-      → StandsForNode kind_of IsDataOf kinds logs code (loaded_node (map declared decls) code.id view [])
+      → StandsForNode kind_of IsDataOf kinds logs code (loaded_node (map declared decls) code.id view no_entries)
   stands_first code decls view same fresh distinct histories of_kinds numbered members steps =
       let keys = code.keys.items in
       let names : map (λ (state : KeyState T Kind Op Delta). state.name) keys ≡ map (λ (decl : KeyDecl T Kind Op Delta). decl.key) decls =

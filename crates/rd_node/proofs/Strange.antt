@@ -10,7 +10,7 @@ use Rattle.rd_history.specs.History.{History, at, versions, union, is_pruned, Is
 use Rattle.rd_history.specs.Log.{IsTakenFrom}
 use Rattle.rd_history.proofs.PartLaws.{in_whole, taken_union}
 use Rattle.rd_model.specs.Entry as model
-use Rattle.rd_model.specs.Step.{is_strange_entry}
+use Rattle.rd_model.specs.Step.{is_entry_passed_over}
 use Rattle.rd_vectors.specs.Vectors.{number_at}
 use Rattle.rd_markers.specs.Marks.{performed_in}
 use Rattle.rd_envelope.specs.Images.{Parts, StandsFor}
@@ -22,7 +22,7 @@ use Rattle.rd_node.specs.Members.{ArePruneFree}
 module _ {State Op : Type 0} (D : State → History Op → VersionVector → IdentitySet → Type 0) where
   -- an entry is strange where the envelopes say so
   pub strange_is : (one two : Parts State) (log : History Op) (before other : model.Entry Op) (id : ℕ) → performed_in one.marks id ≡ false → StandsFor D one log before → StandsFor D two log other
-      → (performed_in two.marks id || nat_lt (number_at one.versions id) (number_at two.versions id)) ≡ is_strange_entry id before other
+      → (performed_in two.marks id || nat_lt (number_at one.versions id) (number_at two.versions id)) ≡ is_entry_passed_over id before other
   strange_is one two log before other id unpruned s t =
       let pruned : performed_in two.marks id ≡ is_pruned other.history id = pruned_is D two log other.history t.histories t.taken t.holds id in
       let mine : number_at one.versions id ≡ at before.history id = s.holds.numbers id ∙ uncleaned (performed_in one.marks) (versions before.history) id unpruned in

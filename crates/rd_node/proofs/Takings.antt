@@ -10,9 +10,10 @@ use Rattle.rd_model.specs.Entry.{merged, seen_by}
 use Rattle.rd_model.specs.Message as sending
 use Rattle.rd_model.specs.Node as nodes
 use Rattle.rd_model.specs.Node.{state_of, HasKey}
-use Rattle.rd_model.specs.Step.{AfterGroups, is_strange_entry, with_taken_entry, take_entry, take_group}
+use Rattle.rd_model.specs.Step.{AfterGroups, is_entry_passed_over, take_entry, take_group}
 use Rattle.rd_model.proofs.Steps.{bytes_eq-same, bytes_eq-tells}
 use Rattle.rd_model.proofs.Taking.{take_entry-only, take_entry-at}
+use Rattle.rd_model.proofs.Cases.{with_taken_entry}
 use Rattle.rd_markers.specs.Marks.{performed_in}
 use Rattle.rd_kinds.specs.declared.shown.Shown.{Shown}
 use Rattle.rd_lattice.specs.declared.replica.Replica.{Ghosts}
@@ -127,15 +128,15 @@ module _ {T Kind Op Delta : Type 0} (kind_of : T → Kind) (IsDataOf : T → His
         (is' : change ≡ get_or changes index change) (mine : Envelope T Kind Op Delta) (same : mine ≡ current_of at change) (taken : Option (Envelope T Kind Op Delta))
         (image : (log : History Op) (before other : model.Entry Op) → performed_in (parts_of mine).marks id ≡ false → kind_of mine.value ≡ kind_of keyed.item.value → StandsFor IsDataOf (parts_of mine) log before
         → StandsFor IsDataOf (parts_of keyed.item) log other → IsExactlyPruned (union before.history other.history)
-        → StandsAfter IsDataOf log taken before (if is_strange_entry id before other then before else seen_by id view (merged before other))) where
-      here_is : (take_entry node sent).entries at.name ≡ (if is_strange_entry id (node.entries at.name) sent.item then node.entries at.name else seen_by id view (merged (node.entries at.name) sent.item))
+        → StandsAfter IsDataOf log taken before (if is_entry_passed_over id before other then before else seen_by id view (merged before other))) where
+      here_is : (take_entry node sent).entries at.name ≡ (if is_entry_passed_over id (node.entries at.name) sent.item then node.entries at.name else seen_by id view (merged (node.entries at.name) sent.item))
       here_is =
           let p = place node work keyed.key index at change found is is' mine same in
           let has : HasKey node at.name at.kind = subst (λ (state : KeyState T Kind Op Delta). HasKey node state.name state.kind) (sym is) (has_key_at node keys work.declares held.distinct index at found.within) in
           let alike : bytes_eq at.name sent.key ≡ true = ap (bytes_eq at.name) (s.same ∙ sym p.named) ∙ bytes_eq-same at.name in
           take_entry-at node at.name at.kind has sent
-          ∙ ap (λ b. if b then (if is_strange_entry node.identity (node.entries at.name) sent.item then node.entries at.name else seen_by node.identity node.view.number (merged (node.entries at.name) sent.item)) else node.entries at.name) alike
-          ∙ (λ i. if is_strange_entry (work.identity i) (node.entries at.name) sent.item then node.entries at.name else seen_by (work.identity i) (work.viewed i) (merged (node.entries at.name) sent.item))
+          ∙ ap (λ b. if b then (if is_entry_passed_over node.identity (node.entries at.name) sent.item then node.entries at.name else seen_by node.identity node.view.number (merged (node.entries at.name) sent.item)) else node.entries at.name) alike
+          ∙ (λ i. if is_entry_passed_over (work.identity i) (node.entries at.name) sent.item then node.entries at.name else seen_by (work.identity i) (work.viewed i) (merged (node.entries at.name) sent.item))
 
       elsewhere_is : (k : ℕ) (d : KeyState T Kind Op Delta) → k < length keys → bytes_eq (name_at keys k d) at.name ≡ false → (take_entry node sent).entries (name_at keys k d) ≡ node.entries (name_at keys k d)
       elsewhere_is k d inside other =
@@ -143,7 +144,7 @@ module _ {T Kind Op Delta : Type 0} (kind_of : T → Kind) (IsDataOf : T → His
           let name = name_at keys k d in
           let apart : bytes_eq (name_at keys k d) sent.key ≡ false = ap (bytes_eq (name_at keys k d)) (s.same ∙ sym p.named) ∙ other in
           take_entry-at node name (get_or keys k d).kind (has_key_at node keys work.declares held.distinct k d inside) sent
-          ∙ ap (λ b. if b then (if is_strange_entry node.identity (node.entries (name_at keys k d)) sent.item then node.entries (name_at keys k d) else seen_by node.identity node.view.number (merged (node.entries (name_at keys k d)) sent.item)) else node.entries (name_at keys k d)) apart
+          ∙ ap (λ b. if b then (if is_entry_passed_over node.identity (node.entries (name_at keys k d)) sent.item then node.entries (name_at keys k d) else seen_by node.identity node.view.number (merged (node.entries (name_at keys k d)) sent.item)) else node.entries (name_at keys k d)) apart
 
       pub entry_taken : IsAtWork kind_of IsDataOf kinds logs id keys view entries (put_at changes index taken) (take_entry node sent)
       entry_taken =

@@ -13,8 +13,8 @@ use Rattle.rd_model.specs.Entry.{has_records}
 use Rattle.rd_model.specs.DataType.{Replication}
 use Rattle.rd_model.specs.Message as sending
 use Rattle.rd_model.specs.Node as nodes
-use Rattle.rd_model.specs.Node.{state_of}
-use Rattle.rd_model.specs.Step.{keyed_entry, digest_of, named_digest, is_digest}
+use Rattle.rd_model.specs.Node.{state_of, keyed_entry}
+use Rattle.rd_model.specs.Step.{digest_of, named_digest, is_digest}
 use Rattle.rd_kinds.specs.declared.shown.Shown.{Shown}
 use Rattle.rd_messages.specs.Standing.{StandsForEntry}
 use Rattle.rd_node.specs.declared.key.KeyState.{KeyState}
@@ -46,7 +46,7 @@ module _ {Kind Op : Type 0} (D : Replication Kind Op Shown) (digests : List (sen
   is_wanted k = is_some (named_digest D digests k.name) && (not (has_records k.entry) || not (is_alike k))
 
   abbrev pub news_of : List (nodes.KeyState Kind Op) → List (sending.Keyed (model.Entry Op))
-  news_of keys = map (keyed_entry D) (filter is_news keys)
+  news_of keys = map keyed_entry (filter is_news keys)
 
   abbrev pub wants_of : List (nodes.KeyState Kind Op) → List Text
   wants_of keys = map (λ k. k.name) (filter is_wanted keys)

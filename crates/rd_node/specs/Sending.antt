@@ -13,9 +13,9 @@ use Rattle.rd_model.specs.Entry.{group_after}
 use Rattle.rd_model.specs.DataType.{Replication}
 use Rattle.rd_model.specs.Message as sending
 use Rattle.rd_model.specs.Node as nodes
-use Rattle.rd_model.specs.Node.{state_of, key_states}
+use Rattle.rd_model.specs.Node.{state_of, key_states, keyed_entry}
 use Rattle.rd_model.specs.Step as step
-use Rattle.rd_model.specs.Step.{goes_as_group, deltas_for, keyed_entry}
+use Rattle.rd_model.specs.Step.{goes_as_group, deltas_for}
 use Rattle.rd_kinds.specs.declared.shown.Shown.{Shown}
 use Rattle.rd_vectors.specs.Vectors.{number_at}
 use Rattle.rd_markers.specs.Marks.{performed_in}
@@ -64,7 +64,7 @@ module _ {Kind Op : Type 0} (D : Replication Kind Op Shown) (node : nodes.Node K
   groups_of keys = map (λ k. record { key = k.name; item = group_after k.entry node.identity (node.flushed k.name peer) }) (filter (goes_as_group D node peer) (filter (step.is_behind D node peer) keys))
 
   abbrev pub entries_of : List (nodes.KeyState Kind Op) → List (sending.Keyed (model.Entry Op))
-  entries_of keys = map (keyed_entry D) (filter (λ k. not (goes_as_group D node peer k)) (filter (step.is_behind D node peer) keys))
+  entries_of keys = map keyed_entry (filter (λ k. not (goes_as_group D node peer k)) (filter (step.is_behind D node peer) keys))
 
   -- the peer is sent something
   abbrev pub is_sent : Bool

@@ -7,7 +7,7 @@ use Rattle.rd_model.specs.Entry as model
 use Rattle.rd_model.specs.Entry.{Judgement, judged, with_group}
 use Rattle.rd_model.specs.Entry.Judgement.{Wanted, Stale, Missing}
 use Rattle.rd_model.specs.Node as nodes
-use Rattle.rd_model.specs.Step.{KeyGap, is_strange_group}
+use Rattle.rd_model.specs.Step.{KeyGap, is_group_passed_over}
 use Rattle.rd_kinds.specs.declared.shown.Shown.{Shown}
 use Rattle.rd_vectors.specs.Vectors.{number_at}
 use Rattle.rd_markers.specs.Marks.{performed_in}
@@ -28,7 +28,7 @@ use Rattle.rd_node.specs.Changes.{AreMade}
 module _ {Op : Type 0} where
   -- how a group is judged: one that is passed over is as one that is known
   abbrev pub judged_for : ℕ → model.Entry Op → model.Group Op → Judgement
-  judged_for id mine group = if is_strange_group id mine group then Stale else judged mine group
+  judged_for id mine group = if is_group_passed_over id mine group then Stale else judged mine group
 
   -- the entry after a group that was judged so
   abbrev pub entry_after : model.Entry Op → model.Group Op → Judgement → model.Entry Op

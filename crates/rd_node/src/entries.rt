@@ -6,7 +6,7 @@ ghost use Rattle.rd_model.specs.Entry as model;
 ghost use Rattle.rd_model.specs.Entry.{merged, seen_by, is_unchanged};
 ghost use Rattle.rd_model.specs.Message as sending;
 ghost use Rattle.rd_model.specs.Node.{Node as Member};
-ghost use Rattle.rd_model.specs.Step.{is_strange_entry, take_entry, after_entries};
+ghost use Rattle.rd_model.specs.Step.{is_entry_passed_over, take_entry, after_entries};
 ghost use Rattle.rd_kinds.specs.declared.shown.Shown.{Shown};
 ghost use Rattle.rd_vectors.specs.Vectors.{number_at};
 ghost use Rattle.rd_markers.specs.Marks.{performed_in};
@@ -44,7 +44,7 @@ fn take_entry<T: Replica>(
     ensures kept { IfOk result (λ taken. IfSome taken (KeepsOwn T.kind_of id mine.now)) }
     ensures image { (log : History T.Op) (before other : model.Entry T.Op) → performed_in (parts_of mine.now).marks id ≡ false → T.kind_of mine.now.value ≡ T.kind_of theirs.now.value
         → StandsFor T.IsDataOf (parts_of mine.now) log before → StandsFor T.IsDataOf (parts_of theirs.now) log other → IsExactlyPruned (union before.history other.history)
-        → IfOk result (λ taken. StandsAfter T.IsDataOf log taken before (if is_strange_entry id before other then before else seen_by id view (merged before other))) }
+        → IfOk result (λ taken. StandsAfter T.IsDataOf log taken before (if is_entry_passed_over id before other then before else seen_by id view (merged before other))) }
 {
     if is_strange(mine, theirs, id) || !mine.value().same_kind(theirs.value()) {
         return Ok(None);

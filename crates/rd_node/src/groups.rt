@@ -5,7 +5,7 @@ ghost use Rattle.rd_history.specs.History.{History};
 ghost use Rattle.rd_model.specs.Entry as model;
 ghost use Rattle.rd_model.specs.Message as sending;
 ghost use Rattle.rd_model.specs.Node.{Node as Member};
-ghost use Rattle.rd_model.specs.Step.{AfterGroups, is_strange_group, take_group, after_groups};
+ghost use Rattle.rd_model.specs.Step.{AfterGroups, is_group_passed_over, take_group, after_groups};
 ghost use Rattle.rd_kinds.specs.declared.shown.Shown.{Shown};
 ghost use Rattle.rd_markers.specs.Marks.{performed_in};
 ghost use Rattle.rd_envelope.specs.Images.{StandsFor, StandsForGroup};
@@ -37,7 +37,7 @@ pub(crate) struct GroupTaken<T: Replica> {
 fn is_strange<T: Replica>(mine: &Envelope<T>, group: &Group<T>, id: Id) -> bool
     ensures value { result ≡ ((group.now.origin == id) || performed_in mine.now.markers group.now.origin) }
     ensures image { (log : History T.Op) (before : model.Entry T.Op) (theirs : model.Group T.Op) → StandsFor T.IsDataOf (parts_of mine.now) log before → StandsForGroup T.IsDeltaOf (group_parts group.now) log theirs
-        → result ≡ is_strange_group id before theirs }
+        → result ≡ is_group_passed_over id before theirs }
 {
     group.origin == id || mine.is_pruned(group.origin)
 }

@@ -40,7 +40,7 @@ impl<T: Replica> Node<T> {
     ghost use Rattle.rd_history.specs.History.{History, IsHistory};
     ghost use Rattle.rd_model.specs.Entry.{Entry};
     ghost use Rattle.rd_model.specs.View.{View, identities_of};
-    ghost use Rattle.rd_model.specs.World.{loaded_node};
+    ghost use Rattle.rd_model.specs.World.{loaded_node, no_entries};
     ghost use Rattle.rd_model.specs.Node.{Node as Member, Input, Level, Fate};
     ghost use Rattle.rd_model.specs.Step.{step};
     ghost use Rattle.rd_kinds.specs.declared.shown.Shown.{Shown};
@@ -60,7 +60,7 @@ impl<T: Replica> Node<T> {
         requires distinct { AreDistinct (map (λ decl. decl.key) keys.now) }
         ensures stands { (kinds : Text → T.Kind) (logs : Text → History T.Op) (view : View)
             → view.number ≡ 0 → identities_of view ≡ members.now → ((key : Text) → IsHistory (logs key)) → AreOfKinds kinds keys.now
-            → IfOk result (λ node. StandsForNode T.kind_of T.IsDataOf kinds logs node (loaded_node (map declared keys.now) id view [])) }
+            → IfOk result (λ node. StandsForNode T.kind_of T.IsDataOf kinds logs node (loaded_node (map declared keys.now) id view no_entries)) }
     {
         let keys = KeyState::all_new(alloc, id, keys)?;
         let members = Vec::from_slice(alloc, members)?;

@@ -143,7 +143,7 @@ pub(crate) fn posts<T: Replica>(
 ) -> Result<Posts<T>, Memory>
     ensures { (D : Replication T.Kind T.Op Shown) (kinds : Name → T.Kind) (logs : Name → History T.Op) (node : Member T.Kind T.Op Shown)
         → D.log_length ≡ 50 → All (IsHeldBy T.kind_of T.IsDataOf T.IsDeltaOf kinds logs id node) keys.now → node.keys ≡ map declared_by keys.now → node.identity ≡ id → identities_of node.view ≡ members.now
-        → IfOk result (λ posts. StandsForPosts T.kind_of T.IsDataOf kinds logs posts (step.flushed D node).output.posts) }
+        → IfOk result (λ posts. StandsForPosts T.kind_of T.IsDataOf kinds logs posts (step.step_of_flush D node).output.posts) }
 {
     let mut posts = Items::new(alloc);
     for peer in members {

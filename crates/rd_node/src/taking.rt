@@ -47,7 +47,7 @@ fn compared<T: SpelledData>(
     ensures kept { IfOk result (λ taken. AreMade (IsKept T.kind_of id) keys.now taken.changes.items) }
     ensures image { (kinds : Name → T.Kind) (logs : Name → History T.Op) (node : Member T.Kind T.Op Shown)
         → AreHeld T.kind_of T.IsDataOf kinds logs id keys.now node.entries → node.keys ≡ map declared_by keys.now
-        → IfOk result (IsTaken T.kind_of T.IsDataOf kinds logs keys.now node (step.taken (spelled_groups T.data_type T.byte_of T.history_spelled) node from Fate.NoStore (Sent.Status (map digest_told digests.now)))) }
+        → IfOk result (IsTaken T.kind_of T.IsDataOf kinds logs keys.now node (step.step_of_take (spelled_groups T.data_type T.byte_of T.history_spelled) node from Fate.NoStore (Sent.Status (map digest_told digests.now)))) }
 {
     let changes = unchanged(alloc, keys)?;
     let posts = answer(alloc, keys, from, digests)?;
@@ -71,7 +71,7 @@ fn brought<T: Replica>(
     ensures image { (digest : T.Kind → Entry T.Op → List ℕ) (kinds : Name → T.Kind) (logs : Name → History T.Op) (node : Member T.Kind T.Op Shown) (sent : Sent T.Op)
         → ArePruneFree logs → AreHeld T.kind_of T.IsDataOf kinds logs id keys.now node.entries → node.identity ≡ id → node.view.number ≡ view → node.keys ≡ map declared_by keys.now
         → StandsForMessage T.kind_of T.IsDataOf kinds logs message.now sent → is_status message.now ≡ false
-        → IfOk result (IsTaken T.kind_of T.IsDataOf kinds logs keys.now node (step.taken (delta_groups T.data_type digest) node from Fate.NoStore sent)) }
+        → IfOk result (IsTaken T.kind_of T.IsDataOf kinds logs keys.now node (step.step_of_take (delta_groups T.data_type digest) node from Fate.NoStore sent)) }
 {
     let mut changes = unchanged(alloc, keys)?;
     let gaps = take_groups(alloc, keys, changes.as_mut_slice(), id, message.groups())?;
@@ -106,7 +106,7 @@ pub(crate) fn taken<T: SpelledData>(
     ensures image { (kinds : Name → T.Kind) (logs : Name → History T.Op) (node : Member T.Kind T.Op Shown) (sent : Sent T.Op)
         → ArePruneFree logs → AreHeld T.kind_of T.IsDataOf kinds logs id keys.now node.entries → node.identity ≡ id → node.view.number ≡ view → node.keys ≡ map declared_by keys.now
         → StandsForMessage T.kind_of T.IsDataOf kinds logs message.now sent
-        → IfOk result (IsTaken T.kind_of T.IsDataOf kinds logs keys.now node (step.taken (spelled_groups T.data_type T.byte_of T.history_spelled) node from Fate.NoStore sent)) }
+        → IfOk result (IsTaken T.kind_of T.IsDataOf kinds logs keys.now node (step.step_of_take (spelled_groups T.data_type T.byte_of T.history_spelled) node from Fate.NoStore sent)) }
 {
     match message {
         Message::Status { digests } => compared(alloc, keys, id, from, digests.as_slice()),

@@ -17,7 +17,6 @@ use Rattle.rd_model.specs.View.{first_view}
 use Rattle.rd_model.specs.Node as nodes
 use Rattle.rd_model.specs.Node.{key_states, state_of}
 use Rattle.rd_model.specs.World as worlds
-use Rattle.rd_model.specs.World.{node_of, view_of}
 use Rattle.rd_model.specs.Report.{line_of, words, key_text, node_text, member_text, final_block}
 use Rattle.rd_kinds.specs.ShownText.{shown_text}
 use Rattle.rd_kinds.specs.declared.shown.Shown.{Shown}
@@ -116,7 +115,7 @@ module _ {T Kind Op Delta : Type 0} {ghosts : Ghosts T Kind Op Delta} (kind_of :
       → new ≡ mid ++ flat_map (λ i. member_text (delta_groups data_type digest) shown_text world (record { identity = i; place = i })) (range_with_len 0 count) → new ≡ start ++ final_block (delta_groups data_type digest) shown_text world
   block_told code world count start mid new stands same begun grown =
       let D = delta_groups data_type digest in
-      let first : first_view count ≡ view_of world = ap first_view same ∙ sym stands.parts.view in
+      let first : first_view count ≡ world.view = ap first_view same ∙ sym stands.parts.view in
       grown ∙ ap₂ (λ (a b : List ℕ). a ++ b) begun (members_told data_type digest world (range_with_len 0 count)) ∙ append_assoc start (codes "final view 0\n") (flat_map (member_text D shown_text world) (first_view count).members)
       ∙ ap (λ t. start ++ (t ++ flat_map (member_text D shown_text world) (first_view count).members)) no_view
       ∙ ap (λ view. start ++ (line_of (codes "final view " ++ decimal view.number) ++ flat_map (member_text D shown_text world) view.members)) first

@@ -8,9 +8,9 @@ use Rattle.rd_history.specs.History.{History}
 use Rattle.rd_model.specs.Entry.{Entry}
 use Rattle.rd_history.specs.History.{IsHistory}
 use Rattle.rd_model.specs.DataType.{DataType, Replication}
-use Rattle.rd_model.specs.World as worlds
-use Rattle.rd_model.specs.World.{start}
-use Rattle.rd_model.specs.Script.{ScriptStep, IsStep, Told, Playing, IsRun, played, played_all, lines_of}
+use Rattle.rd_model.specs.Node.{KeyDecl}
+use Rattle.rd_model.specs.World.{IsRun}
+use Rattle.rd_model.specs.Script.{ScriptStep, IsStep, Told, Playing, none_fails, opening, played, played_all, lines_of}
 use Rattle.rd_model.specs.Report.{told_text, steps_text, final_block, report}
 use Rattle.rd_runs.proofs.Playing.{IsQuietStep, step_is_run, all_append}
 use Rattle.rd_runs.proofs.ScriptLogs.{script_logs, script_unpruned}
@@ -38,10 +38,10 @@ if_ok P Q (Ok x) f h = f x h
 if_ok P Q (Err e) f h = tt
 
 module _ {T Delta : Type 0} {ghosts : Ghosts T Kind Op Delta} (kind_of : T → Kind) (IsDataOf : T → History Op → VersionVector → IdentitySet → Type 0) (kinds : Text → Kind) (logs : Text → History Op)
-    (data_type : DataType Kind Op Shown) (digest : Kind → Entry Op → List ℕ) (first : worlds.World Kind Op Shown) (before : Playing Kind Op Shown) (s t : ScriptStep Op) (same : s ≡ t) (old new : World T Kind Op Delta ghosts) where
+    (data_type : DataType Kind Op Shown) (digest : Kind → Entry Op → List ℕ) (members : ℕ) (decls : List (KeyDecl Kind)) (before : Playing Kind Op Shown) (s t : ScriptStep Op) (same : s ≡ t) (old new : World T Kind Op Delta ghosts) where
   -- what is asked of a step
   abbrev pub Asks : ScriptStep Op → Type 0 → Type 0
-  Asks step Claim = IsRun (delta_groups data_type digest) first before.events before.world → Throughout (delta_groups data_type digest) logs first (played (delta_groups data_type digest) before step) → StandsForWorld kind_of IsDataOf kinds logs old before.world → Claim
+  Asks step Claim = IsRun (delta_groups data_type digest) members decls before.events before.world → Throughout (delta_groups data_type digest) logs members decls (played (delta_groups data_type digest) before step) → StandsForWorld kind_of IsDataOf kinds logs old before.world → Claim
 
   -- a step with one event
   pub by_event : (event : Event) {E : Type 0} (result : Result (List Event) E) → Asks t (StandsForWorld kind_of IsDataOf kinds logs new (played (delta_groups data_type digest) before t).world) → Asks t (IsNextLine event before (played (delta_groups data_type digest) before t))
@@ -90,56 +90,59 @@ are_quiet D (Round ∷ steps) = (tt, are_quiet D steps)
 -- ALL STEPS
 
 module _ (data_type : DataType Kind Op Shown) (digest : Kind → Entry Op → List ℕ) (script : Script) where
+  -- the declared keys
+  abbrev pub decls : List (KeyDecl Kind)
+  decls = map decl_of (in_order script.keys)
+
   -- before the first step
-  abbrev pub opening : Playing Kind Op Shown
-  opening = record { world = start script.members (map decl_of (in_order script.keys)); keepers = λ place. []; events = []; lines = [] }
+  abbrev pub before_all : Playing Kind Op Shown
+  before_all = opening none_fails script.members decls
 
   -- after the last step
   abbrev pub ending : Playing Kind Op Shown
-  ending = played_all (delta_groups data_type digest) opening (map step_of script.steps)
+  ending = played_all (delta_groups data_type digest) before_all (map step_of script.steps)
 
   abbrev pub whole : Text
-  whole = report (delta_groups data_type digest) shown_text (λ place. []) script.members (map decl_of (in_order script.keys)) (map step_of script.steps)
+  whole = report (delta_groups data_type digest) shown_text none_fails script.members decls (map step_of script.steps)
 
   -- the logs of the whole run
   pub record AreRunLogs (logs : Text → History Op) : Type 0 where
     pub histories : (key : Text) → IsHistory (logs key)
-    pub way : Throughout (delta_groups data_type digest) logs opening.world ending
+    pub way : Throughout (delta_groups data_type digest) logs script.members decls ending
 
   -- the step with this number is the next, and these are left: the text so far and that of what is left are the whole
   pub record IsStage {T Delta : Type 0} {ghosts : Ghosts T Kind Op Delta} (kind_of : T → Kind) (IsDataOf : T → History Op → VersionVector → IdentitySet → Type 0) (kinds : Text → Kind) (logs : Text → History Op) (number : ℕ) (left : List Step) (code : World T Kind Op Delta ghosts) (text : List ℕ) (p : Playing Kind Op Shown) : Type 0 where
     pub fresh : p.lines ≡ []
-    pub is_run : IsRun (delta_groups data_type digest) opening.world p.events p.world
+    pub is_run : IsRun (delta_groups data_type digest) script.members decls p.events p.world
     pub stands : StandsForWorld kind_of IsDataOf kinds logs code p.world
     pub ends : played_all (delta_groups data_type digest) p (map step_of left) ≡ ending
     pub told : text ++ (steps_text (delta_groups data_type digest) shown_text number (lines_of (delta_groups data_type digest) p (map step_of left)) ++ final_block (delta_groups data_type digest) shown_text ending.world) ≡ whole
 
   -- there are such logs
-  pub run_logs : script.members ≤ 8 → (logs : Text → History Op) × AreRunLogs logs
-  run_logs few =
+  pub run_logs : 1 ≤ script.members → script.members ≤ 8 → (logs : Text → History Op) × AreRunLogs logs
+  run_logs some few =
       let D = delta_groups data_type digest in
-      let keys = map decl_of (in_order script.keys) in
       let steps = map step_of script.steps in
-      let all = script_logs D script.members keys (λ place. []) steps (omega arith) (are_steps script.steps) in
-      let plain = script_unpruned D script.members keys (λ place. []) steps all.0 (are_steps script.steps) (are_quiet D script.steps) all.1 in (
+      let all = script_logs D script.members decls none_fails steps some (omega arith) (are_steps script.steps) in
+      let plain = script_unpruned D script.members decls none_fails steps all.0 (are_steps script.steps) (are_quiet D script.steps) all.1 in (
         all.0,
         record { histories = all.1.last.histories; way = record { logged = all.1.throughout; prune_free = λ key origin before r removed has is. (plain key).none origin before removed r has is } },
       )
 
   module _ {T Delta : Type 0} {ghosts : Ghosts T Kind Op Delta} (kind_of : T → Kind) (IsDataOf : T → History Op → VersionVector → IdentitySet → Type 0) (kinds : Text → Kind) (logs : Text → History Op) where
-    pub first_stage : (code : World T Kind Op Delta ghosts) (text : List ℕ) → StandsForWorld kind_of IsDataOf kinds logs code opening.world → text ≡ [] → IsStage kind_of IsDataOf kinds logs 1 script.steps code text opening
-    first_stage code text stands none =
+    pub first_stage : (code : World T Kind Op Delta ghosts) (text : List ℕ) → StandsForWorld kind_of IsDataOf kinds logs code before_all.world → text ≡ [] → 1 ≤ script.members → script.members ≤ 8 → IsStage kind_of IsDataOf kinds logs 1 script.steps code text before_all
+    first_stage code text stands none some few =
         record {
           fresh = refl;
-          is_run = record { leads = refl; lawful = tt };
+          is_run = record { some = some; few = omega arith; lawful = tt; leads = refl };
           stands = stands;
           ends = refl;
-          told = ap (λ t. t ++ (steps_text (delta_groups data_type digest) shown_text 1 (lines_of (delta_groups data_type digest) opening (map step_of script.steps)) ++ final_block (delta_groups data_type digest) shown_text ending.world)) none;
+          told = ap (λ t. t ++ (steps_text (delta_groups data_type digest) shown_text 1 (lines_of (delta_groups data_type digest) before_all (map step_of script.steps)) ++ final_block (delta_groups data_type digest) shown_text ending.world)) none;
         }
 
     -- the way to the end goes on over the next step
     pub way_on : (number : ℕ) (step : Step) (left : List Step) (code : World T Kind Op Delta ghosts) (text : List ℕ) (p : Playing Kind Op Shown) → IsStage kind_of IsDataOf kinds logs number (step ∷ left) code text p → AreRunLogs logs
-        → Throughout (delta_groups data_type digest) logs opening.world (played (delta_groups data_type digest) p (step_of step))
+        → Throughout (delta_groups data_type digest) logs script.members decls (played (delta_groups data_type digest) p (step_of step))
     way_on number step left code text p stage all =
         let D = delta_groups data_type digest in
         let q = played D p (step_of step) in
@@ -157,7 +160,7 @@ module _ (data_type : DataType Kind Op Shown) (digest : Kind → Entry Op → Li
         let lines : q.lines ≡ plays.told.0 = plays.told.1 ∙ ap (λ ls. ls ++ plays.told.0) stage.fresh in
         record {
           fresh = refl;
-          is_run = step_is_run D opening.world p (step_of step) (is_step step) stage.is_run;
+          is_run = step_is_run D script.members decls p (step_of step) (is_step step) stage.is_run;
           stands = plays.stands;
           ends = stage.ends;
           told =

@@ -4,7 +4,7 @@ use Rattle.rd_history.specs.Texts.{Text, text_lt}
 use Rattle.rd_history.specs.History.{History}
 use Rattle.rd_model.specs.DataType.{DataType}
 use Rattle.rd_model.specs.Node.{KeyDecl, Level}
-use Rattle.rd_model.specs.Script.{ScriptStep}
+use Rattle.rd_model.specs.Script.{ScriptStep, none_fails}
 use Rattle.rd_model.specs.Report.{report}
 use Rattle.rd_kinds.specs.ShownText.{shown_text}
 use Rattle.rd_kinds.specs.declared.kind.Kind.{Kind}
@@ -52,4 +52,4 @@ in_order keys = ordered (λ key. key.key) keys
 -- this is the report of the script's run over values of the data type, where the digests of entries are those of their spellings
 abbrev pub IsReport : DataType Kind Op Shown → (Kind → ℕ) → (Kind → History Op → List ℕ) → Script → List ℕ → Type 0
 IsReport data_type byte_of history_spelled script text =
-    text ≡ report (spelled_groups data_type byte_of history_spelled) shown_text (λ place. []) script.members (map decl_of (in_order script.keys)) (map step_of script.steps)
+    text ≡ report (spelled_groups data_type byte_of history_spelled) shown_text none_fails script.members (map decl_of (in_order script.keys)) (map step_of script.steps)

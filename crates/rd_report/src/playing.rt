@@ -1,8 +1,9 @@
 ghost use Rattle.std.specs.Prelude.{◌≡◌, ◌∷◌, [], ℕ, List, string_bytes, IfOk};
 ghost use Rattle.rd_history.specs.Texts.{Text as Name};
 ghost use Rattle.rd_history.specs.History.{History};
-ghost use Rattle.rd_model.specs.World.{World as Modelled};
-ghost use Rattle.rd_model.specs.Script.{Playing, IsRun, played};
+ghost use Rattle.rd_model.specs.Node.{KeyDecl as Declared};
+ghost use Rattle.rd_model.specs.World.{IsRun};
+ghost use Rattle.rd_model.specs.Script.{Playing, played};
 ghost use Rattle.rd_kinds.specs.declared.shown.Shown.{Shown};
 ghost use Rattle.rd_node.specs.Members.{spelled_groups};
 ghost use Rattle.rd_script.specs.WellFormed.{IsStep, IsWellFormed};
@@ -38,9 +39,9 @@ fn play<T: SpelledData<Kind = Kind, Op = Op>>(
     step: &Step,
 ) -> Result<Events, Memory>
     requires { IsStep step.now }
-    ensures { (kinds : Name → Kind) (logs : Name → History Op) (first : Modelled Kind Op Shown) (before : Playing Kind Op Shown)
+    ensures { (kinds : Name → Kind) (logs : Name → History Op) (members : ℕ) (decls : List (Declared Kind)) (before : Playing Kind Op Shown)
         → let D = spelled_groups T.data_type T.byte_of T.history_spelled in let after = played D before (step_of step.now) in
-        IsRun D first before.events before.world → Throughout D logs first after → StandsForWorld T.kind_of T.IsDataOf kinds logs world.old before.world
+        IsRun D members decls before.events before.world → Throughout D logs members decls after → StandsForWorld T.kind_of T.IsDataOf kinds logs world.old before.world
         → IfOk result (Plays T.kind_of T.IsDataOf kinds logs before after world.new) }
 {
     match step {

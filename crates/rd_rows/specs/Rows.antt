@@ -1,59 +1,17 @@
 -- Worked scripts and their reports, which the model computes.
-use Rattle.std.specs.Prelude.{◌≡◌, ℕ, suc, ◌==◌, List, [], ◌∷◌, ◌++◌, map, Bool, true, false, if◌then◌else◌, Option, None, Some, ℤ, pos, negsuc, codes, decimal, flat_map, slice_index}
-use Rattle.std.specs.List.{join_with_byte}
-use Rattle.rd_history.specs.Texts.{Text}
-use Rattle.rd_history.specs.Table.{identities}
-use Rattle.rd_history.specs.Vector.{members_of}
-use Rattle.rd_history.specs.History.{History, versions}
+use Rattle.std.specs.Prelude.{◌≡◌, ℕ, ◌==◌, List, [], ◌∷◌, ◌++◌, if◌then◌else◌, None, Some, codes, flat_map, slice_index}
+use Rattle.rd_history.specs.History.{History}
 use Rattle.rd_history.specs.History.Action.{Operation, Prune}
-use Rattle.rd_model.specs.Entry.{Entry, Mark, mark_at}
-use Rattle.rd_model.specs.DataType.{Replication}
-use Rattle.rd_kinds.specs.declared.kind.Kind.{Kind}
+use Rattle.rd_kinds.specs.SixKinds.{shown}
 use Rattle.rd_kinds.specs.declared.operation.Op.{Op}
-use Rattle.rd_kinds.specs.declared.shown.Shown.{Shown}
-use Rattle.rd_kinds.specs.SixKinds.{six_kinds, shown}
-use Rattle.rd_kinds.specs.ShownText.{shown_text}
 use Rattle.rd_kinds.specs.declared.kind.Kind.TheVariants.{GCounter, PnCounter, GSet, OrSet, Flag, LwwRegister}
 use Rattle.rd_kinds.specs.declared.operation.Op.TheVariants.{Increment, Decrement, Add, Remove, Enable, Assign}
-use Rattle.rd_kinds.specs.declared.shown.Shown.TheVariants.{Count, Signed, Elements, Switch, Written}
-use Rattle.rd_model.specs.Node.{KeyDecl}
+use Rattle.rd_kinds.specs.declared.shown.Shown.TheVariants.{Elements}
 use Rattle.rd_model.specs.Node.Level.{Local, To, Majority}
-use Rattle.rd_model.specs.Script.{ScriptStep, played_all}
+use Rattle.rd_model.specs.Script.{ScriptStep}
 use Rattle.rd_model.specs.Script.ScriptStep.{Update, Get, Flush, Gossip, Deliver, Lose, Round, Tick, Timeout, Join, Restart, Install, Settle}
-use Rattle.rd_model.specs.Report as Report
-use Rattle.rd_model.specs.Report.{line_of, final_block, opening}
-
-abbrev pub mark_digest : Option Mark → List ℕ
-mark_digest None = 0 ∷ []
-mark_digest (Some mark) = (1 ∷ mark.view ∷ mark.owner ∷ members_of mark.seen) ++ 64 ∷ []
-
--- numbers that tell the entries of these scripts apart
-abbrev pub plain_digest : Kind → Entry Op → List ℕ
-plain_digest kind entry = map (versions entry.history) identities ++ flat_map (λ r. mark_digest (mark_at entry.marks r)) identities
-
--- the six kinds at members that keep 50 own records for groups
-abbrev pub data_type : Replication Kind Op Shown
-data_type = record { data_type = six_kinds; digest = plain_digest; log_length = 50 }
-
-abbrev pub key : Text → Kind → KeyDecl Kind
-key name kind = record { name = name; kind = kind; durable = false }
-
-abbrev pub durable_key : Text → Kind → KeyDecl Kind
-durable_key name kind = record { name = name; kind = kind; durable = true }
-
--- the keeper of one place answers so, and all others Ok
-abbrev pub at_place : ℕ → List Bool → ℕ → List Bool
-at_place place answers q = if q == place then answers else []
-
-abbrev pub report_with : (ℕ → List Bool) → ℕ → List (KeyDecl Kind) → List (ScriptStep Op) → Text
-report_with = Report.report data_type shown_text
-
-abbrev pub report : ℕ → List (KeyDecl Kind) → List (ScriptStep Op) → Text
-report = report_with (λ place. [])
-
--- the final block alone
-abbrev pub final : ℕ → List (KeyDecl Kind) → List (ScriptStep Op) → Text
-final members keys steps = final_block data_type shown_text (played_all data_type (opening data_type shown_text (λ place. []) members keys) steps).world
+use Rattle.rd_model.specs.Report.{line_of}
+use Rattle.rd_rows.specs.Words.{key, durable_key, failing_at, report_with, report, final}
 
 -- a history of four records: two adds of x, a prune of identity 2 by identity 0, and a remove of x by identity 1
 abbrev pub counts : List ℕ → ℕ → ℕ
@@ -621,7 +579,7 @@ Carts =
 
 abbrev pub FailingStore : Type 0
 FailingStore =
-    report_with (at_place 1 (true ∷ false ∷ [])) 2 (durable_key (codes "d") GCounter ∷ [])
+    report_with (failing_at 1 (2 ∷ [])) 2 (durable_key (codes "d") GCounter ∷ [])
     (Update 1 (codes "d") (Increment 1) Local ∷ Update 1 (codes "d") (Increment 2) Local ∷ Get 1 (codes "d") Local ∷ Restart 1 ∷ Get 2 (codes "d") Local ∷ [])
     ≡ flat_map line_of
     (codes "1 update 1 d done"
@@ -638,7 +596,7 @@ FailingStore =
 
 abbrev pub FailingLoad : Type 0
 FailingLoad =
-    report_with (at_place 1 (true ∷ true ∷ false ∷ [])) 2 (durable_key (codes "d") GCounter ∷ [])
+    report_with (failing_at 1 (3 ∷ [])) 2 (durable_key (codes "d") GCounter ∷ [])
     (Update 1 (codes "d") (Increment 1) Local ∷ Update 1 (codes "d") (Increment 2) Local ∷ Get 1 (codes "d") Local ∷ Restart 1 ∷ Get 2 (codes "d") Local ∷ [])
     ≡ flat_map line_of
     (codes "1 update 1 d done"

@@ -1,4 +1,6 @@
 ghost use Rattle.rd_rows.specs.Rows.{Meanings, EmptyScript, OneMember, Repeats, AddWins, DeltaOvertakesItsCause, PrunedCounter, BlockedPrune, ReplacedDot, OwnerDeparts, LateMessages, RestartedMember, MajorityWriteAndRead, TimedOutWrite, RegisterWrites, Refusals, OtherKinds, FiftyDeltas, FiftyOneDeltas, Carts, FailingStore, FailingLoad, GeneratedScript, TwoMembers, FlushedRegister, GossipedCounter, ThreeMembers};
+ghost use Rattle.rd_rows.specs.Borders.{SecondPrune, NackedWrite, FailingTick, BlockedSettle, EmptyRead, FullMember, BlockedMinus, FailingClear, JoinAfterStored, FailingInstall, TooManyIdentities, NewerMark, SetFull};
+ghost use Rattle.rd_kinds.specs.declared.kind.Kind.TheVariants.{GSet, OrSet};
 
 /// What the model makes of worked scripts.
 pub fn worked_rows()
@@ -29,4 +31,22 @@ pub fn worked_rows()
     ensures flushed_register { FlushedRegister }
     ensures gossiped_counter { GossipedCounter }
     ensures three_members { ThreeMembers }
+{}
+
+/// What the model makes of scripts at the borders.
+pub fn borders()
+    ensures second_prune { SecondPrune }
+    ensures nacked_write { NackedWrite }
+    ensures failing_tick { FailingTick }
+    ensures blocked_settle { BlockedSettle }
+    ensures empty_read { EmptyRead }
+    ensures full_member { FullMember }
+    ensures blocked_minus { BlockedMinus }
+    ensures failing_clear { FailingClear }
+    ensures join_after_stored { JoinAfterStored }
+    ensures failing_install { FailingInstall }
+    ensures too_many_identities { TooManyIdentities }
+    ensures newer_mark { NewerMark }
+    ensures growing_set_full { SetFull GSet }
+    ensures set_full { SetFull OrSet }
 {}

@@ -1,13 +1,14 @@
 -- In every run each key, origin and number names one record: all histories are parts of one log for each key.
-use Rattle.std.proofs.Common.{◌≡◌, ℕ, ◌+◌, ◌<◌, List, [], ◌∷◌, ◌++◌, length, take, drop, refl, sym, ap, subst, ◌∙◌, arith, Bool, true, false, Some, None, inl, inr}
-use Rattle.std.specs.Prelude.{if◌then◌else◌, slice_get, ⊤, ◌==◌, nat_le}
+use Rattle.std.proofs.Common.{◌≡◌, ℕ, ◌+◌, ◌<◌, List, [], ◌∷◌, length, take, drop, refl, sym, ap, subst, ◌∙◌, arith, Bool, true, false, Option, Some, None, inl, inr}
+use Rattle.std.specs.Prelude.{if◌then◌else◌, slice_get, ⊤, ◌==◌, nat_le, unwrap_or}
 use Rattle.std.specs.List.{AllByRecursion}
+use Rattle.std.specs.Str.{bytes_eq}
 use Rattle.std.proofs.lemmas.Bool.Decides.{eqb_tells}
 use Rattle.rd_history.specs.Texts.{Text}
 use Rattle.rd_history.specs.Table.{identity_limit, with_at}
 use Rattle.rd_model.specs.View.{View}
 use Rattle.rd_history.specs.History.{History, at, IsPartOf, IsHistory}
-use Rattle.rd_model.specs.Entry.{Entry, Group, seen_by}
+use Rattle.rd_model.specs.Entry.{Entry, Group, empty_entry, seen_by}
 use Rattle.rd_model.specs.DataType.{Replication}
 use Rattle.rd_model.specs.Message.{Keyed, Message, Post, entries_in, groups_in}
 use Rattle.rd_model.specs.Message.Message.{Deltas, Nack, Status, Gossip, Write, WriteAck, WriteNack, Read, ReadAnswer}
@@ -16,17 +17,17 @@ use Rattle.rd_model.specs.Node.Input.{Update, Get, Take, Install, Flush, GossipT
 use Rattle.rd_model.specs.Node.Fate.{NoStore, Stored, StoreFailed}
 use Rattle.rd_model.specs.Node.Reply.{OldView, NotStored, Installed}
 use Rattle.rd_model.specs.Step.{step, answered, has_failed}
-use Rattle.rd_model.specs.World.{Link, Links, with_link, with_post, with_posts, moved_on, after_store, without_keys}
+use Rattle.rd_model.specs.World.{Link, Links, Store, with_link, with_post, with_posts, moved_on, after_store, with_stored}
 use Rattle.rd_history.specs.Log.{IsTakenFrom}
 use Rattle.rd_model.specs.Entry.{IsGroupOf}
 use Rattle.rd_runs.specs.Logs.{IsMessageOf, HasNoPrunes}
 use Rattle.rd_history.proofs.HistoryLaws.{with_at_same, with_at_other, slice_get-push}
 use Rattle.rd_history.proofs.PartLaws.{take_whole, taken_grown}
-use Rattle.rd_runs.proofs.Keeping.{AnyTick, NoTick, AreKept, IsKnown, IsKnownInput, keeps_step, if_holds}
+use Rattle.rd_runs.proofs.Keeping.{AnyTick, NoTick, AreKept, IsKnown, IsKnownInput, keeps_step, if_holds, same_text}
 use Rattle.rd_runs.proofs.Stepping.{BringsInput, keeps_any}
 use Rattle.rd_runs.proofs.Unpruned.{IsMinePlain, quiet_kept}
 use Rattle.rd_runs.proofs.Mine.{IsMine, log_grown, group_grown, mine_kept}
-use Rattle.rd_runs.proofs.Sending.{all_filtered, all_both, IsOwnGroup, IsFrom, AreFrom}
+use Rattle.rd_runs.proofs.Sending.{all_both, IsOwnGroup, IsFrom, AreFrom}
 
 -- A MEMBER'S STEP
 
@@ -144,8 +145,8 @@ module _ {Kind Op Shown : Type 0} (D : Replication Kind Op Shown) (logs : Text �
     pub own_entry : (key : Text) (entry : Entry Op) → entry ≡ node.entries key → IsTakenFrom (logs_after key) entry.history
     own_entry key entry e = subst (λ (x : Entry Op). IsTakenFrom (logs_after key) x.history) (sym e) (owns.mine key).taken
 
-    own_group : (key : Text) (group : Group Op) → IsOwnGroup node.entries node.identity key group → IsGroupOf (logs_after key) group
-    own_group key group own =
+    own_group : (to : ℕ) (key : Text) (group : Group Op) → IsOwnGroup node.entries node.identity to key group → IsGroupOf (logs_after key) group
+    own_group to key group own =
         let o : group.origin ≡ i = own.origin ∙ owns.identity in
         let row : logs_after key group.origin ≡ (node.entries key).history i = ap (logs_after key) o ∙ with_at_same (logs key) i _ in
         let upto : group.upto ≡ at (node.entries key).history i = own.upto ∙ ap (at (node.entries key).history) owns.identity in
@@ -155,33 +156,30 @@ module _ {Kind Op Shown : Type 0} (D : Replication Kind Op Shown) (logs : Text �
           these = own.these ∙ ap (λ j. drop group.after ((node.entries key).history j)) owns.identity ∙ ap (drop group.after) (sym (ap (take group.upto) row ∙ ap (λ n. take n ((node.entries key).history i)) upto ∙ take_whole ((node.entries key).history i)));
         }
 
-    pub own_message : (message : Message Op) → IsFrom node.entries node.identity message → IsMessageOf logs_after message
-    own_message message from =
+    pub own_message : (to : ℕ) (message : Message Op) → IsFrom node.entries node.identity to message → IsMessageOf logs_after message
+    own_message to message from =
         record {
           entries = all_both _ _ _ (λ e p q. own_entry e.key e.item p) (entries_in message) from.entries from.entries;
-          groups = all_both _ _ _ (λ g p q. own_group g.key g.item p) (groups_in message) from.groups from.groups;
+          groups = all_both _ _ _ (λ g p q. own_group to g.key g.item p) (groups_in message) from.groups from.groups;
         }
 
     pub own_stored : (es : List (Keyed (Entry Op))) → AllByRecursion (λ (e : Keyed (Entry Op)). e.item ≡ node.entries e.key) es → AllByRecursion (λ (e : Keyed (Entry Op)). IsTakenFrom (logs_after e.key) e.item.history) es
     own_stored es all = all_both (λ (e : Keyed (Entry Op)). e.item ≡ node.entries e.key) (λ (e : Keyed (Entry Op)). e.item ≡ node.entries e.key) (λ (e : Keyed (Entry Op)). IsTakenFrom (logs_after e.key) e.item.history) (λ e p q. own_entry e.key e.item p) es all all
 
     pub own_posts : (posts : List (Post Op)) → AreFrom node.entries node.identity posts → AllByRecursion (λ (post : Post Op). IsMessageOf logs_after post.message) posts
-    own_posts posts all = all_both (λ (post : Post Op). IsFrom node.entries node.identity post.message) (λ (post : Post Op). IsFrom node.entries node.identity post.message) (λ (post : Post Op). IsMessageOf logs_after post.message) (λ post p q. own_message post.message p) posts all all
-
-    pub stored_grown : (es : List (Keyed (Entry Op))) → AllByRecursion (λ (e : Keyed (Entry Op)). IsTakenFrom (logs e.key) e.item.history) es → AllByRecursion (λ (e : Keyed (Entry Op)). IsTakenFrom (logs_after e.key) e.item.history) es
-    stored_grown es all = all_both (λ (e : Keyed (Entry Op)). IsTakenFrom (logs e.key) e.item.history) (λ (e : Keyed (Entry Op)). IsTakenFrom (logs e.key) e.item.history) (λ (e : Keyed (Entry Op)). IsTakenFrom (logs_after e.key) e.item.history) (λ e p q. entry_grown e.key e.item.history p) es all all
+    own_posts posts all = all_both (λ (post : Post Op). IsFrom node.entries node.identity post.to post.message) (λ (post : Post Op). IsFrom node.entries node.identity post.to post.message) (λ (post : Post Op). IsMessageOf logs_after post.message) (λ post p q. own_message post.to post.message p) posts all all
 
 -- LINKS
 
--- what holds of all messages, by their senders
-module _ {Op : Type 0} (Q : ℕ → Message Op → Type 0) where
+-- what holds of all messages, by their senders and receivers
+module _ {Op : Type 0} (Q : ℕ → ℕ → Message Op → Type 0) where
   abbrev pub AllMessages : Links Op → Type 0
-  AllMessages links = (from to index : ℕ) (message : Message Op) → slice_get (links from to).messages index ≡ Some message → Q from message
+  AllMessages links = (from to index : ℕ) (message : Message Op) → slice_get (links from to).messages index ≡ Some message → Q from to message
 
-  with_link_all : (links : Links Op) (from to : ℕ) (link : Link Op) → AllMessages links → ((index : ℕ) (m : Message Op) → slice_get link.messages index ≡ Some m → Q from m) → AllMessages (with_link links from to link)
+  with_link_all : (links : Links Op) (from to : ℕ) (link : Link Op) → AllMessages links → ((index : ℕ) (m : Message Op) → slice_get link.messages index ≡ Some m → Q from to m) → AllMessages (with_link links from to link)
   with_link_all links from to link all here f t index m e = elim (eqb_tells f from) [
-    | inl is ↦ subst (λ g. Q g m) (sym is.1) (elim (eqb_tells t to) [
-      | inl is' ↦ here index m (sym (ap (λ (l : Link Op). slice_get l.messages index) (row is.1 ∙ ap (λ (r : ℕ → Link Op). r t) (with_at_same links from _) ∙ (ap (with_at (links from) to link) is'.1 ∙ with_at_same (links from) to link))) ∙ e)
+    | inl is ↦ subst (λ g. Q g t m) (sym is.1) (elim (eqb_tells t to) [
+      | inl is' ↦ subst (λ u. Q from u m) (sym is'.1) (here index m (sym (ap (λ (l : Link Op). slice_get l.messages index) (row is.1 ∙ ap (λ (r : ℕ → Link Op). r t) (with_at_same links from _) ∙ (ap (with_at (links from) to link) is'.1 ∙ with_at_same (links from) to link))) ∙ e))
       | inr isnt' ↦ all from t index m (sym (ap (λ (l : Link Op). slice_get l.messages index) (row is.1 ∙ ap (λ (r : ℕ → Link Op). r t) (with_at_same links from _) ∙ with_at_other (links from) to link t isnt'.1)) ∙ e)
     ])
     | inr isnt ↦ all f t index m (sym (ap (λ (r : ℕ → Link Op). slice_get (r t).messages index) (with_at_other links from _ f isnt.1)) ∙ e)
@@ -190,14 +188,14 @@ module _ {Op : Type 0} (Q : ℕ → Message Op → Type 0) where
       row : f ≡ from → with_link links from to link f t ≡ with_link links from to link from t
       row is = ap (λ g. with_link links from to link g t) is
 
-  with_post_all : (from : ℕ) (links : Links Op) (post : Post Op) → AllMessages links → Q from post.message → AllMessages (with_post from links post)
+  with_post_all : (from : ℕ) (links : Links Op) (post : Post Op) → AllMessages links → Q from post.to post.message → AllMessages (with_post from links post)
   with_post_all from links post all q =
       with_link_all links from post.to _ all (λ index m e. elim (slice_get-push (links from post.to).messages post.message m index e) [
         | inl old ↦ all from post.to index m old
-        | inr new ↦ subst (Q from) new.1 q
+        | inr new ↦ subst (Q from post.to) new.1 q
       ])
 
-  pub with_posts_all : (posts : List (Post Op)) (links : Links Op) (from : ℕ) → AllMessages links → AllByRecursion (λ (post : Post Op). Q from post.message) posts → AllMessages (with_posts links from posts)
+  pub with_posts_all : (posts : List (Post Op)) (links : Links Op) (from : ℕ) → AllMessages links → AllByRecursion (λ (post : Post Op). Q from post.to post.message) posts → AllMessages (with_posts links from posts)
   with_posts_all [] links from all qs = all
   with_posts_all (post ∷ posts) links from all qs = with_posts_all posts (with_post from links post) from (with_post_all from links post all qs.0) qs.1
 
@@ -207,16 +205,28 @@ module _ {Op : Type 0} (Q : ℕ → Message Op → Type 0) where
 
 -- STORES
 
-module _ {Op : Type 0} (Q : Keyed (Entry Op) → Type 0) where
-  without_all : (entries store : List (Keyed (Entry Op))) → AllByRecursion Q store → AllByRecursion Q (without_keys entries store)
-  without_all [] store all = all
-  without_all (e ∷ es) store all = all_filtered Q _ (without_keys es store) (without_all es store all)
+-- what holds of each entry of a store
+module _ {Op : Type 0} (Q : Text → Entry Op → Type 0) where
+  abbrev pub AllStored : Store Op → Type 0
+  AllStored store = (key : Text) (entry : Entry Op) → store key ≡ Some entry → Q key entry
 
-  append_all : (xs ys : List (Keyed (Entry Op))) → AllByRecursion Q xs → AllByRecursion Q ys → AllByRecursion Q (xs ++ ys)
-  append_all [] ys p q = q
-  append_all (x ∷ xs) ys p q = (p.0, append_all xs ys p.1 q)
+  with_stored_all : (entries : List (Keyed (Entry Op))) (store : Store Op) → AllByRecursion (λ (e : Keyed (Entry Op)). Q e.key e.item) entries → AllStored store → AllStored (with_stored entries store)
+  with_stored_all [] store new all = all
+  with_stored_all (x ∷ xs) store new all = λ key entry e. by_test key entry (with_stored_all xs store new.1 all key entry) (bytes_eq x.key key) refl e
+    where
+      by_test : (key : Text) (entry : Entry Op) → (with_stored xs store key ≡ Some entry → Q key entry) → (b : Bool) → bytes_eq x.key key ≡ b → (if b then Some x.item else with_stored xs store key) ≡ Some entry → Q key entry
+      by_test key entry later true is e = let same : x.item ≡ entry = cc e in subst (λ k. Q k entry) (same_text x.key key is) (subst (Q x.key) same new.0)
+      by_test key entry later false is e = later e
 
-  pub stored_all : (fate : Fate) (entries store : List (Keyed (Entry Op))) → AllByRecursion Q entries → AllByRecursion Q store → AllByRecursion Q (after_store fate entries store)
+  pub stored_all : (fate : Fate) (entries : List (Keyed (Entry Op))) (store : Store Op) → AllByRecursion (λ (e : Keyed (Entry Op)). Q e.key e.item) entries → AllStored store → AllStored (after_store fate entries store)
   stored_all NoStore entries store new all = all
-  stored_all Stored entries store new all = append_all (without_keys entries store) entries (without_all entries store all) new
+  stored_all Stored entries store new all = with_stored_all entries store new all
   stored_all StoreFailed entries store new all = all
+
+  -- what a new member finds of a key
+  pub found_stored : (store : Store Op) (key : Text) → Q key empty_entry → AllStored store → Q key (unwrap_or (store key) empty_entry)
+  found_stored store key nothing all = by_entry (store key) refl
+    where
+      by_entry : (o : Option (Entry Op)) → store key ≡ o → Q key (unwrap_or o empty_entry)
+      by_entry None e = nothing
+      by_entry (Some entry) e = all key entry e

@@ -1,6 +1,6 @@
--- In every lawful run all histories are parts of one log for each key: one lemma for each kind of event.
+-- In every run all histories are parts of one log for each key: one lemma for each kind of event.
 use Rattle.std.proofs.Common.{◌≡◌, ◌≢◌, ℕ, ◌+◌, ◌-◌, ◌<◌, ◌≤◌, List, [], ◌∷◌, ◌++◌, length, take, map, refl, sym, ap, subst, ◌∙◌, arith, Bool, true, false, Option, Some, None, inl, inr}
-use Rattle.std.specs.Prelude.{⊤, ◌==◌, if◌then◌else◌, slice_get, find, option_map, unwrap_or, nat_lt}
+use Rattle.std.specs.Prelude.{⊤, ◌==◌, if◌then◌else◌, slice_get, find, unwrap_or, nat_lt}
 use Rattle.std.specs.List.{AllByRecursion}
 use Rattle.std.specs.Str.{bytes_eq}
 use Rattle.std.proofs.lemmas.Bool.Decides.{eqb_tells}
@@ -13,11 +13,12 @@ use Rattle.rd_history.specs.History.{Record, History, no_records, at, IsPartOf}
 use Rattle.rd_model.specs.Entry.{Entry, Group, seen_by, empty_entry}
 use Rattle.rd_model.specs.DataType.{Replication}
 use Rattle.rd_model.specs.Message.{Keyed, Message, Post, entries_in, groups_in}
-use Rattle.rd_model.specs.Node.{KeyDecl, Node, Input, Fate}
+use Rattle.rd_model.specs.Node.{KeyDecl, Node, Input, Fate, keyed_entry}
 use Rattle.rd_model.specs.Node.Input.{Update, Get, Take, Install, Flush, GossipTo, PruneTick, Timeout}
 use Rattle.rd_model.specs.Step.{step, to_store}
-use Rattle.rd_model.specs.World.{World, Link, Store, with_posts, after_store, Event, run, start, happens, stepped_at, delivered, message_at, store_of, keyed_entry, loaded_entry, loaded_node, stored_entry, view_of, moved_on, with_view, stopped, started, IsLawful, AreLawful, IsGiven, StepsAt}
+use Rattle.rd_model.specs.World.{World, Link, Store, no_entries, with_posts, after_store, Event, run, start, happens, message_at, loaded_entry, loaded_node, moved_on, with_view, stopped, started, IsLawful, AreLawful, IsGiven, StepsAt, IsRun}
 use Rattle.rd_model.specs.World.Event.{InputAt, Delivery, Loss, Removal, Joining, Restart}
+use Rattle.rd_model.proofs.Cases.{stepped_at, delivered}
 use Rattle.rd_history.specs.Log.{IsTakenFrom}
 use Rattle.rd_runs.specs.Logs.{IsMessageOf, HasLogs, IsLoggedBy, HasNoPrunes, IsNoTick, AreLogsOf}
 use Rattle.rd_history.proofs.HistoryLaws.{with_at_same, with_at_other}
@@ -25,19 +26,11 @@ use Rattle.rd_history.proofs.PartLaws.{take_none, take_whole, taken_grown, part_
 use Rattle.rd_history.proofs.PruneLaws.{found}
 use Rattle.rd_runs.proofs.Keeping.{if_holds, same_text}
 use Rattle.rd_runs.proofs.Unpruned.{group_of_grown, unpruned_part, unpruned_row}
-use Rattle.rd_runs.proofs.Agreement.{grown, quiet_step, own_stored, own_posts, stored_grown, mine_before, IsFair, OwnsAfter, owns_step, logs_after, message_grown, entry_grown, with_posts_all, moved_on_all, stored_all}
+use Rattle.rd_runs.proofs.Agreement.{grown, quiet_step, own_stored, own_posts, mine_before, IsFair, OwnsAfter, owns_step, logs_after, message_grown, entry_grown, with_posts_all, moved_on_all, AllStored, stored_all, found_stored}
 use Rattle.rd_runs.proofs.Sending.{all_both, AreFrom, sends_step, stores_own}
 
 pub with_at_holds : {X : Type 0} (Q : X → Type 0) (table : ℕ → X) (i : ℕ) (x : X) → ((j : ℕ) → Q (table j)) → Q x → (j : ℕ) → Q (with_at table i x j)
 with_at_holds Q table i x all q j = if_holds Q (j == i) x (table j) q (all j)
-
-pub found_all : {X : Type 0} (P : X → Type 0) (p : X → Bool) (xs : List X) (x : X) → find p xs ≡ Some x → AllByRecursion P xs → P x
-found_all P p [] x e all = absurd (cc e)
-found_all P p (y ∷ xs) x e all = go (p y) refl (λ e'. found_all P p xs x e' all.1)
-  where
-    go : (b : Bool) → p y ≡ b → (find p xs ≡ Some x → P x) → P x
-    go true is later = let same : y ≡ x = (let e' = rw is at e in cc e') in subst P same all.0
-    go false is later = later (rw is at e)
 
 module _ {Op : Type 0} where
   -- nothing is a part of every log
@@ -72,7 +65,7 @@ module _ {Kind Op Shown : Type 0} (D : Replication Kind Op Shown) where
     logs' = logs_after D logs i small new after
 
     abbrev place : ℕ
-    place = place_of (view_of world) i
+    place = place_of world.view i
 
     -- one member has changed
     each : (Q : ℕ → Node Kind Op Shown → Type 0) → Q i new → ((j : ℕ) (n : Node Kind Op Shown) → j ≢ i → world.nodes j ≡ Some n → Q j n) → (j : ℕ) (n : Node Kind Op Shown) → with_at world.nodes i (Some new) j ≡ Some n → Q j n
@@ -84,23 +77,25 @@ module _ {Kind Op Shown : Type 0} (D : Replication Kind Op Shown) where
     ]
 
     abbrev changed_world : World Kind Op Shown
-    changed_world = record world { nodes = with_at world.nodes i (Some new); links = with_posts world.links i posts; stores = with_at world.stores place (after_store fate es (store_of world place)) }
+    changed_world = record world { nodes = with_at world.nodes i (Some new); links = with_posts world.links i posts; stores = with_at world.stores place (after_store fate es (world.stores place)) }
+
+    stored_then : (q : ℕ) → AllStored (λ key (entry : Entry Op). IsTakenFrom (logs' key) entry.history) (world.stores q)
+    stored_then q key entry e = entry_grown D logs i small new after key entry.history (has.stored q key entry e)
 
     pub changed_logged : HasLogs logs' changed_world
     changed_logged =
         record {
           few = has.few;
-          given = each (λ j n. j < (view_of world).given) (has.given i node runs) (λ j n isnt e. has.given j n e);
+          given = each (λ j n. j < world.view.given) (has.given i node runs) (λ j n isnt e. has.given j n e);
           identity = each (λ j n. n.identity ≡ j) after.identity (λ j n isnt e. has.identity j n e);
           fresh = λ key j h. ap length (with_at_other (logs key) i ((new.entries key).history i) j (λ e. absurd (let a = has.given i node runs in omega (arith, e)))) ∙ has.fresh key j h;
           histories = λ key. (after.mine key).log;
           own = λ j n key. each (λ j n. (n.entries key).history j ≡ logs' key j) (sym (with_at_same (logs key) i ((new.entries key).history i)))
               (λ j n isnt e. has.own j n key e ∙ sym (with_at_other (logs key) i ((new.entries key).history i) j isnt)) j n;
           held = λ j n key. each (λ j n. IsTakenFrom (logs' key) (n.entries key).history) (after.mine key).taken (λ j n isnt e. entry_grown D logs i small new after key (n.entries key).history (has.held j n key e)) j n;
-          sent = with_posts_all (λ sender. IsMessageOf logs') posts world.links i (λ from to index m e. message_grown D logs i small new after m (has.sent from to index m e)) (own_posts D logs i small new after posts from_new);
-          stored = with_at_holds (λ (store : Store Op). AllByRecursion (λ (e : Keyed (Entry Op)). IsTakenFrom (logs' e.key) e.item.history) store) world.stores place (after_store fate es (store_of world place))
-              (λ q. stored_grown D logs i small new after (world.stores q) (has.stored q))
-              (stored_all (λ (e : Keyed (Entry Op)). IsTakenFrom (logs' e.key) e.item.history) fate es (store_of world place) (own_stored D logs i small new after es es_new) (stored_grown D logs i small new after (world.stores place) (has.stored place)));
+          sent = with_posts_all (λ from to. IsMessageOf logs') posts world.links i (λ from to index m e. message_grown D logs i small new after m (has.sent from to index m e)) (own_posts D logs i small new after posts from_new);
+          stored = with_at_holds (AllStored (λ key (entry : Entry Op). IsTakenFrom (logs' key) entry.history)) world.stores place (after_store fate es (world.stores place)) stored_then
+              (stored_all (λ key (entry : Entry Op). IsTakenFrom (logs' key) entry.history) fate es (world.stores place) (own_stored D logs i small new after es es_new) (stored_then place));
         }
 
   step_logged : (logs : Text → History Op) (world : World Kind Op Shown) → HasLogs logs world → (i : ℕ) (node : Node Kind Op Shown) → world.nodes i ≡ Some node → (small : i < identity_limit) (input : Input Op) (fate : Fate) → IsFair logs input → IsLogged logs (IsCalm input) (stepped_at D world i (Some node) input fate)
@@ -141,29 +136,21 @@ module _ {Kind Op Shown : Type 0} (D : Replication Kind Op Shown) where
 
   -- A NEW MEMBER
 
-  stored_taken : (logs : Text → History Op) (store : Store Op) (key : Text) → AllByRecursion (λ (e : Keyed (Entry Op)). IsTakenFrom (logs e.key) e.item.history) store → IsTakenFrom (logs key) (stored_entry store key).history
-  stored_taken logs store key all = go (find (λ (s : Keyed (Entry Op)). bytes_eq s.key key) store) refl
-    where
-      go : (o : Option (Keyed (Entry Op))) → find (λ (s : Keyed (Entry Op)). bytes_eq s.key key) store ≡ o → IsTakenFrom (logs key) (unwrap_or (option_map (λ (s : Keyed (Entry Op)). s.item) o) empty_entry).history
-      go None e = taken_nothing (logs key)
-      go (Some s) e =
-          subst (λ k. IsTakenFrom (logs k) s.item.history) (same_text s.key key (found (λ (s : Keyed (Entry Op)). bytes_eq s.key key) store s e))
-          (found_all (λ (s : Keyed (Entry Op)). IsTakenFrom (logs s.key) s.item.history) (λ (s : Keyed (Entry Op)). bytes_eq s.key key) store s e all)
-
-  loaded_taken : (logs : Text → History Op) (i : ℕ) (view : View) (store : Store Op) (name : Text) (o : Option (KeyDecl Kind)) → ((key : KeyDecl Kind) → o ≡ Some key → key.name ≡ name) → AllByRecursion (λ (e : Keyed (Entry Op)). IsTakenFrom (logs e.key) e.item.history) store
+  loaded_taken : (logs : Text → History Op) (i : ℕ) (view : View) (store : Store Op) (name : Text) (o : Option (KeyDecl Kind)) → ((key : KeyDecl Kind) → o ≡ Some key → key.name ≡ name) → AllStored (λ key (entry : Entry Op). IsTakenFrom (logs key) entry.history) store
       → IsTakenFrom (logs name) (loaded_entry i view store o).history
   loaded_taken logs i view store name None named all = taken_nothing (logs name)
   loaded_taken logs i view store name (Some key) named all =
-      if_holds (λ (e : Entry Op). IsTakenFrom (logs name) e.history) key.durable (seen_by i view.number (stored_entry store key.name)) empty_entry
-      (subst (λ n. IsTakenFrom (logs n) (stored_entry store key.name).history) (named key refl) (stored_taken logs store key.name all)) (taken_nothing (logs name))
+      let found = unwrap_or (store key.name) empty_entry in
+      if_holds (λ (e : Entry Op). IsTakenFrom (logs name) e.history) key.durable (seen_by i view.number found) empty_entry
+      (subst (λ n. IsTakenFrom (logs n) found.history) (named key refl) (found_stored (λ key (entry : Entry Op). IsTakenFrom (logs key) entry.history) store key.name (taken_nothing (logs key.name)) all)) (taken_nothing (logs name))
 
-  start_logged : (logs : Text → History Op) (world : World Kind Op Shown) → HasLogs logs world → (view : View) (place : ℕ) → view.given ≡ (view_of world).given + 1 → (view_of world).given < identity_limit → (world' : World Kind Op Shown) → world'.view ≡ view
-      → world'.links ≡ world.links → ((q : ℕ) → AllByRecursion (λ (e : Keyed (Entry Op)). IsTakenFrom (logs e.key) e.item.history) (world'.stores q))
+  start_logged : (logs : Text → History Op) (world : World Kind Op Shown) → HasLogs logs world → (view : View) (place : ℕ) → view.given ≡ world.view.given + 1 → world.view.given < identity_limit → (world' : World Kind Op Shown) → world'.view ≡ view
+      → world'.links ≡ world.links → ((q : ℕ) → AllStored (λ key (entry : Entry Op). IsTakenFrom (logs key) entry.history) (world'.stores q))
       → ((j : ℕ) (n : Node Kind Op Shown) → world'.nodes j ≡ Some n → world.nodes j ≡ Some n) → HasLogs logs (started world' view place)
   start_logged logs world has view place one_more room world' now links stores nodes =
-      let given_now : (view_of world').given ≡ (view_of world).given + 1 = ap (λ (v : View). v.given) now ∙ one_more in
+      let given_now : world'.view.given ≡ world.view.given + 1 = ap (λ (v : View). v.given) now ∙ one_more in
       let i = view.given - 1 in
-      let i_is : i ≡ (view_of world).given = omega arith in
+      let i_is : i ≡ world.view.given = omega arith in
       let new : Node Kind Op Shown = loaded_node world'.keys i view (world'.stores place) in
       let taken : (key : Text) → IsTakenFrom (logs key) (new.entries key).history =
       (λ key. loaded_taken logs i view (world'.stores place) key (find (λ (d : KeyDecl Kind). bytes_eq d.name key) world'.keys) (λ d e. same_text d.name key (found (λ (d : KeyDecl Kind). bytes_eq d.name key) world'.keys d e)) (stores place)) in
@@ -171,7 +158,7 @@ module _ {Kind Op Shown : Type 0} (D : Replication Kind Op Shown) where
       (λ Q here old. changed_nodes world'.nodes i new Q here (λ j n e. old j n (nodes j n e))) in
       record {
         few = omega arith;
-        given = each (λ j n. j < (view_of world').given) (omega arith) (λ j n e. let a = has.given j n e in omega arith);
+        given = each (λ j n. j < world'.view.given) (omega arith) (λ j n e. let a = has.given j n e in omega arith);
         identity = each (λ j n. n.identity ≡ j) refl has.identity;
         fresh = λ key j h. has.fresh key j (omega arith);
         histories = has.histories;
@@ -221,7 +208,7 @@ module _ {Kind Op Shown : Type 0} (D : Replication Kind Op Shown) where
         own = has.own;
         held = has.held;
         stored = has.stored;
-        sent = moved_on_all (λ sender. IsMessageOf logs) world.links from to index has.sent;
+        sent = moved_on_all (λ from to. IsMessageOf logs) world.links from to index has.sent;
       }
 
   delivered_logged : (logs : Text → History Op) (world : World Kind Op Shown) (has : HasLogs logs world) (from to index : ℕ) (message : Message Op) (o : Option (Message Op)) → o ≡ Some message → IsMessageOf logs message → (fate : Fate) → StepsAt D world to (Take from message) fate → IsLogged logs ⊤ (delivered D world from to index o fate)
@@ -230,7 +217,7 @@ module _ {Kind Op Shown : Type 0} (D : Replication Kind Op Shown) where
       (stepped_logged logs (record world { links = moved_on world.links from to index }) (moved_logged logs world has from to index) to (Take from message) fate
       (record { node = at_step.node; runs = at_step.runs; has_room = at_step.has_room; fate_fits = at_step.fate_fits }) of_logs)
 
-  removed_logged : (logs : Text → History Op) (world : World Kind Op Shown) → HasLogs logs world → (i : ℕ) → HasLogs logs (with_view (stopped world i) (without_member (view_of world) i))
+  removed_logged : (logs : Text → History Op) (world : World Kind Op Shown) → HasLogs logs world → (i : ℕ) → HasLogs logs (with_view (stopped world i) (without_member world.view i))
   removed_logged logs world has i =
       record {
         few = let a = has.few in omega arith;
@@ -251,13 +238,13 @@ module _ {Kind Op Shown : Type 0} (D : Replication Kind Op Shown) where
   happens_logged logs world has (Loss from to) lawful = same_logs logs ⊤ _ (moved_logged logs world has from to (world.links from to).next)
   happens_logged logs world has (Removal i) lawful = same_logs logs ⊤ _ (removed_logged logs world has i)
   happens_logged logs world has (Joining place) lawful =
-      let view = with_joined (view_of world) place in
+      let view = with_joined world.view place in
       same_logs logs ⊤ _
-      (start_logged logs world has view place refl lawful.2 (with_view (record world { stores = with_at world.stores place [] }) view) refl refl
-      (with_at_holds (λ (store : Store Op). AllByRecursion (λ (e : Keyed (Entry Op)). IsTakenFrom (logs e.key) e.item.history) store) world.stores place [] has.stored tt) (λ j n e. e))
+      (start_logged logs world has view place refl lawful.2 (with_view (record world { stores = with_at world.stores place no_entries }) view) refl refl
+      (with_at_holds (AllStored (λ key (entry : Entry Op). IsTakenFrom (logs key) entry.history)) world.stores place no_entries has.stored (λ key entry e. absurd (cc e))) (λ j n e. e))
   happens_logged logs world has (Restart i) lawful =
-      let view = with_replaced (view_of world) i in
-      same_logs logs ⊤ _ (start_logged logs world has view (place_of (view_of world) i) refl lawful.1 (with_view (stopped world i) view) refl refl has.stored (λ j n e. others_stay world.nodes i j n e))
+      let view = with_replaced world.view i in
+      same_logs logs ⊤ _ (start_logged logs world has view (place_of world.view i) refl lawful.1 (with_view (stopped world i) view) refl refl has.stored (λ j n e. others_stay world.nodes i j n e))
 
   -- A RUN
 
@@ -272,7 +259,7 @@ module _ {Kind Op Shown : Type 0} (D : Replication Kind Op Shown) where
               entries = all_both _ _ _ (λ (x : Keyed (Entry Op)) p q. taken_grown x.item.history (logs x.key) (later x.key) p (grown x.key)) (entries_in message) m.entries m.entries;
               groups = all_both _ _ _ (λ (g : Keyed (Group Op)) p q. group_of_grown (logs g.key) (later g.key) (grown g.key) g.item p) (groups_in message) m.groups m.groups;
             };
-        stored = λ place. all_both _ _ _ (λ (x : Keyed (Entry Op)) p q. taken_grown x.item.history (logs x.key) (later x.key) p (grown x.key)) (world.stores place) (has.stored place) (has.stored place);
+        stored = λ place key entry e. taken_grown entry.history (logs key) (later key) (has.stored place key entry e) (grown key);
       }
 
   pub record RunLogged (before : Text → History Op) (world : World Kind Op Shown) (events : List (Event Op)) : Type 0 where
@@ -329,27 +316,27 @@ module _ {Kind Op Shown : Type 0} (D : Replication Kind Op Shown) where
         own = λ j n key e. ap (λ (H : History Op). H j) ((at_start members keys j n e).2 key);
         held = λ j n key e. subst (λ H. IsTakenFrom no_records H) (sym ((at_start members keys j n e).2 key)) (taken_nothing no_records);
         sent = λ from to index m e. absurd (no_message index m e);
-        stored = λ place. tt;
+        stored = λ place key entry e. absurd (cc e);
       }
     where
       no_message : (index : ℕ) (m : Message Op) → slice_get {X = Message Op} [] index ≡ Some m → ⊥
       no_message index m e = cc e
 
-      empty_loaded : (keys : List (KeyDecl Kind)) (j : ℕ) (v : View) (o : Option (KeyDecl Kind)) → (loaded_entry {Op = Op} j v [] o).history ≡ no_records
+      empty_loaded : (keys : List (KeyDecl Kind)) (j : ℕ) (v : View) (o : Option (KeyDecl Kind)) → (loaded_entry {Op = Op} j v no_entries o).history ≡ no_records
       empty_loaded keys j v None = refl
-      empty_loaded keys j v (Some key) = if_holds (λ (e : Entry Op). e.history ≡ no_records) key.durable (seen_by j v.number (stored_entry [] key.name)) empty_entry refl refl
+      empty_loaded keys j v (Some key) = if_holds (λ (e : Entry Op). e.history ≡ no_records) key.durable (seen_by j v.number empty_entry) empty_entry refl refl
 
       at_start : (members : ℕ) (keys : List (KeyDecl Kind)) (j : ℕ) (n : Node Kind Op Shown) → (start {Op = Op} {Shown = Shown} members keys).nodes j ≡ Some n → (j < members) × (n.identity ≡ j) × ((key : Text) → (n.entries key).history ≡ no_records)
       at_start members keys j n e = by_test (nat_lt j members) refl e
         where
-          by_test : (b : Bool) → nat_lt j members ≡ b → (if b then Some (loaded_node {Op = Op} {Shown = Shown} keys j (first_view members) []) else None) ≡ Some n → (j < members) × (n.identity ≡ j) × ((key : Text) → (n.entries key).history ≡ no_records)
+          by_test : (b : Bool) → nat_lt j members ≡ b → (if b then Some (loaded_node {Op = Op} {Shown = Shown} keys j (first_view members) no_entries) else None) ≡ Some n → (j < members) × (n.identity ≡ j) × ((key : Text) → (n.entries key).history ≡ no_records)
           by_test true is e =
-              let same : loaded_node {Op = Op} {Shown = Shown} keys j (first_view members) [] ≡ n = cc e in
+              let same : loaded_node {Op = Op} {Shown = Shown} keys j (first_view members) no_entries ≡ n = cc e in
               subst (λ (x : Node Kind Op Shown). (j < members) × (x.identity ≡ j) × ((key : Text) → (x.entries key).history ≡ no_records)) same (ltb-true j members is, refl, λ key. empty_loaded keys j (first_view members) _)
           by_test false is e = absurd (cc e)
 
   -- all histories of a run, on the way too, are parts of one log for each key
-  pub logs_throughout : (members : ℕ) (keys : List (KeyDecl Kind)) (events : List (Event Op)) → members ≤ identity_limit → AreLawful D (start members keys) events → (logs : Text → History Op) × AreLogsOf D (start members keys) events logs
-  logs_throughout members keys events few lawful =
-      let all = run_logged (λ key. no_records) (start members keys) events lawful (start_has members keys few) in
+  pub logs_throughout : (members : ℕ) (keys : List (KeyDecl Kind)) (events : List (Event Op)) (world : World Kind Op Shown) → IsRun D members keys events world → (logs : Text → History Op) × AreLogsOf D members keys events logs
+  logs_throughout members keys events world is_run =
+      let all = run_logged (λ key. no_records) (start members keys) events is_run.lawful (start_has members keys is_run.few) in
       (all.logs, record { last = all.last; throughout = all.throughout; unpruned = λ calm. all.unpruned calm (λ key. record { none = λ i k removed r has e. absurd (no_record k r has) }) })

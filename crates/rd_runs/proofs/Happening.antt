@@ -1,26 +1,24 @@
 -- What an event leaves: who runs, which messages and stored entries there are, and where each comes from. After this no proof over runs looks at an event again.
-use Rattle.std.proofs.Common.{◌≡◌, ◌≢◌, ℕ, zero, suc, ◌+◌, ◌-◌, ◌<◌, List, [], ◌∷◌, length, map, refl, sym, ap, subst, ◌∙◌, arith, Bool, true, false, Option, Some, None, ◌⊎◌, inl, inr}
-use Rattle.std.specs.Prelude.{if◌then◌else◌, slice_get, filter, not, ◌==◌}
+use Rattle.std.proofs.Common.{◌≡◌, ◌≢◌, ℕ, zero, suc, ◌+◌, ◌-◌, ◌<◌, List, [], ◌∷◌, length, map, refl, sym, ap, subst, ◌∙◌, arith, true, false, Option, Some, None, ◌⊎◌, inl, inr}
+use Rattle.std.specs.Prelude.{slice_get}
 use Rattle.std.specs.List.{AllByRecursion}
-use Rattle.std.specs.Str.{bytes_eq}
 use Rattle.std.proofs.lemmas.Bool.Decides.{eqb_tells}
 use Rattle.rd_history.specs.Texts.{Text}
 use Rattle.rd_history.specs.Table.{with_at}
 use Rattle.rd_history.proofs.HistoryLaws.{with_at_same, with_at_other}
-use Rattle.rd_history.proofs.PruneLaws.{IsIn, in_append, in_tail}
+use Rattle.rd_history.proofs.PruneLaws.{IsIn, in_tail}
 use Rattle.rd_model.specs.View.{View, is_member, place_of, is_taken, with_joined, with_replaced}
 use Rattle.rd_model.specs.Entry.{Entry}
 use Rattle.rd_model.specs.DataType.{Replication}
 use Rattle.rd_model.specs.Message.{Keyed, Message, Post}
-use Rattle.rd_model.specs.Node.{Node, Input, Fate}
-use Rattle.rd_model.specs.Node.Fate.{NoStore, Stored, StoreFailed}
+use Rattle.rd_model.specs.Node.{Node, Input, Fate, keyed_entry}
 use Rattle.rd_model.specs.Node.Input.{Take}
 use Rattle.rd_model.specs.Step.{step, to_store}
-use Rattle.rd_model.specs.World.{World, Link, with_link, Store, Event, happens, stepped_at, delivered, message_at, keyed_entry, loaded_node, view_of, views_of, moved_on, after_store, without_keys, IsLawful, IsGiven, StepsAt}
+use Rattle.rd_model.specs.World.{World, Link, Store, Event, happens, message_at, loaded_node, views_of, moved_on, no_entries, IsLawful, IsGiven, StepsAt}
 use Rattle.rd_model.specs.World.Event.{InputAt, Delivery, Loss, Removal, Joining, Restart}
-use Rattle.rd_model.proofs.Steps.{bytes_eq-same}
+use Rattle.rd_model.proofs.Cases.{stepped_at, delivered}
 use Rattle.rd_runs.proofs.ViewLaws.IsMemberAfter.{OldMember, NewMember}
-use Rattle.rd_runs.proofs.Agreement.{with_posts_all}
+use Rattle.rd_runs.proofs.Agreement.{with_posts_all, moved_on_all, AllStored, stored_all}
 use Rattle.rd_runs.proofs.Sending.{IsFrom, sends_step, stores_own, all_both}
 use Rattle.rd_runs.proofs.ViewLaws.{IsRising, IsNextView, IsMemberAfter, member_without, replaced_member, next_without, next_joined, next_replaced, stays_without, stays_joined, stays_replaced, joins, joins_at, replaces, replaces_at}
 
@@ -35,66 +33,6 @@ pub all_of : {X : Type 0} (P : X → Type 0) (xs : List X) → ((x : X) → IsIn
 all_of P [] h = tt
 all_of P (y ∷ xs) h = (h y (zero, refl), all_of P xs (λ x m. h x (in_tail y xs x m)))
 
-in_filter : {X : Type 0} (p : X → Bool) (xs : List X) (x : X) → IsIn (filter p xs) x → IsIn xs x × (p x ≡ true)
-in_filter p [] x h = absurd (cc h.1)
-in_filter p (y ∷ xs) x h = go (p y) refl h (λ m. in_filter p xs x m)
-  where
-    there : p y ≡ true → IsIn (y ∷ filter p xs) x → (IsIn (filter p xs) x → IsIn xs x × (p x ≡ true)) → IsIn (y ∷ xs) x × (p x ≡ true)
-    there e (zero, is) later = let same : y ≡ x = cc is in ((zero, is), ap p (sym same) ∙ e)
-    there e (suc k, is) later = let r = later (k, is) in (in_tail y xs x r.0, r.1)
-
-    go : (b : Bool) → p y ≡ b → IsIn (if b then y ∷ filter p xs else filter p xs) x → (IsIn (filter p xs) x → IsIn xs x × (p x ≡ true)) → IsIn (y ∷ xs) x × (p x ≡ true)
-    go true e m later = there e m later
-    go false e m later = let r = later m in (in_tail y xs x r.0, r.1)
-
--- STORES
-
-module _ {Op : Type 0} where
-  -- entries of one key are one
-  pub record IsAlike (store : Store Op) : Type 0 where
-    pub alike : (e f : Keyed (Entry Op)) → IsIn store e → IsIn store f → e.key ≡ f.key → e.item ≡ f.item
-
-  in_without : (es store : Store Op) (e : Keyed (Entry Op)) → IsIn (without_keys es store) e → IsIn store e × ((f : Keyed (Entry Op)) → IsIn es f → e.key ≢ f.key)
-  in_without [] store e h = (h, λ f m. absurd (cc m.1))
-  in_without (g ∷ es) store e h =
-      let a = in_filter (λ (s : Keyed (Entry Op)). not (bytes_eq s.key g.key)) (without_keys es store) e h in
-      let b = in_without es store e a.0 in (
-        b.0,
-        λ f m. apart f m a.1 b.1,
-      )
-    where
-      apart : (f : Keyed (Entry Op)) → IsIn (g ∷ es) f → not (bytes_eq e.key g.key) ≡ true → ((f : Keyed (Entry Op)) → IsIn es f → e.key ≢ f.key) → e.key ≢ f.key
-      apart f (zero, is) differs later = λ same.
-          let here : g ≡ f = cc is in
-          let key : e.key ≡ g.key = same ∙ ap (λ (x : Keyed (Entry Op)). x.key) (sym here) in
-          let yes_same : bytes_eq e.key g.key ≡ true = ap (bytes_eq e.key) (sym key) ∙ bytes_eq-same e.key in
-          absurd (let f = sym differs ∙ ap not yes_same in cc f)
-      apart f (suc k, is) differs later = later f (k, is)
-
-  module _ (held : Text → Entry Op) (es store : Store Op) (own : AllByRecursion (λ (e : Keyed (Entry Op)). e.item ≡ held e.key) es) where
-    -- what stands in the store then stood there, or is held
-    stored_after : (fate : Fate) (e : Keyed (Entry Op)) → IsIn (after_store fate es store) e → IsIn store e ⊎ (e.item ≡ held e.key)
-    stored_after NoStore e h = inl h
-    stored_after Stored e h = elim (in_append (without_keys es store) es e h) [
-      | inl old ↦ inl (in_without es store e old).0
-      | inr new ↦ inr (of_all (λ (e : Keyed (Entry Op)). e.item ≡ held e.key) es e own new)
-    ]
-    stored_after StoreFailed e h = inl h
-
-    alike_after : (fate : Fate) → IsAlike store → IsAlike (after_store fate es store)
-    alike_after NoStore before = before
-    alike_after StoreFailed before = before
-    alike_after Stored before = record { alike = λ e f he hf same. both e f (in_append (without_keys es store) es e he) (in_append (without_keys es store) es f hf) same }
-      where
-        held_item : (e : Keyed (Entry Op)) → IsIn es e → e.item ≡ held e.key
-        held_item e m = of_all (λ (e : Keyed (Entry Op)). e.item ≡ held e.key) es e own m
-
-        both : (e f : Keyed (Entry Op)) → IsIn (without_keys es store) e ⊎ IsIn es e → IsIn (without_keys es store) f ⊎ IsIn es f → e.key ≡ f.key → e.item ≡ f.item
-        both e f (inl he) (inl hf) same = before.alike e f (in_without es store e he).0 (in_without es store f hf).0 same
-        both e f (inl he) (inr hf) same = absurd ((in_without es store e he).1 f hf same)
-        both e f (inr he) (inl hf) same = absurd ((in_without es store f hf).1 e he (sym same))
-        both e f (inr he) (inr hf) same = held_item e he ∙ ap held same ∙ sym (held_item f hf)
-
 -- WHAT AN EVENT LEAVES
 
 module _ {Kind Op Shown : Type 0} (D : Replication Kind Op Shown) where
@@ -105,40 +43,39 @@ module _ {Kind Op Shown : Type 0} (D : Replication Kind Op Shown) where
 
   -- what a new member loads: nothing, or what the store of a member's place holds
   pub data IsStoreFor (world next : World Kind Op Shown) (t : ℕ) (store : Store Op) : Type 0 where
-    Emptied : store ≡ [] → next.stores (place_of (view_of next) t) ≡ [] → IsStoreFor world next t store
-    Reloaded : (i : ℕ) → is_member (view_of world) i ≡ true → place_of (view_of next) t ≡ place_of (view_of world) i → store ≡ world.stores (place_of (view_of world) i) → IsStoreFor world next t store
+    Emptied : store ≡ no_entries → next.stores (place_of next.view t) ≡ no_entries → IsStoreFor world next t store
+    Reloaded : (i : ℕ) → is_member world.view i ≡ true → place_of next.view t ≡ place_of world.view i → store ≡ world.stores (place_of world.view i) → IsStoreFor world next t store
 
   -- a running member: it was so before, it made a step, or it is new
   pub data NodeAfter (world next : World Kind Op Shown) (t : ℕ) (new : Node Kind Op Shown) : Type 0 where
-    Same : world.nodes t ≡ Some new → (is_member (view_of world) t ≡ true → is_member (view_of next) t ≡ true) → NodeAfter world next t new
+    Same : world.nodes t ≡ Some new → (is_member world.view t ≡ true → is_member next.view t ≡ true) → NodeAfter world next t new
     Stepped : (old : Node Kind Op Shown) (input : Input Op) (fate : Fate) → world.nodes t ≡ Some old → Comes world t input → new ≡ (step D old input fate).node → next.view ≡ world.view → NodeAfter world next t new
-    Started : (store : Store Op) → t ≡ (view_of world).given → (view_of next).given ≡ (view_of world).given + 1 → is_member (view_of next) t ≡ true → new ≡ loaded_node world.keys t (view_of next) store → IsStoreFor world next t store → NodeAfter world next t new
+    Started : (store : Store Op) → t ≡ world.view.given → next.view.given ≡ world.view.given + 1 → is_member next.view t ≡ true → new ≡ loaded_node world.keys t next.view store → IsStoreFor world next t store → NodeAfter world next t new
 
   -- a message: it was sent before, or brings what its sender now holds
-  pub data MessageAfter (world next : World Kind Op Shown) (from : ℕ) (message : Message Op) : Type 0 where
-    OldMessage : (to index : ℕ) → message_at world from to index ≡ Some message → MessageAfter world next from message
-    NewMessage : (new : Node Kind Op Shown) → next.nodes from ≡ Some new → IsFrom new.entries new.identity message → MessageAfter world next from message
+  pub data MessageAfter (world next : World Kind Op Shown) (from to : ℕ) (message : Message Op) : Type 0 where
+    OldMessage : (index : ℕ) → message_at world from to index ≡ Some message → MessageAfter world next from to message
+    NewMessage : (new : Node Kind Op Shown) → next.nodes from ≡ Some new → IsFrom new.entries new.identity to message → MessageAfter world next from to message
 
   -- a stored entry: it stood there before, or the member at this place now holds it
-  pub data StoredAfter (world next : World Kind Op Shown) (place : ℕ) (e : Keyed (Entry Op)) : Type 0 where
-    OldStored : IsIn (world.stores place) e → StoredAfter world next place e
-    NewStored : (i : ℕ) (new : Node Kind Op Shown) → next.nodes i ≡ Some new → place ≡ place_of (view_of world) i → next.view ≡ world.view → e.item ≡ new.entries e.key → StoredAfter world next place e
+  pub data StoredAfter (world next : World Kind Op Shown) (place : ℕ) (key : Text) (entry : Entry Op) : Type 0 where
+    OldStored : world.stores place key ≡ Some entry → StoredAfter world next place key entry
+    NewStored : (i : ℕ) (new : Node Kind Op Shown) → next.nodes i ≡ Some new → place ≡ place_of world.view i → next.view ≡ world.view → entry ≡ new.entries key → StoredAfter world next place key entry
 
   pub data ViewsAfter (world next : World Kind Op Shown) : Type 0 where
     SameViews : next.earlier ≡ world.earlier → next.view ≡ world.view → ViewsAfter world next
-    NextViews : next.earlier ≡ views_of world → IsNextView (view_of world) (view_of next) → ViewsAfter world next
+    NextViews : next.earlier ≡ views_of world → IsNextView world.view next.view → ViewsAfter world next
 
   -- every member of the last view runs
   pub record AllRun (world : World Kind Op Shown) : Type 0 where
-    pub runs : (t : ℕ) → is_member (view_of world) t ≡ true → (node : Node Kind Op Shown) × (world.nodes t ≡ Some node)
+    pub runs : (t : ℕ) → is_member world.view t ≡ true → (node : Node Kind Op Shown) × (world.nodes t ≡ Some node)
 
   pub record Follows (world next : World Kind Op Shown) : Type 0 where
     pub keys : next.keys ≡ world.keys
     pub views : ViewsAfter world next
     pub nodes : (t : ℕ) (new : Node Kind Op Shown) → next.nodes t ≡ Some new → NodeAfter world next t new
-    pub messages : (from to index : ℕ) (message : Message Op) → message_at next from to index ≡ Some message → MessageAfter world next from message
-    pub stored : (place : ℕ) (e : Keyed (Entry Op)) → IsIn (next.stores place) e → StoredAfter world next place e
-    pub alike : ((place : ℕ) → IsAlike (world.stores place)) → (place : ℕ) → IsAlike (next.stores place)
+    pub messages : (from to index : ℕ) (message : Message Op) → message_at next from to index ≡ Some message → MessageAfter world next from to message
+    pub stored : (place : ℕ) (key : Text) (entry : Entry Op) → next.stores place key ≡ Some entry → StoredAfter world next place key entry
     pub running : AllRun world → AllRun next
 
   -- TABLES
@@ -155,10 +92,10 @@ module _ {Kind Op Shown : Type 0} (D : Replication Kind Op Shown) where
     | inr isnt ↦ let h = others isnt.1 in (h.0, with_at_other nodes i (Some n) t isnt.1 ∙ h.1)
   ]
 
-  store_cases : (Q : ℕ → Store Op → Type 0) (stores : ℕ → Store Op) (place : ℕ) (store : Store Op) → ((p : ℕ) → Q p (stores p)) → Q place store → (p : ℕ) → Q p (with_at stores place store p)
-  store_cases Q stores place store old new p = elim (eqb_tells p place) [
-    | inl is ↦ subst (λ p. Q p (with_at stores place store p)) (sym is.1) (subst (Q place) (sym (with_at_same stores place store)) new)
-    | inr isnt ↦ subst (Q p) (sym (with_at_other stores place store p isnt.1)) (old p)
+  at_each : {Q : ℕ → Text → Entry Op → Type 0} (stores : ℕ → Store Op) (place : ℕ) (store : Store Op) → ((p : ℕ) → AllStored (Q p) (stores p)) → AllStored (Q place) store → (p : ℕ) → AllStored (Q p) (with_at stores place store p)
+  at_each {Q = Q} stores place store old new p = elim (eqb_tells p place) [
+    | inl is ↦ subst (λ p. AllStored (Q p) (with_at stores place store p)) (sym is.1) (subst (AllStored (Q place)) (sym (with_at_same stores place store)) new)
+    | inr isnt ↦ subst (AllStored (Q p)) (sym (with_at_other stores place store p isnt.1)) (old p)
   ]
 
   -- A MEMBER'S STEP
@@ -183,15 +120,11 @@ module _ {Kind Op Shown : Type 0} (D : Replication Kind Op Shown) where
             | inl h ↦ let same : new ≡ n = (let f = h.1 in cc f) in Stepped old input fate (ap world.nodes h.0 ∙ runs) (subst (λ j. Comes world j input) (sym h.0) comes) (sym same) refl
             | inr h ↦ Same h.1 (λ m. m)
           ];
-          messages = with_posts_all (MessageAfter world after) (step D old input fate).output.posts links i (λ from to index message e. let h = sent from to index message e in OldMessage to h.0 h.1)
+          messages = with_posts_all (MessageAfter world after) (step D old input fate).output.posts links i (λ from to index message e. let h = sent from to index message e in OldMessage h.0 h.1)
               (all_both _ _ _ (λ (post : Post Op) p q. NewMessage new new_runs p) (step D old input fate).output.posts (sends_step D old input fate) (sends_step D old input fate));
-          stored = λ place e h. store_cases (λ place store. (e : Keyed (Entry Op)) → IsIn store e → StoredAfter world after place e) world.stores (place_of (view_of world) i) _ (λ p e h. OldStored h)
-              (λ e h. elim (stored_after new.entries (map keyed_entry (to_store old new)) (world.stores (place_of (view_of world) i)) (stores_own D old new) fate e h) [
-                | inl before ↦ OldStored before
-                | inr now ↦ NewStored i new new_runs refl refl now
-              ]) place e h;
-          alike = λ before. store_cases (λ place store. IsAlike store) world.stores (place_of (view_of world) i) _ before
-              (alike_after new.entries (map keyed_entry (to_store old new)) (world.stores (place_of (view_of world) i)) (stores_own D old new) fate (before (place_of (view_of world) i)));
+          stored = at_each world.stores (place_of world.view i) _ (λ p key entry h. OldStored h)
+              (stored_all (StoredAfter world after (place_of world.view i)) fate (map keyed_entry (to_store old new)) (world.stores (place_of world.view i))
+              (all_both _ _ _ (λ (e : Keyed (Entry Op)) p q. NewStored i new new_runs refl refl p) (map keyed_entry (to_store old new)) (stores_own D old new) (stores_own D old new)) (λ key entry h. OldStored h));
           running = λ all. record { runs = λ t m. set_to world.nodes i new t (λ other. all.runs t m) };
         }
 
@@ -205,114 +138,92 @@ module _ {Kind Op Shown : Type 0} (D : Replication Kind Op Shown) where
   was_member view next t (OldMember m p) other = m
   was_member view next t (NewMember is g) other = absurd (other (is ∙ sym (given_minus view.given)))
 
-  module _ (world : World Kind Op Shown) (below : (t : ℕ) → is_member (view_of world) t ≡ true → t < (view_of world).given) where
-    module _ (place : ℕ) (free : is_taken (view_of world) place ≡ false) where
+  module _ (world : World Kind Op Shown) (below : (t : ℕ) → is_member world.view t ≡ true → t < world.view.given) where
+    module _ (place : ℕ) (free : is_taken world.view place ≡ false) where
       abbrev joined : View
-      joined = with_joined (view_of world) place
+      joined = with_joined world.view place
 
       abbrev emptied : ℕ → Store Op
-      emptied = with_at world.stores place []
+      emptied = with_at world.stores place no_entries
 
       join_follows : Follows world (happens D world (Joining place))
       join_follows =
           record {
             keys = refl;
-            views = NextViews refl (next_joined (view_of world) place below free);
-            nodes = λ t n e. elim (changed world.nodes ((view_of world).given + 1 - 1) (Some (loaded_node world.keys ((view_of world).given + 1 - 1) joined (emptied place))) t n e) [
+            views = NextViews refl (next_joined world.view place below free);
+            nodes = λ t n e. elim (changed world.nodes (world.view.given + 1 - 1) (Some (loaded_node world.keys (world.view.given + 1 - 1) joined (emptied place))) t n e) [
               | inl h ↦
-                  let is : t ≡ (view_of world).given = h.0 ∙ given_minus (view_of world).given in
-                  let same : loaded_node world.keys ((view_of world).given + 1 - 1) joined (emptied place) ≡ n = (let f = h.1 in cc f) in
-                  let at_place : place_of joined t ≡ place = ap (place_of joined) is ∙ joins_at (view_of world) place below in
-                  Started (emptied place) is refl (ap (is_member joined) is ∙ joins (view_of world) place below) (sym same ∙ ap (λ j. loaded_node world.keys j joined (emptied place)) (sym h.0))
-                  (Emptied (with_at_same world.stores place []) (ap emptied at_place ∙ with_at_same world.stores place []))
-              | inr h ↦ Same h.1 (stays_joined (view_of world) place below t)
+                  let is : t ≡ world.view.given = h.0 ∙ given_minus world.view.given in
+                  let same : loaded_node world.keys (world.view.given + 1 - 1) joined (emptied place) ≡ n = (let f = h.1 in cc f) in
+                  let at_place : place_of joined t ≡ place = ap (place_of joined) is ∙ joins_at world.view place below in
+                  Started (emptied place) is refl (ap (is_member joined) is ∙ joins world.view place below) (sym same ∙ ap (λ j. loaded_node world.keys j joined (emptied place)) (sym h.0))
+                  (Emptied (with_at_same world.stores place no_entries) (ap emptied at_place ∙ with_at_same world.stores place no_entries))
+              | inr h ↦ Same h.1 (stays_joined world.view place below t)
             ];
-            messages = λ from to index message e. OldMessage to index e;
-            stored = λ p e h. store_cases (λ p store. (e : Keyed (Entry Op)) → IsIn store e → StoredAfter world (happens D world (Joining place)) p e) world.stores place [] (λ p e h. OldStored h) (λ e h. absurd (cc h.1)) p e h;
-            alike = λ before. store_cases (λ p store. IsAlike store) world.stores place [] before (record { alike = λ e f he. absurd (cc he.1) });
+            messages = λ from to index message e. OldMessage index e;
+            stored = at_each world.stores place no_entries (λ p key entry h. OldStored h) (λ key entry h. absurd (cc h));
             running = λ all. record {
-              runs = λ t m. set_to world.nodes ((view_of world).given + 1 - 1) _ t
-                  (λ other. all.runs t (was_member (view_of world) joined t ((next_joined (view_of world) place below free).member t m) other));
+              runs = λ t m. set_to world.nodes (world.view.given + 1 - 1) _ t
+                  (λ other. all.runs t (was_member world.view joined t ((next_joined world.view place below free).member t m) other));
             };
           }
 
-    module _ (i : ℕ) (there : is_member (view_of world) i ≡ true) where
+    module _ (i : ℕ) (there : is_member world.view i ≡ true) where
       abbrev replaced : View
-      replaced = with_replaced (view_of world) i
+      replaced = with_replaced world.view i
 
       abbrev old_place : ℕ
-      old_place = place_of (view_of world) i
+      old_place = place_of world.view i
 
       restart_follows : Follows world (happens D world (Restart i))
       restart_follows =
           record {
             keys = refl;
-            views = NextViews refl (next_replaced (view_of world) i below there);
-            nodes = λ t n e. elim (changed (with_at world.nodes i None) ((view_of world).given + 1 - 1) (Some (loaded_node world.keys ((view_of world).given + 1 - 1) replaced (world.stores old_place))) t n e) [
+            views = NextViews refl (next_replaced world.view i below there);
+            nodes = λ t n e. elim (changed (with_at world.nodes i None) (world.view.given + 1 - 1) (Some (loaded_node world.keys (world.view.given + 1 - 1) replaced (world.stores old_place))) t n e) [
               | inl h ↦
-                  let is : t ≡ (view_of world).given = h.0 ∙ given_minus (view_of world).given in
-                  let same : loaded_node world.keys ((view_of world).given + 1 - 1) replaced (world.stores old_place) ≡ n = (let f = h.1 in cc f) in
-                  Started (world.stores old_place) is refl (ap (is_member replaced) is ∙ replaces (view_of world) i below) (sym same ∙ ap (λ j. loaded_node world.keys j replaced (world.stores old_place)) (sym h.0))
-                  (Reloaded i there (ap (place_of replaced) is ∙ replaces_at (view_of world) i below) refl)
+                  let is : t ≡ world.view.given = h.0 ∙ given_minus world.view.given in
+                  let same : loaded_node world.keys (world.view.given + 1 - 1) replaced (world.stores old_place) ≡ n = (let f = h.1 in cc f) in
+                  Started (world.stores old_place) is refl (ap (is_member replaced) is ∙ replaces world.view i below) (sym same ∙ ap (λ j. loaded_node world.keys j replaced (world.stores old_place)) (sym h.0))
+                  (Reloaded i there (ap (place_of replaced) is ∙ replaces_at world.view i below) refl)
               | inr h ↦ elim (changed world.nodes i None t n h.1) [
                 | inl gone ↦ absurd (let f = gone.1 in cc f)
-                | inr old ↦ Same old.1 (stays_replaced (view_of world) i below t old.0)
+                | inr old ↦ Same old.1 (stays_replaced world.view i below t old.0)
               ]
             ];
-            messages = λ from to index message e. OldMessage to index e;
-            stored = λ p e h. OldStored h;
-            alike = λ before. before;
+            messages = λ from to index message e. OldMessage index e;
+            stored = λ p key entry h. OldStored h;
             running = λ all. record {
-              runs = λ t m. set_to (with_at world.nodes i None) ((view_of world).given + 1 - 1) _ t (λ other.
-                  let was = was_member (view_of world) replaced t ((next_replaced (view_of world) i below there).member t m) other in
+              runs = λ t m. set_to (with_at world.nodes i None) (world.view.given + 1 - 1) _ t (λ other.
+                  let was = was_member world.view replaced t ((next_replaced world.view i below there).member t m) other in
                   let r = all.runs t was in
                   (r.0, with_at_other world.nodes i None t (not_replaced t m other) ∙ r.1));
             };
           }
         where
           -- the identity that left is no member then
-          not_replaced : (t : ℕ) → is_member replaced t ≡ true → t ≢ (view_of world).given + 1 - 1 → t ≢ i
-          not_replaced t m other = replaced_member (view_of world) i below t m (λ e. other (e ∙ sym (given_minus (view_of world).given)))
+          not_replaced : (t : ℕ) → is_member replaced t ≡ true → t ≢ world.view.given + 1 - 1 → t ≢ i
+          not_replaced t m other = replaced_member world.view i below t m (λ e. other (e ∙ sym (given_minus world.view.given)))
 
   -- OTHER EVENTS
 
-  removal_follows : (world : World Kind Op Shown) (i : ℕ) → IsRising 0 (view_of world).given (view_of world).members → 1 < length (view_of world).members → Follows world (happens D world (Removal i))
+  removal_follows : (world : World Kind Op Shown) (i : ℕ) → IsRising 0 world.view.given world.view.members → 1 < length world.view.members → Follows world (happens D world (Removal i))
   removal_follows world i rising more =
       record {
         keys = refl;
-        views = NextViews refl (next_without (view_of world) i rising more);
+        views = NextViews refl (next_without world.view i rising more);
         nodes = λ t n e. elim (changed world.nodes i None t n e) [
           | inl h ↦ absurd (let f = h.1 in cc f)
-          | inr h ↦ Same h.1 (stays_without (view_of world) i t h.0)
+          | inr h ↦ Same h.1 (stays_without world.view i t h.0)
         ];
-        messages = λ from to index message e. OldMessage to index e;
-        stored = λ place e h. OldStored h;
-        alike = λ before. before;
-        running = λ all. record { runs = λ t m. let was = member_without (view_of world) i t m in let r = all.runs t was.0 in (r.0, with_at_other world.nodes i None t was.1 ∙ r.1) };
+        messages = λ from to index message e. OldMessage index e;
+        stored = λ place key entry h. OldStored h;
+        running = λ all. record { runs = λ t m. let was = member_without world.view i t m in let r = all.runs t was.0 in (r.0, with_at_other world.nodes i None t was.1 ∙ r.1) };
       }
 
   -- a link that moves on keeps its messages
   moved_messages : (world : World Kind Op Shown) (from to index : ℕ) (f t k : ℕ) (message : Message Op) → slice_get (moved_on world.links from to index f t).messages k ≡ Some message → (k : ℕ) × (message_at world f t k ≡ Some message)
-  moved_messages world from to index f t k message e = (k, sym (same_messages f t) ∙ e)
-    where
-      same_messages : (f t : ℕ) → slice_get (moved_on world.links from to index f t).messages k ≡ message_at world f t k
-      same_messages f t = go ((world.links from to).next == index)
-        where
-          go : (b : Bool) → slice_get ((if b then with_link world.links from to (record (world.links from to) { next = suc index }) else world.links) f t).messages k ≡ message_at world f t k
-          go true = elim (eqb_tells f from) [
-            | inl is ↦ elim (eqb_tells t to) [
-              | inl is' ↦
-                  ap (λ (r : ℕ → Link Op). slice_get (r t).messages k) (ap (with_at world.links from _) is.1 ∙ with_at_same world.links from _)
-                  ∙ ap (λ (l : Link Op). slice_get l.messages k) (ap (with_at (world.links from) to _) is'.1 ∙ with_at_same (world.links from) to _)
-                  ∙ ap (λ g. slice_get (world.links g to).messages k) (sym is.1) ∙ ap (λ g. slice_get (world.links f g).messages k) (sym is'.1)
-              | inr isnt' ↦
-                  ap (λ (r : ℕ → Link Op). slice_get (r t).messages k) (ap (with_at world.links from _) is.1 ∙ with_at_same world.links from _)
-                  ∙ ap (λ (l : Link Op). slice_get l.messages k) (with_at_other (world.links from) to _ t isnt'.1)
-                  ∙ ap (λ g. slice_get (world.links g t).messages k) (sym is.1)
-            ]
-            | inr isnt ↦ ap (λ (r : ℕ → Link Op). slice_get (r t).messages k) (with_at_other world.links from _ f isnt.1)
-          ]
-          go false = refl
+  moved_messages world from to index = moved_on_all (λ f t message. (k : ℕ) × (message_at world f t k ≡ Some message)) world.links from to index (λ f t k message e. (k, e))
 
   loss_follows : (world : World Kind Op Shown) (from to : ℕ) → Follows world (happens D world (Loss from to))
   loss_follows world from to =
@@ -320,9 +231,8 @@ module _ {Kind Op Shown : Type 0} (D : Replication Kind Op Shown) where
         keys = refl;
         views = SameViews refl refl;
         nodes = λ t n e. Same e (λ m. m);
-        messages = λ f t k message e. let h = moved_messages world from to (world.links from to).next f t k message e in OldMessage t h.0 h.1;
-        stored = λ place e h. OldStored h;
-        alike = λ before. before;
+        messages = λ f t k message e. let h = moved_messages world from to (world.links from to).next f t k message e in OldMessage h.0 h.1;
+        stored = λ place key entry h. OldStored h;
         running = λ all. record { runs = all.runs };
       }
 
@@ -338,7 +248,7 @@ module _ {Kind Op Shown : Type 0} (D : Replication Kind Op Shown) where
       (step_follows world to at_step.node at_step.runs (Take from message) fate (Brought from index message is refl) (moved_on world.links from to index) (moved_messages world from to index)))
 
   -- each lawful event
-  pub event_follows : (world : World Kind Op Shown) → ((t : ℕ) → is_member (view_of world) t ≡ true → t < (view_of world).given) → IsRising 0 (view_of world).given (view_of world).members → (event : Event Op) → IsLawful D world event → Follows world (happens D world event)
+  pub event_follows : (world : World Kind Op Shown) → ((t : ℕ) → is_member world.view t ≡ true → t < world.view.given) → IsRising 0 world.view.given world.view.members → (event : Event Op) → IsLawful D world event → Follows world (happens D world event)
   event_follows world below rising (InputAt i input fate) lawful = input_follows world i input fate lawful.0 lawful.1
   event_follows world below rising (Delivery from to index fate) lawful = delivery_follows world from to index fate lawful.0 lawful.1 lawful.2
   event_follows world below rising (Loss from to) lawful = loss_follows world from to

@@ -6,7 +6,7 @@ use Rattle.std.specs.Str.{bytes_eq}
 use Rattle.rd_history.specs.Texts.{Text}
 use Rattle.rd_model.specs.View.{View, removed_of, identities_of, is_member, leader}
 use Rattle.rd_history.specs.History.{Action, is_pruned, at}
-use Rattle.rd_model.specs.Entry.{Entry, Mark, Group, Judgement, Tick, merged, seen_by, with_group, with_action, judged, ticked, ticked_mark, ticked_seen, performed_unless, marked, performed, unseen}
+use Rattle.rd_model.specs.Entry.{Entry, Mark, Group, Judgement, Tick, merged, seen_by, with_group, with_action, judged, ticked, marked, unseen}
 use Rattle.rd_model.specs.Entry.Outcome.{Newer}
 use Rattle.rd_model.specs.Entry.Judgement.{Wanted, Stale, Missing}
 use Rattle.rd_meanings.specs.Refusal.{Refusal, Shares}
@@ -19,7 +19,8 @@ use Rattle.rd_model.specs.Node.Input.{Update, Get, Take, Install, Flush, GossipT
 use Rattle.std.proofs.lemmas.Slice.Eq.{slice_eq-Decides}
 use Rattle.std.proofs.lemmas.Bool.Decides.{Decides-eqb, eqb_tells, nat_tests}
 use Rattle.rd_model.specs.Node.{KeyDecl, KeyState, Node, state_of, Level, Input, Fate, Stepped, OpenOperation, key_state, with_entry, needed}
-use Rattle.rd_model.specs.Step.{counted_for, taken, keyed_option, flushed, gossiped, timed_out, got, got_needing, pruned, tick_key, tick_identity, with_tick, entry_after_tick, step_of, step, AfterGroups, Ticking, with_taken_entry, take_entry, with_judged, with_taken_group, take_group, after_groups, after_entries, accepted, updated, updated_needing, updated_unless, opened, is_strange_entry, is_strange_group, member_count, has_failed}
+use Rattle.rd_model.specs.Step.{step_of_take, keyed_option, step_of_flush, step_of_gossip, step_of_timeout, step_of_tick, tick_key, tick_identity, step_of, step, AfterGroups, Ticking, take_entry, take_group, after_groups, after_entries, opened, is_entry_passed_over, is_group_passed_over, member_count, has_failed}
+use Rattle.rd_model.proofs.Cases.{ticked_mark, ticked_seen, performed_unless, performed, counted_for, got, got_needing, with_tick, entry_after_tick_of, with_taken_entry, with_judged, with_taken_group, accepted, updated, updated_needing, updated_unless}
 
 pub if_holds : {A : Type 0} (P : A → Type 0) (b : Bool) (x y : A) → P x → P y → P (if b then x else y)
 if_holds P true x y p q = p
@@ -174,9 +175,6 @@ module _ {Kind Op Shown : Type 0} (D : Replication Kind Op Shown) (P M : Text �
       if_holds (λ (s : Stepped Kind Op Shown). Keeps P i view keys s.node) (has_failed fate) _ _ h
       (if_holds (λ (s : Stepped Kind Op Shown). Keeps P i view keys s.node) (nat_le n 1) _ _ h (record { same_identity = h.same_identity; same_view = h.same_view; same_keys = h.same_keys; entries = h.entries }))
 
-  KeepsStep : Stepped Kind Op Shown → Type 0
-  KeepsStep s = Keeps P i view keys s.node
-
   -- UPDATE AND GET
 
   keeps_unless : (node : Node Kind Op Shown) (k : KeyState Kind Op) (op : Op) (n : ℕ) (fate : Fate) (refusal : Option Refusal) → Keeps P i view keys node → P k.name k.entry → Keeps P i view keys (updated_unless D node k op n fate refusal).node
@@ -219,7 +217,7 @@ module _ {Kind Op Shown : Type 0} (D : Replication Kind Op Shown) (P M : Text �
   keeps_taken_entry : (node : Node Kind Op Shown) (key : Text) (o : Option (KeyState Kind Op)) → key_state node key ≡ o → (theirs : Entry Op) → Keeps P i view keys node → M key theirs → Keeps P i view keys (with_taken_entry node o theirs)
   keeps_taken_entry node key None e theirs keeps m = keeps
   keeps_taken_entry node key (Some k) e theirs keeps m =
-      if_holds (λ (n : Node Kind Op Shown). Keeps P i view keys n) (is_strange_entry node.identity k.entry theirs) _ _ keeps
+      if_holds (λ (n : Node Kind Op Shown). Keeps P i view keys n) (is_entry_passed_over node.identity k.entry theirs) _ _ keeps
       (keeps_with_entry node k.name _ keeps
       (subst (λ j. P k.name (seen_by j node.view.number (merged k.entry theirs))) (sym keeps.same_identity)
       (subst (λ (v : View). P k.name (seen_by i v.number (merged k.entry theirs))) (sym keeps.same_view)
@@ -237,7 +235,7 @@ module _ {Kind Op Shown : Type 0} (D : Replication Kind Op Shown) (P M : Text �
   keeps_taken_group so_far key None e group keeps g = keeps
   keeps_taken_group so_far key (Some k) e group keeps g =
       let known = found_key so_far.node key k keeps e in
-      if_holds (λ (a : AfterGroups Kind Op Shown). Keeps P i view keys a.node) (is_strange_group so_far.node.identity k.entry group) _ _ keeps
+      if_holds (λ (a : AfterGroups Kind Op Shown). Keeps P i view keys a.node) (is_group_passed_over so_far.node.identity k.entry group) _ _ keeps
       (keeps_judged so_far k group _ refl keeps known.0 (subst (λ n. G n group) (sym known.1) g))
 
   pub keeps_groups : (node : Node Kind Op Shown) (groups : List (Keyed (Group Op))) → Keeps P i view keys node → AllByRecursion (λ (g : Keyed (Group Op)). G g.key g.item) groups → Keeps P i view keys (after_groups node groups).node
@@ -305,14 +303,14 @@ module _ {Kind Op Shown : Type 0} (D : Replication Kind Op Shown) (P M : Text �
       subst (λ (v : View). P k.name (fold (tick_identity D node k) (record { entry = k.entry; outcomes = [] }) (removed_of v)).entry) (sym same_view)
       (keeps_ticks node k same_identity same_view leads ticks 0 view.given (omega arith) (record { entry = k.entry; outcomes = [] }) (λ q l. refl) p)
 
-  keeps_entry_after_tick : (node : Node Kind Op Shown) (key : Text) (o : Option (KeyState Kind Op)) → key_state node key ≡ o → leader view ≡ i → ((r : ℕ) → Ticks key r ((node.entries key).marks r)) → Keeps P i view keys node → P key (entry_after_tick D node o (node.entries key))
+  keeps_entry_after_tick : (node : Node Kind Op Shown) (key : Text) (o : Option (KeyState Kind Op)) → key_state node key ≡ o → leader view ≡ i → ((r : ℕ) → Ticks key r ((node.entries key).marks r)) → Keeps P i view keys node → P key (entry_after_tick_of D node o (node.entries key))
   keeps_entry_after_tick node key None e leads ticks keeps = keeps.entries key
   keeps_entry_after_tick node key (Some k) e leads ticks keeps =
       let known = found_key node key k keeps e in
       let here : (r : ℕ) → Ticks k.name r (k.entry.marks r) = λ r. subst (λ n. Ticks n r (k.entry.marks r)) (sym known.1) (subst (λ (x : Entry Op). Ticks key r (x.marks r)) (sym (found_entry node key k e)) (ticks r)) in
       subst (λ n. P n (tick_key D node k).entry) known.1 (keeps_tick_key node k keeps.same_identity keeps.same_view leads here known.0)
 
-  pub keeps_pruned : (node : Node Kind Op Shown) (fate : Fate) → ((key : Text) (r : ℕ) → Ticks key r ((node.entries key).marks r)) → Keeps P i view keys node → Keeps P i view keys (pruned D node fate).node
+  pub keeps_pruned : (node : Node Kind Op Shown) (fate : Fate) → ((key : Text) (r : ℕ) → Ticks key r ((node.entries key).marks r)) → Keeps P i view keys node → Keeps P i view keys (step_of_tick D node fate).node
   keeps_pruned node fate ticks keeps =
       if_tells (λ (s : Stepped Kind Op Shown). Keeps P i view keys s.node) (not (leader node.view == node.identity)) _ _ (λ e. keeps)
       (λ e.
@@ -321,14 +319,14 @@ module _ {Kind Op Shown : Type 0} (D : Replication Kind Op Shown) (P M : Text �
 
   -- THE OTHER INPUTS
 
-  keeps_flushed : (node : Node Kind Op Shown) → Keeps P i view keys node → Keeps P i view keys (flushed D node).node
+  keeps_flushed : (node : Node Kind Op Shown) → Keeps P i view keys node → Keeps P i view keys (step_of_flush D node).node
   keeps_flushed node keeps =
       record { same_identity = keeps.same_identity; same_view = keeps.same_view; same_keys = keeps.same_keys; entries = keeps.entries }
 
-  keeps_gossiped : (node : Node Kind Op Shown) (j : ℕ) → Keeps P i view keys node → Keeps P i view keys (gossiped D node j).node
+  keeps_gossiped : (node : Node Kind Op Shown) (j : ℕ) → Keeps P i view keys node → Keeps P i view keys (step_of_gossip D node j).node
   keeps_gossiped node j keeps = if_holds (λ (s : Stepped Kind Op Shown). Keeps P i view keys s.node) ((j == node.identity) || not (is_member node.view j)) _ _ keeps keeps
 
-  keeps_timed_out : (node : Node Kind Op Shown) (op : ℕ) → Keeps P i view keys node → Keeps P i view keys (timed_out D node op).node
+  keeps_timed_out : (node : Node Kind Op Shown) (op : ℕ) → Keeps P i view keys node → Keeps P i view keys (step_of_timeout D node op).node
   keeps_timed_out node op keeps =
       if_holds (λ (s : Stepped Kind Op Shown). Keeps P i view keys s.node) (list_any (λ (o : OpenOperation). o.op == op) node.open_operations) _ _
       (record { same_identity = keeps.same_identity; same_view = keeps.same_view; same_keys = keeps.same_keys; entries = keeps.entries }) keeps
@@ -337,7 +335,7 @@ module _ {Kind Op Shown : Type 0} (D : Replication Kind Op Shown) (P M : Text �
   keeps_answer node from fate op key None keeps known = keeps
   keeps_answer node from fate op key (Some entry) keeps known = keeps_entries node (record { key = key; item = entry } ∷ []) keeps (known, tt)
 
-  pub keeps_taken : (node : Node Kind Op Shown) (from : ℕ) (fate : Fate) (message : Message Op) → Keeps P i view keys node → IsKnown D P M G Ticks i view kept message → Keeps P i view keys (taken D node from fate message).node
+  pub keeps_taken : (node : Node Kind Op Shown) (from : ℕ) (fate : Fate) (message : Message Op) → Keeps P i view keys node → IsKnown D P M G Ticks i view kept message → Keeps P i view keys (step_of_take D node from fate message).node
   keeps_taken node from fate (Deltas groups entries) keeps known = keeps_entries _ entries (keeps_groups node groups keeps known.0) known.1
   keeps_taken node from fate (Nack keys) keeps known = keeps
   keeps_taken node from fate (Status digests) keeps known = keeps

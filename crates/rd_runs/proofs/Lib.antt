@@ -23,6 +23,7 @@ pub mod EarlyPrunes
 pub mod Safety
 pub mod PruningSafety
 pub mod SameShown
+pub mod PassedOver
 pub mod Midway
 pub mod Playing
 pub mod ScriptLogs

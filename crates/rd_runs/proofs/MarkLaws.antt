@@ -1,7 +1,7 @@
 -- Where a mark comes from, and who stands in it, after marks were merged and seen.
 use Rattle.std.proofs.Common.{◌≡◌, ℕ, ◌≤◌, refl, sym, ap, ◌∙◌, arith, Bool, true, false, Option, Some, None, ◌⊎◌, inl, inr}
-use Rattle.std.specs.Prelude.{if◌then◌else◌, min, nat_lt, nat_le, ◌==◌, ◌||◌}
-use Rattle.std.proofs.lemmas.Bool.Decides.{eqb_tells, nat_tests}
+use Rattle.std.specs.Prelude.{if◌then◌else◌, min, nat_lt, nat_le, ◌==◌}
+use Rattle.std.proofs.lemmas.Bool.Decides.{eqb_tells}
 use Rattle.std.proofs.lemmas.Bool.{or_cases, leb-true}
 use Rattle.rd_history.specs.History.{History, is_pruned}
 use Rattle.rd_history.specs.Vector.{with_member, united}

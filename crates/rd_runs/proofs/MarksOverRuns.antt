@@ -1,23 +1,21 @@
 -- In every run each member stands in the marks that it holds: one lemma for each kind of event.
-use Rattle.std.proofs.Common.{◌≡◌, ℕ, ◌-◌, List, [], ◌∷◌, refl, sym, ap, subst, ◌∙◌, Bool, true, false, Option, Some, None, inl, inr}
-use Rattle.std.specs.Prelude.{if◌then◌else◌, nat_lt, nat_le, ⊤}
-use Rattle.std.proofs.lemmas.Bool.Decides.{eqb_tells}
-use Rattle.rd_history.specs.Table.{with_at}
-use Rattle.rd_model.specs.View.{View, with_joined, with_replaced, first_view}
+use Rattle.std.proofs.Common.{◌≡◌, ℕ, List, refl, sym, subst, Bool, true, false, Option, Some, None}
+use Rattle.std.specs.Prelude.{if◌then◌else◌, nat_lt, nat_le, unwrap_or, ⊤}
+use Rattle.rd_model.specs.View.{View, first_view}
 use Rattle.rd_model.specs.Entry.{seen_by, empty_entry}
 use Rattle.rd_model.specs.DataType.{Replication}
 use Rattle.rd_model.specs.Message.{Message}
 use Rattle.rd_model.specs.Message.Message.{Deltas, Nack, Status, Gossip, Write, WriteAck, WriteNack, Read, ReadAnswer}
 use Rattle.rd_model.specs.Node.{KeyDecl, Node, Input, Fate, Stepped}
 use Rattle.rd_model.specs.Node.Input.{Update, Get, Take, Install, Flush, GossipTo, PruneTick, Timeout}
-use Rattle.rd_model.specs.Step.{step, installed}
-use Rattle.rd_model.specs.World.{World, Store, Event, run, start, happens, stepped_at, delivered, message_at, loaded_entry, loaded_node, stored_entry, view_of, moved_on}
-use Rattle.rd_model.specs.World.Event.{InputAt, Delivery, Loss, Removal, Joining, Restart}
+use Rattle.rd_model.specs.Step.{step, step_of_install}
+use Rattle.rd_model.specs.World.{World, Store, no_entries, start, loaded_entry, loaded_node}
 use Rattle.rd_runs.specs.Pruning.{SeesMarks, SeesItsMarks, AllSeeTheirMarks}
-use Rattle.rd_history.proofs.HistoryLaws.{with_at_same, with_at_other}
 use Rattle.rd_runs.proofs.Keeping.{AnyTick, IsKnown, IsKnownInput, keeps_step, if_holds}
 use Rattle.rd_runs.proofs.Stepping.{all_trivial}
 use Rattle.rd_runs.proofs.OwnMarks.{sees_seen, sees_kept}
+use Rattle.rd_runs.proofs.Happening.{NodeAfter, Follows}
+use Rattle.rd_runs.proofs.Happening.NodeAfter.{Same, Stepped as MadeStep, Started}
 
 module _ {Kind Op Shown : Type 0} (D : Replication Kind Op Shown) where
   -- A STEP
@@ -41,7 +39,7 @@ module _ {Kind Op Shown : Type 0} (D : Replication Kind Op Shown) where
       (record { same_identity = sees.identity; same_view = refl; same_keys = refl; entries = sees.entries }) brought in
       record { identity = keeps.same_identity; entries = λ key. subst (λ (v : View). SeesMarks i v.number ((step D node input fate).node.entries key)) (sym keeps.same_view) (keeps.entries key) }
 
-  by_installing : (i : ℕ) (node : Node Kind Op Shown) (view : View) (fate : Fate) → SeesItsMarks i node → SeesItsMarks i (installed D node view fate).node
+  by_installing : (i : ℕ) (node : Node Kind Op Shown) (view : View) (fate : Fate) → SeesItsMarks i node → SeesItsMarks i (step_of_install D node view fate).node
   by_installing i node view fate sees =
       if_holds (λ (s : Stepped Kind Op Shown). SeesItsMarks i s.node) (nat_le view.number node.view.number) _ _ sees
       (record {
@@ -64,56 +62,27 @@ module _ {Kind Op Shown : Type 0} (D : Replication Kind Op Shown) where
   sees_loaded_entry : (i : ℕ) (view : View) (store : Store Op) (o : Option (KeyDecl Kind)) → SeesMarks i view.number (loaded_entry i view store o)
   sees_loaded_entry i view store None = λ r m e h. absurd (cc e)
   sees_loaded_entry i view store (Some key) =
-      if_holds (SeesMarks i view.number) key.durable (seen_by i view.number (stored_entry store key.name)) empty_entry (sees_seen i view.number (stored_entry store key.name)) (λ r m e h. absurd (cc e))
+      if_holds (SeesMarks i view.number) key.durable (seen_by i view.number (unwrap_or (store key.name) empty_entry)) empty_entry (sees_seen i view.number (unwrap_or (store key.name) empty_entry)) (λ r m e h. absurd (cc e))
 
   sees_loaded : (keys : List (KeyDecl Kind)) (i : ℕ) (view : View) (store : Store Op) → SeesItsMarks i (loaded_node {Shown = Shown} keys i view store)
   sees_loaded keys i view store = record { identity = refl; entries = λ key. sees_loaded_entry i view store _ }
 
   -- AN EVENT
 
-  -- the world with one member changed
-  sees_changed : (nodes : ℕ → Option (Node Kind Op Shown)) (i : ℕ) (o : Option (Node Kind Op Shown)) → ((j : ℕ) (n : Node Kind Op Shown) → nodes j ≡ Some n → SeesItsMarks j n) → ((n : Node Kind Op Shown) → o ≡ Some n → SeesItsMarks i n)
-      → (j : ℕ) (n : Node Kind Op Shown) → with_at nodes i o j ≡ Some n → SeesItsMarks j n
-  sees_changed nodes i o old new j n e = elim (eqb_tells j i) [
-    | inl is ↦ subst (λ k. SeesItsMarks k n) (sym is.1) (new n (sym (with_at_same nodes i o) ∙ ap (with_at nodes i o) (sym is.1) ∙ e))
-    | inr isnt ↦ old j n (sym (with_at_other nodes i o j isnt.1) ∙ e)
-  ]
+  module _ (world next : World Kind Op Shown) (follows : Follows D world next) (all : AllSeeTheirMarks world) where
+    sees_after : (t : ℕ) (new : Node Kind Op Shown) → NodeAfter D world next t new → SeesItsMarks t new
+    sees_after t new (Same was stays) = all t new was
+    sees_after t new (MadeStep old input fate was comes is views) = subst (SeesItsMarks t) (sym is) (sees_step t old input fate (all t old was))
+    sees_after t new (Started store is given member made from) = subst (SeesItsMarks t) (sym made) (sees_loaded world.keys t next.view store)
 
-  this_one : (i : ℕ) (node : Node Kind Op Shown) → SeesItsMarks i node → (n : Node Kind Op Shown) → Some node ≡ Some n → SeesItsMarks i n
-  this_one i node sees n e = let same : node ≡ n = cc e in subst (SeesItsMarks i) same sees
+    pub sees_follow : AllSeeTheirMarks next
+    sees_follow t new runs = sees_after t new (follows.nodes t new runs)
 
-  sees_stepped : (world : World Kind Op Shown) (i : ℕ) (o : Option (Node Kind Op Shown)) → world.nodes i ≡ o → (input : Input Op) (fate : Fate) → AllSeeTheirMarks world → AllSeeTheirMarks (stepped_at D world i o input fate)
-  sees_stepped world i None e input fate all = all
-  sees_stepped world i (Some node) e input fate all = sees_changed world.nodes i _ all (this_one i _ (sees_step i node input fate (all i node e)))
-
-  sees_delivered : (world : World Kind Op Shown) (from to index : ℕ) (o : Option (Message Op)) (fate : Fate) → AllSeeTheirMarks world → AllSeeTheirMarks (delivered D world from to index o fate)
-  sees_delivered world from to index None fate all = all
-  sees_delivered world from to index (Some message) fate all = sees_stepped (record world { links = moved_on world.links from to index }) to (world.nodes to) refl (Take from message) fate all
-
-  pub sees_happens : (world : World Kind Op Shown) (event : Event Op) → AllSeeTheirMarks world → AllSeeTheirMarks (happens D world event)
-  sees_happens world (InputAt i input fate) all = sees_stepped world i (world.nodes i) refl input fate all
-  sees_happens world (Delivery from to index fate) all = sees_delivered world from to index (message_at world from to index) fate all
-  sees_happens world (Loss from to) all = all
-  sees_happens world (Removal i) all = sees_changed world.nodes i None all (λ n e. absurd (cc e))
-  sees_happens world (Joining place) all =
-      let view = with_joined (view_of world) place in
-      sees_changed world.nodes (view.given - 1) _ all (this_one (view.given - 1) _ (sees_loaded world.keys (view.given - 1) view _))
-  sees_happens world (Restart i) all =
-      let view = with_replaced (view_of world) i in
-      sees_changed (with_at world.nodes i None) (view.given - 1) _ (sees_changed world.nodes i None all (λ n e. absurd (cc e))) (this_one (view.given - 1) _ (sees_loaded world.keys (view.given - 1) view _))
-
-  -- A RUN
-
-  sees_run : (world : World Kind Op Shown) (events : List (Event Op)) → AllSeeTheirMarks world → AllSeeTheirMarks (run D world events)
-  sees_run world [] all = all
-  sees_run world (event ∷ events) all = sees_run (happens D world event) events (sees_happens world event all)
+  -- THE FIRST WORLD
 
   pub sees_at_start : (members : ℕ) (keys : List (KeyDecl Kind)) → AllSeeTheirMarks (start {Op = Op} {Shown = Shown} members keys)
   sees_at_start members keys i node e = from_test (nat_lt i members) e
     where
-      from_test : (b : Bool) → (if b then Some (loaded_node keys i (first_view members) []) else None) ≡ Some node → SeesItsMarks i node
-      from_test true e = this_one i _ (sees_loaded keys i (first_view members) []) node e
+      from_test : (b : Bool) → (if b then Some (loaded_node keys i (first_view members) no_entries) else None) ≡ Some node → SeesItsMarks i node
+      from_test true e = let same : loaded_node keys i (first_view members) no_entries ≡ node = cc e in subst (SeesItsMarks i) same (sees_loaded keys i (first_view members) no_entries)
       from_test false e = absurd (cc e)
-
-  pub own_marks : (members : ℕ) (keys : List (KeyDecl Kind)) (events : List (Event Op)) → AllSeeTheirMarks (run D (start members keys) events)
-  own_marks members keys events = sees_run (start members keys) events (sees_at_start members keys)

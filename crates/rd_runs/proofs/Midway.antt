@@ -6,11 +6,12 @@ use Rattle.rd_history.specs.History.{at, is_pruned, IsPartOf}
 use Rattle.rd_history.proofs.PartLaws.{part_trans}
 use Rattle.rd_meanings.specs.Refusal.{Shares}
 use Rattle.rd_model.specs.View.{identities_of}
-use Rattle.rd_model.specs.Entry.{Entry, Group, Mark, Tick, performed_unless, ticked_seen, ticked_mark, unseen}
+use Rattle.rd_model.specs.Entry.{Entry, Group, Mark, Tick, unseen}
 use Rattle.rd_model.specs.DataType.{Replication}
 use Rattle.rd_model.specs.Message.{Keyed}
 use Rattle.rd_model.specs.Node.{KeyState, Node}
 use Rattle.rd_model.specs.Step.{Ticking, after_entries, after_groups, tick_identity}
+use Rattle.rd_model.proofs.Cases.{performed_unless, ticked_seen, ticked_mark}
 use Rattle.rd_runs.proofs.Keeping.{AnyTick, keeps_entries, keeps_groups, if_holds}
 use Rattle.rd_runs.proofs.Stepping.{all_trivial}
 use Rattle.rd_runs.proofs.Growth.{IsGrown, grown_kept, part_same, part_with_record}

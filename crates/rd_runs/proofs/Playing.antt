@@ -1,21 +1,21 @@
--- What a script plays is a lawful run, its events are added to those before, and only ticks and settles bring prune ticks.
+-- What a script plays is a run, its events are added to those before, and only ticks and settles bring prune ticks.
 use Rattle.std.proofs.Common.{◌≡◌, ◌≢◌, ℕ, suc, ◌+◌, ◌<◌, List, [], ◌∷◌, ◌++◌, length, refl, sym, ap, subst, ◌∙◌, arith, Bool, true, false, Option, Some, None, append_assoc}
-use Rattle.std.specs.Prelude.{⊤, if◌then◌else◌, slice_get, fold, not, filter, nat_lt, ◌==◌, is_some}
+use Rattle.std.specs.Prelude.{⊤, ◌≤◌, if◌then◌else◌, slice_get, fold, not, filter, nat_lt, ◌==◌, is_some, option_map, option_and_then}
 use Rattle.std.specs.List.{range_with_len, AllByRecursion}
 use Rattle.std.proofs.lemmas.Bool.Decides.{nat_tests}
 use Rattle.std.proofs.lemmas.Bool.{not-false, ltb-true}
 use Rattle.rd_history.specs.Table.{identity_limit}
 use Rattle.rd_model.specs.View.{View, is_member, is_taken, place_of, leader, identities_of}
 use Rattle.rd_model.specs.DataType.{Replication}
-use Rattle.rd_model.specs.Message.{Message, Post}
-use Rattle.rd_model.specs.Node.{Node, Input, Fate, Finished}
-use Rattle.rd_model.specs.Node.Fate.{NoStore}
-use Rattle.rd_model.specs.Step.{step, is_full}
-use Rattle.rd_model.specs.World.{World, Event, view_of, views_of, link_of, message_at, stores, happens, run, IsLawful, AreLawful, IsGiven, StepsAt, FitsFate}
+use Rattle.rd_model.specs.Message.{Message}
+use Rattle.rd_model.specs.Node.{KeyDecl, Node, Input, Fate}
+use Rattle.rd_model.specs.Node.Fate.{NoStore, Stored, StoreFailed}
+use Rattle.rd_model.specs.Step.{is_full}
+use Rattle.rd_model.specs.World.{World, Event, Turn, views_of, message_at, turn_at, turn_of, output_of, stores, start, happens, run, IsLawful, AreLawful, IsGiven, StepsAt, FitsFate, IsRun}
 use Rattle.rd_model.specs.World.Event.{InputAt, Delivery, Loss, Removal, Joining}
-use Rattle.rd_model.specs.Script.{IsStep, called, ScriptStep, Head, Answer, Playing, Due, IsRun, did, told, given, given_to, given_room, given_fate, fate_of, keeper_answer, keeper_called, deliver, deliver_message, deliver_due, due_now, round_of, lose, remove, join, restart, install, install_view, unless_full, has_met_full, deliver_last, exchange, sweep, tick, install_last, is_older, settle, played, played_all, posted, last_number}
+use Rattle.rd_model.specs.Script.{IsStep, called, ScriptStep, Head, Answer, Told, KeeperAnswers, Playing, Due, opening, did, did_plainly, output_lines, told, given, take_turn, next_answer, with_call, deliver, deliver_due, due_now, round_of, lose, remove, join, restart, install, unless_full, has_met_full, deliver_last, exchange, sweep, tick, install_last, is_older, settle, played, played_all, posted, last_number}
 use Rattle.rd_model.specs.Script.Head.{DeliverHead}
-use Rattle.rd_model.specs.Script.Answer.{HistoryFull, Replied}
+use Rattle.rd_model.specs.Script.Answer.{HistoryFull}
 use Rattle.rd_runs.proofs.Keeping.{if_holds, if_tells, fold_all}
 use Rattle.rd_runs.specs.Logs.{IsNoTick}
 use Rattle.rd_history.proofs.HistoryLaws.{append_nothing}
@@ -37,6 +37,23 @@ module _ {Kind Op Shown : Type 0} (D : Replication Kind Op Shown) where
   lawful_pushed world [] event all here = (here, tt)
   lawful_pushed world (e ∷ events) event all here = (all.0, lawful_pushed (happens D world e) events event all.1 here)
 
+  -- a turn of this input is that of a running member
+  pub record IsTurnAt (world : World Kind Op Shown) (i : ℕ) (input : Input Op) (turn : Turn Kind Op Shown) : Type 0 where
+    pub runs : world.nodes i ≡ Some turn.before
+    pub input_is : turn.input ≡ input
+
+  turn_at_is : (world : World Kind Op Shown) (i : ℕ) (input : Input Op) (fate : Fate) (turn : Turn Kind Op Shown) → turn_at world i input fate ≡ Some turn → IsTurnAt world i input turn
+  turn_at_is world i input fate turn e = by_node (world.nodes i) refl e
+    where
+      by_node : (o : Option (Node Kind Op Shown)) → world.nodes i ≡ o → option_map (λ (node : Node Kind Op Shown). record { at = i; before = node; input = input; fate = fate }) o ≡ Some turn → IsTurnAt world i input turn
+      by_node None runs e = absurd (cc e)
+      by_node (Some node) runs e =
+          let same : record { at = i; before = node; input = input; fate = fate } ≡ turn = cc e in
+          subst (IsTurnAt world i input) same (record { runs = runs; input_is = refl })
+
+  steps_at : (world : World Kind Op Shown) (i : ℕ) (input : Input Op) (fate : Fate) (turn : Turn Kind Op Shown) → IsTurnAt world i input turn → is_full turn.before ≡ false → FitsFate D turn.before turn.input fate → StepsAt D world i input fate
+  steps_at world i input fate turn is room fits = record { node = turn.before; runs = is.runs; has_room = room; fate_fits = subst (λ (x : Input Op). FitsFate D turn.before x fate) is.input_is fits }
+
   -- what holds of the events and the world of a script goes on holding as allowed events happen
   pub record GoesOn (Q : List (Event Op) → World Kind Op Shown → Type 0) (Allowed : Event Op → Type 0) : Type 0 where
     pub quiet : (event : Event Op) → IsNoTick event → Allowed event
@@ -52,48 +69,53 @@ module _ {Kind Op Shown : Type 0} (D : Replication Kind Op Shown) where
     abbrev Plays : Playing Kind Op Shown → Type 0
     Plays p = Q p.events p.world
 
-    did_plays : (p : Playing Kind Op Shown) (event : Event Op) (head : Head Op) (answer : Answer Shown) (posts : List (Post Op)) (ended : Option (Finished Shown)) → Allowed event → Plays p → IsLawful D p.world event → Plays (did D p event head answer posts ended)
-    did_plays p event head answer posts ended allowed plays lawful = going.goes_on p.events p.world event lawful allowed plays
+    did_plays : (p : Playing Kind Op Shown) (event : Event Op) (lines : List (Told Op Shown)) → Allowed event → Plays p → IsLawful D p.world event → Plays (did D p event lines)
+    did_plays p event lines allowed plays lawful = going.goes_on p.events p.world event lawful allowed plays
+
+    plainly_plays : (p : Playing Kind Op Shown) (event : Event Op) (head : Head Op) (answer : Answer Shown) → Allowed event → Plays p → IsLawful D p.world event → Plays (did_plainly D p event head answer)
+    plainly_plays p event head answer allowed plays lawful = going.goes_on p.events p.world event lawful allowed plays
 
     -- AN INPUT
 
-    fate_fits : (node : Node Kind Op Shown) (input : Input Op) → 0 < length (stores D node input) → (ok : Bool) → FitsFate D node input (fate_of D ok)
-    fate_fits node input h true = not_empty (stores D node input) h
-    fate_fits node input h false = not_empty (stores D node input) h
-
-    room_plays : (p : Playing Kind Op Shown) (head : Head Op) (event : Fate → Event Op) (i : ℕ) (input : Input Op) (node : Node Kind Op Shown) → ((fate : Fate) → Allowed (event fate)) → ((fate : Fate) → StepsAt D p.world i input fate → IsLawful D p.world (event fate)) → p.world.nodes i ≡ Some node → is_full node ≡ false → Plays p → Plays (given_room D p head event i input node)
-    room_plays p head event i input node allowed lawful runs room plays = by_test (nat_lt 0 (length (stores D node input))) refl
+    turn_plays : (p : Playing Kind Op Shown) (head : Head Op) (event : Fate → Event Op) (turn : Turn Kind Op Shown) → ((fate : Fate) → Allowed (event fate)) → ((fate : Fate) → FitsFate D turn.before turn.input fate → IsLawful D p.world (event fate)) → Plays p → Plays (take_turn D p head event turn)
+    turn_plays p head event turn allowed lawful plays = by_test (nat_lt 0 (length (stores D turn.before turn.input))) refl
       where
-        by_test : (b : Bool) → nat_lt 0 (length (stores D node input)) ≡ b → Plays (given_fate D (if b then record p { keepers = keeper_called p (place_of (view_of p.world) i) } else p) head event i (step D node input (if b then fate_of D (keeper_answer p (place_of (view_of p.world) i)) else NoStore)) (if b then fate_of D (keeper_answer p (place_of (view_of p.world) i)) else NoStore))
+        by_test : (b : Bool) → nat_lt 0 (length (stores D turn.before turn.input)) ≡ b
+            → Plays (let fate = if b then (if next_answer p (place_of p.world.view turn.at) then Stored else StoreFailed) else NoStore in did D (if b then with_call p (place_of p.world.view turn.at) else p) (event fate) (output_lines D head (output_of D p.world (event fate))))
         by_test true e =
-            let called = record p { keepers = keeper_called p (place_of (view_of p.world) i) } in
-            let fate = fate_of D (keeper_answer p (place_of (view_of p.world) i)) in
-            let s = step D node input fate in
-            did_plays called (event fate) head (Replied s.output.reply) s.output.posts s.output.ended (allowed fate) plays
-            (lawful fate (record { node = node; runs = runs; has_room = room; fate_fits = fate_fits node input (ltb-true 0 (length (stores D node input)) e) (keeper_answer p (place_of (view_of p.world) i)) }))
-        by_test false e =
-            let s = step D node input NoStore in
-            did_plays p (event NoStore) head (Replied s.output.reply) s.output.posts s.output.ended (allowed NoStore) plays
-            (lawful NoStore (record { node = node; runs = runs; has_room = room; fate_fits = is_empty (stores D node input) e }))
+            let some = not_empty (stores D turn.before turn.input) (ltb-true 0 (length (stores D turn.before turn.input)) e) in
+            let ok = next_answer p (place_of p.world.view turn.at) in
+            let fate = if ok then Stored else StoreFailed in
+            did_plays (with_call p (place_of p.world.view turn.at)) (event fate) (output_lines D head (output_of D p.world (event fate))) (allowed fate) plays (lawful fate (if_holds (FitsFate D turn.before turn.input) ok Stored StoreFailed some some))
+        by_test false e = did_plays p (event NoStore) (output_lines D head (output_of D p.world (event NoStore))) (allowed NoStore) plays (lawful NoStore (is_empty (stores D turn.before turn.input) e))
 
-    to_plays : (p : Playing Kind Op Shown) (head : Head Op) (event : Fate → Event Op) (i : ℕ) (input : Input Op) (o : Option (Node Kind Op Shown)) → ((fate : Fate) → Allowed (event fate)) → ((fate : Fate) → StepsAt D p.world i input fate → IsLawful D p.world (event fate)) → p.world.nodes i ≡ o → Plays p → Plays (given_to D p head event i input o)
-    to_plays p head event i input None allowed lawful runs plays = plays
-    to_plays p head event i input (Some node) allowed lawful runs plays =
-        if_tells (λ q. Q q.events q.world) (is_full node) (told p head HistoryFull) (given_room D p head event i input node) (λ e. plays) (λ e. room_plays p head event i input node allowed lawful runs e plays)
+    given_plays : (p : Playing Kind Op Shown) (head : Head Op) (event : Fate → Event Op) → ((fate : Fate) → Allowed (event fate))
+        → ((turn : Turn Kind Op Shown) → turn_of p.world (event NoStore) ≡ Some turn → is_full turn.before ≡ false → (fate : Fate) → FitsFate D turn.before turn.input fate → IsLawful D p.world (event fate)) → Plays p → Plays (given D p head event)
+    given_plays p head event allowed lawful plays = by_turn (turn_of p.world (event NoStore)) refl
+      where
+        by_turn : (o : Option (Turn Kind Op Shown)) → turn_of p.world (event NoStore) ≡ o → Plays (elim o [ None ↦ told p head Answer.Gone | Some turn ↦ if is_full turn.before then told p head HistoryFull else take_turn D p head event turn ])
+        by_turn None e = plays
+        by_turn (Some turn) e = if_tells (λ q. Q q.events q.world) (is_full turn.before) (told p head HistoryFull) (take_turn D p head event turn) (λ full. plays) (λ room. turn_plays p head event turn allowed (lawful turn e room) plays)
 
-    given_plays : (p : Playing Kind Op Shown) (head : Head Op) (i : ℕ) (input : Input Op) → ((fate : Fate) → Allowed (InputAt i input fate)) → IsGiven D p.world input → Plays p → Plays (given D p head i input)
-    given_plays p head i input allowed is_given plays = to_plays p head (InputAt i input) i input (p.world.nodes i) allowed (λ fate at_step. (is_given, at_step)) refl plays
+    input_plays : (p : Playing Kind Op Shown) (head : Head Op) (i : ℕ) (input : Input Op) → ((fate : Fate) → Allowed (InputAt i input fate)) → IsGiven D p.world input → Plays p → Plays (given D p head (InputAt i input))
+    input_plays p head i input allowed is_given plays =
+        given_plays p head (InputAt i input) allowed (λ turn e room fate fits. let t = turn_at_is p.world i input NoStore turn e in (is_given, steps_at p.world i input fate turn t room fits)) plays
 
     -- DELIVERIES
 
-    message_plays : (p : Playing Kind Op Shown) (from to index : ℕ) (o : Option (Message Op)) → message_at p.world from to index ≡ o → Plays p → Plays (deliver_message D p from to index o)
-    message_plays p from to index None e plays = plays
-    message_plays p from to index (Some message) e plays = to_plays p (DeliverHead from to index (Some message)) (Delivery from to index) to (Input.Take from message) (p.world.nodes to) (λ fate. going.quiet (Delivery from to index fate) tt) (λ fate at_step. (message, e, at_step)) refl plays
+    message_plays : (p : Playing Kind Op Shown) (from to index : ℕ) (message : Message Op) → message_at p.world from to index ≡ Some message → Plays p → Plays (given D p (DeliverHead from to index (Some message)) (Delivery from to index))
+    message_plays p from to index message is plays =
+        given_plays p (DeliverHead from to index (Some message)) (Delivery from to index) (λ fate. going.quiet (Delivery from to index fate) tt)
+        (λ turn e room fate fits.
+        let t = turn_at_is p.world to (Input.Take from message) NoStore turn (sym (ap (option_and_then (λ (message : Message Op). turn_at p.world to (Input.Take from message) NoStore)) is) ∙ e) in
+        (message, is, steps_at p.world to (Input.Take from message) fate turn t room fits)) plays
 
     deliver_plays : (p : Playing Kind Op Shown) (from to index : ℕ) → Plays p → Plays (deliver D p from to index)
-    deliver_plays p from to index plays =
-        if_holds (λ q. Q q.events q.world) (is_some (p.world.nodes to)) (deliver_message D p from to index (message_at p.world from to index)) (told p (DeliverHead from to index None) Answer.Gone)
-        (message_plays p from to index (message_at p.world from to index) refl plays) plays
+    deliver_plays p from to index plays = if_holds (λ q. Q q.events q.world) (is_some (p.world.nodes to)) _ (told p (DeliverHead from to index None) Answer.Gone) (by_message (message_at p.world from to index) refl) plays
+      where
+        by_message : (o : Option (Message Op)) → message_at p.world from to index ≡ o → Plays (elim o [ None ↦ told p (DeliverHead from to index None) Answer.NoSuchMessage | Some message ↦ given D p (DeliverHead from to index (Some message)) (Delivery from to index) ])
+        by_message None is = plays
+        by_message (Some message) is = message_plays p from to index message is plays
 
     due_plays : (p : Playing Kind Op Shown) (due : Due) → Plays p → Plays (deliver_due D p due)
     due_plays p due plays = fold_all Plays (λ q index. deliver D q due.from due.to index) (λ q index h. deliver_plays q due.from due.to index h) (range_with_len due.first due.count) p plays
@@ -106,27 +128,27 @@ module _ {Kind Op Shown : Type 0} (D : Replication Kind Op Shown) where
 
     lose_plays : (p : Playing Kind Op Shown) (from to : ℕ) → Plays p → Plays (lose D p from to)
     lose_plays p from to plays =
-        let link = link_of p.world.links from to in
-        if_tells (λ q. Q q.events q.world) (nat_lt link.next (length link.messages)) (did D p (Loss from to) (Head.LoseHead from to link.next) Answer.Lost [] None) (told p (Head.LoseHead from to link.next) Answer.NoSuchMessage)
-        (λ e. did_plays p (Loss from to) (Head.LoseHead from to link.next) Answer.Lost [] None (going.quiet (Loss from to) tt) plays (ltb-true link.next (length link.messages) e)) (λ e. plays)
+        let link = p.world.links from to in
+        if_tells (λ q. Q q.events q.world) (nat_lt link.next (length link.messages)) (did_plainly D p (Loss from to) (Head.LoseHead from to link.next) Answer.Lost) (told p (Head.LoseHead from to link.next) Answer.NoSuchMessage)
+        (λ e. plainly_plays p (Loss from to) (Head.LoseHead from to link.next) Answer.Lost (going.quiet (Loss from to) tt) plays (ltb-true link.next (length link.messages) e)) (λ e. plays)
 
     remove_plays : (p : Playing Kind Op Shown) (i : ℕ) → Plays p → Plays (remove D p i)
     remove_plays p i plays =
-        let view = view_of p.world in
-        let done = did D p (Removal i) (Head.RemoveHead i) (Answer.NewView (view.number + 1)) [] None in
+        let view = p.world.view in
+        let done = did_plainly D p (Removal i) (Head.RemoveHead i) (Answer.NewView (view.number + 1)) in
         let last = told p (Head.RemoveHead i) Answer.LastMember in
         if_tells (λ q. Q q.events q.world) (not (is_member view i)) (told p (Head.RemoveHead i) Answer.Gone) (if nat_lt 1 (length view.members) then done else last) (λ e. plays)
         (λ member. if_tells (λ q. Q q.events q.world) (nat_lt 1 (length view.members)) done last
-        (λ more. did_plays p (Removal i) (Head.RemoveHead i) (Answer.NewView (view.number + 1)) [] None (going.quiet (Removal i) tt) plays (not-false (is_member view i) member, ltb-true 1 (length view.members) more)) (λ e. plays))
+        (λ more. plainly_plays p (Removal i) (Head.RemoveHead i) (Answer.NewView (view.number + 1)) (going.quiet (Removal i) tt) plays (not-false (is_member view i) member, ltb-true 1 (length view.members) more)) (λ e. plays))
 
     called_plays : (p : Playing Kind Op Shown) (place : ℕ) (event : Event Op) (head : Head Op) (answer failed : Answer Shown) → Allowed event → IsLawful D p.world event → Plays p → Plays (called D p place event head answer failed)
     called_plays p place event head answer failed allowed lawful plays =
-        let after = record p { keepers = keeper_called p place } in
-        if_holds (λ q. Q q.events q.world) (keeper_answer p place) (did D after event head answer [] None) (told after head failed) (did_plays after event head answer [] None allowed plays lawful) plays
+        let after = with_call p place in
+        if_holds (λ q. Q q.events q.world) (next_answer p place) (did_plainly D after event head answer) (told after head failed) (plainly_plays after event head answer allowed plays lawful) plays
 
     join_plays : (p : Playing Kind Op Shown) (place : ℕ) → place < 8 → Plays p → Plays (join D p place)
     join_plays p place small plays =
-        let view = view_of p.world in
+        let view = p.world.view in
         let yes = called D p place (Joining place) (Head.JoinHead place) (Answer.NewIdentity view.given (view.number + 1)) Answer.ClearFailed in
         let no = told p (Head.JoinHead place) Answer.TooManyIdentities in
         if_tells (λ q. Q q.events q.world) (is_taken view place) (told p (Head.JoinHead place) Answer.PlaceTaken) (if nat_lt view.given identity_limit then yes else no) (λ e. plays)
@@ -135,21 +157,19 @@ module _ {Kind Op Shown : Type 0} (D : Replication Kind Op Shown) where
 
     restart_plays : (p : Playing Kind Op Shown) (i : ℕ) → Plays p → Plays (restart D p i)
     restart_plays p i plays =
-        let view = view_of p.world in
+        let view = p.world.view in
         let yes = called D p (place_of view i) (Event.Restart i) (Head.RestartHead i) (Answer.NewIdentity view.given (view.number + 1)) Answer.LoadFailed in
         let no = told p (Head.RestartHead i) Answer.TooManyIdentities in
         if_tells (λ q. Q q.events q.world) (not (is_member view i)) (told p (Head.RestartHead i) Answer.Gone) (if nat_lt view.given identity_limit then yes else no) (λ e. plays)
         (λ member. if_tells (λ q. Q q.events q.world) (nat_lt view.given identity_limit) yes no
         (λ room. called_plays p (place_of view i) (Event.Restart i) (Head.RestartHead i) (Answer.NewIdentity view.given (view.number + 1)) Answer.LoadFailed (going.quiet (Event.Restart i) tt) (not-false (is_member view i) member, ltb-true view.given identity_limit room) plays) (λ e. plays))
 
-    view_plays : (p : Playing Kind Op Shown) (i number : ℕ) (o : Option View) → slice_get (views_of p.world) number ≡ o → Plays p → Plays (install_view D p i number o)
-    view_plays p i number None e plays = plays
-    view_plays p i number (Some view) e plays = given_plays p (Head.InstallHead i number) i (Input.Install view) (λ fate. going.quiet (InputAt i (Input.Install view) fate) tt) (number, e) plays
-
     install_plays : (p : Playing Kind Op Shown) (i number : ℕ) → Plays p → Plays (install D p i number)
-    install_plays p i number plays =
-        if_holds (λ q. Q q.events q.world) (is_some (p.world.nodes i)) (install_view D p i number (slice_get (views_of p.world) number)) (told p (Head.InstallHead i number) Answer.Gone)
-        (view_plays p i number (slice_get (views_of p.world) number) refl plays) plays
+    install_plays p i number plays = if_holds (λ q. Q q.events q.world) (is_some (p.world.nodes i)) _ (told p (Head.InstallHead i number) Answer.Gone) (by_view (slice_get (views_of p.world) number) refl) plays
+      where
+        by_view : (o : Option View) → slice_get (views_of p.world) number ≡ o → Plays (elim o [ None ↦ told p (Head.InstallHead i number) Answer.NoSuchView | Some view ↦ given D p (Head.InstallHead i number) (InputAt i (Input.Install view)) ])
+        by_view None e = plays
+        by_view (Some view) e = input_plays p (Head.InstallHead i number) i (Input.Install view) (λ fate. going.quiet (InputAt i (Input.Install view) fate) tt) (number, e) plays
 
     -- SETTLING
 
@@ -163,23 +183,23 @@ module _ {Kind Op Shown : Type 0} (D : Replication Kind Op Shown) where
 
     exchange_plays : (lead : ℕ) (p : Playing Kind Op Shown) (i : ℕ) → Plays p → Plays (exchange D lead p i)
     exchange_plays lead p i plays =
-        let gossip = λ (q : Playing Kind Op Shown). given D q (Head.GossipHead i lead) i (Input.GossipTo lead) in
+        let gossip = λ (q : Playing Kind Op Shown). given D q (Head.GossipHead i lead) (InputAt i (Input.GossipTo lead)) in
         let one = unless_full D gossip p in
         let two = deliver_last D (posted p) i lead one in
         let three = deliver_last D (posted one) lead i two in
         last_plays (posted two) i lead three
         (last_plays (posted one) lead i two
-        (last_plays (posted p) i lead one (unless_plays gossip p (given_plays p (Head.GossipHead i lead) i (Input.GossipTo lead) (λ fate. going.quiet (InputAt i (Input.GossipTo lead) fate) tt) tt plays) plays)))
+        (last_plays (posted p) i lead one (unless_plays gossip p (input_plays p (Head.GossipHead i lead) i (Input.GossipTo lead) (λ fate. going.quiet (InputAt i (Input.GossipTo lead) fate) tt) tt plays) plays)))
 
     sweep_plays : (p : Playing Kind Op Shown) → Plays p → Plays (sweep D p)
     sweep_plays p plays =
-        let view = view_of p.world in
+        let view = p.world.view in
         fold_all Plays (exchange D (leader view)) (exchange_plays (leader view)) (filter (λ i. not (i == leader view)) (identities_of view)) p plays
 
     tick_plays : ((j : ℕ) (fate : Fate) → Allowed (InputAt j Input.PruneTick fate)) → (p : Playing Kind Op Shown) → Plays p → Plays (tick D p)
     tick_plays ticks p plays =
-        let f = λ (q : Playing Kind Op Shown). given D q (Head.TickHead (leader (view_of q.world))) (leader (view_of q.world)) Input.PruneTick in
-        unless_plays f p (given_plays p (Head.TickHead (leader (view_of p.world))) (leader (view_of p.world)) Input.PruneTick (ticks (leader (view_of p.world))) tt plays) plays
+        let f = λ (q : Playing Kind Op Shown). given D q (Head.TickHead (leader q.world.view)) (InputAt (leader q.world.view) Input.PruneTick) in
+        unless_plays f p (input_plays p (Head.TickHead (leader p.world.view)) (leader p.world.view) Input.PruneTick (ticks (leader p.world.view)) tt plays) plays
 
     last_is_there : (views : List View) (view : View) → slice_get (views ++ view ∷ []) (length views) ≡ Some view
     last_is_there [] view = refl
@@ -187,33 +207,33 @@ module _ {Kind Op Shown : Type 0} (D : Replication Kind Op Shown) where
 
     install_last_plays : (p : Playing Kind Op Shown) (i : ℕ) → Plays p → Plays (install_last D p i)
     install_last_plays p i plays =
-        let view = view_of p.world in
-        let f = λ (q : Playing Kind Op Shown). given D q (Head.InstallHead i view.number) i (Input.Install view) in
+        let view = p.world.view in
+        let f = λ (q : Playing Kind Op Shown). given D q (Head.InstallHead i view.number) (InputAt i (Input.Install view)) in
         if_holds (λ q. Q q.events q.world) (is_older D view (p.world.nodes i)) (unless_full D f p) p
-        (unless_plays f p (given_plays p (Head.InstallHead i view.number) i (Input.Install view) (λ fate. going.quiet (InputAt i (Input.Install view) fate) tt) (length p.world.earlier, last_is_there p.world.earlier view) plays) plays) plays
+        (unless_plays f p (input_plays p (Head.InstallHead i view.number) i (Input.Install view) (λ fate. going.quiet (InputAt i (Input.Install view) fate) tt) (length p.world.earlier, last_is_there p.world.earlier view) plays) plays) plays
 
     settle_plays : ((j : ℕ) (fate : Fate) → Allowed (InputAt j Input.PruneTick fate)) → (p : Playing Kind Op Shown) → Plays p → Plays (settle D p)
     settle_plays ticks p plays =
         let begun = record p { lines = [] } in
-        let installed = fold (install_last D) begun (identities_of (view_of p.world)) in
+        let installed = fold (install_last D) begun (identities_of p.world.view) in
         let swept = sweep D (sweep D installed) in
         let again = sweep D (tick D swept) in
         sweep_plays (tick D again) (tick_plays ticks again (sweep_plays (tick D swept) (tick_plays ticks swept (sweep_plays (sweep D installed) (sweep_plays installed
-        (fold_all Plays (install_last D) install_last_plays (identities_of (view_of p.world)) begun plays))))))
+        (fold_all Plays (install_last D) install_last_plays (identities_of p.world.view) begun plays))))))
 
     -- A STEP OF A SCRIPT, AND ALL
 
     pub played_plays : (p : Playing Kind Op Shown) (s : ScriptStep Op) → IsStep s → AllowsStep Allowed s → Plays p → Plays (played D p s)
-    played_plays p (ScriptStep.Update i key op level) ok allows plays = given_plays p (Head.UpdateHead i key) i (Input.Update key op level) (λ fate. going.quiet (InputAt i (Input.Update key op level) fate) tt) tt plays
-    played_plays p (ScriptStep.Get i key level) ok allows plays = given_plays p (Head.GetHead i key) i (Input.Get key level) (λ fate. going.quiet (InputAt i (Input.Get key level) fate) tt) tt plays
-    played_plays p (ScriptStep.Flush i) ok allows plays = given_plays p (Head.FlushHead i) i Input.Flush (λ fate. going.quiet (InputAt i Input.Flush fate) tt) tt plays
-    played_plays p (ScriptStep.Gossip i to) ok allows plays = given_plays p (Head.GossipHead i to) i (Input.GossipTo to) (λ fate. going.quiet (InputAt i (Input.GossipTo to) fate) tt) tt plays
-    played_plays p (ScriptStep.Deliver from to None) ok allows plays = deliver_plays p from to (link_of p.world.links from to).next plays
+    played_plays p (ScriptStep.Update i key op level) ok allows plays = input_plays p (Head.UpdateHead i key) i (Input.Update key op level) (λ fate. going.quiet (InputAt i (Input.Update key op level) fate) tt) tt plays
+    played_plays p (ScriptStep.Get i key level) ok allows plays = input_plays p (Head.GetHead i key) i (Input.Get key level) (λ fate. going.quiet (InputAt i (Input.Get key level) fate) tt) tt plays
+    played_plays p (ScriptStep.Flush i) ok allows plays = input_plays p (Head.FlushHead i) i Input.Flush (λ fate. going.quiet (InputAt i Input.Flush fate) tt) tt plays
+    played_plays p (ScriptStep.Gossip i to) ok allows plays = input_plays p (Head.GossipHead i to) i (Input.GossipTo to) (λ fate. going.quiet (InputAt i (Input.GossipTo to) fate) tt) tt plays
+    played_plays p (ScriptStep.Deliver from to None) ok allows plays = deliver_plays p from to (p.world.links from to).next plays
     played_plays p (ScriptStep.Deliver from to (Some index)) ok allows plays = deliver_plays p from to index plays
     played_plays p (ScriptStep.Lose from to) ok allows plays = lose_plays p from to plays
     played_plays p ScriptStep.Round ok allows plays = round_plays p (due_now D p) plays
-    played_plays p (ScriptStep.Tick i) ok allows plays = given_plays p (Head.TickHead i) i Input.PruneTick (allows i) tt plays
-    played_plays p (ScriptStep.Timeout i op) ok allows plays = given_plays p (Head.TimeoutHead i op) i (Input.Timeout op) (λ fate. going.quiet (InputAt i (Input.Timeout op) fate) tt) tt plays
+    played_plays p (ScriptStep.Tick i) ok allows plays = input_plays p (Head.TickHead i) i Input.PruneTick (allows i) tt plays
+    played_plays p (ScriptStep.Timeout i op) ok allows plays = input_plays p (Head.TimeoutHead i op) i (Input.Timeout op) (λ fate. going.quiet (InputAt i (Input.Timeout op) fate) tt) tt plays
     played_plays p (ScriptStep.Remove i) ok allows plays = remove_plays p i plays
     played_plays p (ScriptStep.Join place) ok allows plays = join_plays p place ok plays
     played_plays p (ScriptStep.Restart i) ok allows plays = restart_plays p i plays
@@ -246,30 +266,33 @@ module _ {Kind Op Shown : Type 0} (D : Replication Kind Op Shown) where
   allows_all Allowed all [] = tt
   allows_all Allowed all (s ∷ steps) = (allows_any Allowed all s, allows_all Allowed all steps)
 
-  -- A LAWFUL RUN
+  -- A RUN
 
-  module _ (first : World Kind Op Shown) where
-    abbrev IsRunTo : List (Event Op) → World Kind Op Shown → Type 0
-    IsRunTo events world = IsRun D first events world
-
-    is_run : GoesOn IsRunTo (λ event. ⊤)
+  module _ (members : ℕ) (keys : List (KeyDecl Kind)) where
+    is_run : GoesOn (IsRun D members keys) (λ event. ⊤)
     is_run =
         record {
           quiet = λ event calm. tt;
           goes_on = λ events world event lawful allowed before. record {
-            leads = ap (λ w. happens D w event) before.leads ∙ sym (run_pushed first events event);
-            lawful = lawful_pushed first events event before.lawful (subst (λ w. IsLawful D w event) before.leads lawful);
+            some = before.some;
+            few = before.few;
+            lawful = lawful_pushed (start members keys) events event before.lawful (subst (λ w. IsLawful D w event) before.leads lawful);
+            leads = ap (λ w. happens D w event) before.leads ∙ sym (run_pushed (start members keys) events event);
           };
         }
 
-    pub played_is_run : (p : Playing Kind Op Shown) (steps : List (ScriptStep Op)) → AllByRecursion IsStep steps → IsRun D first p.events p.world → IsRun D first (played_all D p steps).events (played_all D p steps).world
-    played_is_run p steps ok = all_play IsRunTo (λ event. ⊤) is_run p steps ok (allows_all (λ event. ⊤) (λ event. tt) steps)
+    -- the run of a script before its first step
+    pub no_events : (answers : KeeperAnswers) → 1 ≤ members → members ≤ identity_limit → IsRun D members keys (opening {Op = Op} {Shown = Shown} answers members keys).events (opening {Op = Op} {Shown = Shown} answers members keys).world
+    no_events answers some few = record { some = some; few = few; lawful = tt; leads = refl }
 
-    pub step_is_run : (p : Playing Kind Op Shown) (s : ScriptStep Op) → IsStep s → IsRun D first p.events p.world → IsRun D first (played D p s).events (played D p s).world
-    step_is_run p s ok = played_plays IsRunTo (λ event. ⊤) is_run p s ok (allows_any (λ event. ⊤) (λ event. tt) s)
+    pub played_is_run : (p : Playing Kind Op Shown) (steps : List (ScriptStep Op)) → AllByRecursion IsStep steps → IsRun D members keys p.events p.world → IsRun D members keys (played_all D p steps).events (played_all D p steps).world
+    played_is_run p steps ok = all_play (IsRun D members keys) (λ event. ⊤) is_run p steps ok (allows_all (λ event. ⊤) (λ event. tt) steps)
 
-    pub deliver_is_run : (p : Playing Kind Op Shown) (from to index : ℕ) → IsRun D first p.events p.world → IsRun D first (deliver D p from to index).events (deliver D p from to index).world
-    deliver_is_run p from to index = deliver_plays IsRunTo (λ event. ⊤) is_run p from to index
+    pub step_is_run : (p : Playing Kind Op Shown) (s : ScriptStep Op) → IsStep s → IsRun D members keys p.events p.world → IsRun D members keys (played D p s).events (played D p s).world
+    step_is_run p s ok = played_plays (IsRun D members keys) (λ event. ⊤) is_run p s ok (allows_any (λ event. ⊤) (λ event. tt) s)
+
+    pub deliver_is_run : (p : Playing Kind Op Shown) (from to index : ℕ) → IsRun D members keys p.events p.world → IsRun D members keys (deliver D p from to index).events (deliver D p from to index).world
+    deliver_is_run p from to index = deliver_plays (IsRun D members keys) (λ event. ⊤) is_run p from to index
 
   -- EVENTS ARE ADDED
 

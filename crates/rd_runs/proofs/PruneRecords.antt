@@ -16,7 +16,7 @@ use Rattle.rd_model.specs.Node.{Node, Input, Fate}
 use Rattle.rd_model.specs.Node.Input.{Update, Get, Take, Install, Flush, GossipTo, PruneTick, Timeout}
 use Rattle.rd_model.specs.Step.{step}
 use Rattle.rd_runs.specs.Logs.{IsMessageOf}
-use Rattle.rd_runs.specs.Pruning.{Book}
+use Rattle.rd_runs.specs.Pruning.{HistoryVariables}
 use Rattle.rd_runs.proofs.Keeping.{AreKept, IsDue, IsSeenByAll}
 use Rattle.rd_runs.proofs.Stepping.{BringsInput, HasView, keeps_any, moves}
 use Rattle.rd_runs.proofs.Stepping.HasView.{SameView, NewView}
@@ -24,21 +24,21 @@ use Rattle.rd_runs.proofs.Mine.{IsMine, mine_kept, union_row, group_row, no_fewe
 use Rattle.rd_runs.proofs.Growth.{part_same, part_of_union, part_with_record, part_with_group}
 use Rattle.rd_runs.proofs.KnownMarks.{Stands, stands_more, MarksKnown}
 
-module _ {Op : Type 0} (book : Book Op) (i : ℕ) (small : i < identity_limit) (view : View) (Stays : Type 0) (base : Text → Entry Op) where
+module _ {Op : Type 0} (variables : HistoryVariables Op) (i : ℕ) (small : i < identity_limit) (view : View) (Stays : Type 0) (base : Text → Entry Op) where
   -- a prune that the member has just performed, in this view
   pub record IsNewPrune (key : Text) (r k : ℕ) (x : Record Op) : Type 0 where
     pub stays : Stays
     pub leads : leader view ≡ i
     pub given : r < view.given
     pub removed : is_member view r ≡ false
-    pub all : (t : ℕ) → is_member view t ≡ true → Stands book key r view.number t (x.past r)
-    pub late : at (book.made key) i ≤ k
+    pub all : (t : ℕ) → is_member view t ≡ true → Stands variables key r view.number t (x.past r)
+    pub late : at (variables.made key) i ≤ k
 
   -- the prunes among the member's own records
   pub record StepPrunes (key : Text) (entry : Entry Op) : Type 0 where
-    pub mine : IsMine (book.made key) i entry.history
+    pub mine : IsMine (variables.made key) i entry.history
     pub part : IsPartOf (base key).history entry.history
-    pub known : (k r : ℕ) (x : Record Op) → HasRecord entry.history i k x → x.action ≡ Prune r → HasRecord (book.made key) i k x ⊎ IsNewPrune key r k x
+    pub known : (k r : ℕ) (x : Record Op) → HasRecord entry.history i k x → x.action ≡ Prune r → HasRecord (variables.made key) i k x ⊎ IsNewPrune key r k x
     pub once : (k m r : ℕ) (x y : Record Op) → HasRecord entry.history i k x → HasRecord entry.history i m y → x.action ≡ Prune r → y.action ≡ Prune r → k ≡ m
 
   -- a tick comes to the mark that the member held
@@ -47,7 +47,7 @@ module _ {Op : Type 0} (book : Book Op) (i : ℕ) (small : i < identity_limit) (
     pub stays : Stays
 
   -- the own records stay
-  same_row : (key : Text) (entry after : Entry Op) → IsMine (book.made key) i after.history → IsPartOf (base key).history after.history → after.history i ≡ entry.history i → StepPrunes key entry → StepPrunes key after
+  same_row : (key : Text) (entry after : Entry Op) → IsMine (variables.made key) i after.history → IsPartOf (base key).history after.history → after.history i ≡ entry.history i → StepPrunes key entry → StepPrunes key after
   same_row key entry after mine part row p =
       let was : (k : ℕ) (x : Record Op) → HasRecord after.history i k x → HasRecord entry.history i k x = λ k x h. sym (ap (λ (xs : List (Record Op)). slice_get xs k) row) ∙ h in
       record {
@@ -58,7 +58,7 @@ module _ {Op : Type 0} (book : Book Op) (i : ℕ) (small : i < identity_limit) (
       }
 
   -- a new record that prunes nothing, or what nothing has pruned
-  one_more : (key : Text) (entry after : Entry Op) (action : Action Op) → after.history ≡ with_record entry.history i (record { action = action; past = versions entry.history }) → IsMine (book.made key) i after.history
+  one_more : (key : Text) (entry after : Entry Op) (action : Action Op) → after.history ≡ with_record entry.history i (record { action = action; past = versions entry.history }) → IsMine (variables.made key) i after.history
       → ((r : ℕ) → action ≡ Prune r → IsNewPrune key r (at entry.history i) (record { action = action; past = versions entry.history })) → ((r : ℕ) → action ≡ Prune r → is_pruned entry.history r ≡ false) → StepPrunes key entry → StepPrunes key after
   one_more key entry after action is mine new fresh p =
       let row : Record Op = record { action = action; past = versions entry.history } in
@@ -85,7 +85,7 @@ module _ {Op : Type 0} (book : Book Op) (i : ℕ) (small : i < identity_limit) (
       both k m r x y (inr nx) (inr ny) ex ey = nx.1 ∙ sym ny.1
 
   -- what the marks that the member held say of the prune
-  new_prune : (views : List View) → ((key : Text) → MarksKnown views book key (base key)) → (key : Text) (entry : Entry Op) (r : ℕ) → IsOldMark key r (entry.marks r) → IsDue i view entry r → IsSeenByAll view entry r → StepPrunes key entry
+  new_prune : (views : List View) → ((key : Text) → MarksKnown views variables key (base key)) → (key : Text) (entry : Entry Op) (r : ℕ) → IsOldMark key r (entry.marks r) → IsDue i view entry r → IsSeenByAll view entry r → StepPrunes key entry
       → IsNewPrune key r (at entry.history i) (record { action = Prune r; past = versions entry.history })
   new_prune views known key entry r old due seen p =
       let was : (base key).marks r ≡ Some seen.mark = sym old.old ∙ seen.is in
@@ -95,22 +95,22 @@ module _ {Op : Type 0} (book : Book Op) (i : ℕ) (small : i < identity_limit) (
         given = due.given;
         removed = due.removed;
         all = λ t member.
-            subst (λ v. Stands book key r v t (at entry.history r)) seen.now
-            (stands_more book key r seen.mark.view t (at (base key).history r) (at entry.history r) (part-le (base key).history entry.history p.part r) ((known key).seen r t seen.mark was (seen.seen t member)));
-        late = no_fewer (book.made key) i entry.history small p.mine;
+            subst (λ v. Stands variables key r v t (at entry.history r)) seen.now
+            (stands_more variables key r seen.mark.view t (at (base key).history r) (at entry.history r) (part-le (base key).history entry.history p.part r) ((known key).seen r t seen.mark was (seen.seen t member)));
+        late = no_fewer (variables.made key) i entry.history small p.mine;
       }
 
-  pub prunes_kept : (views : List View) → ((key : Text) → MarksKnown views book key (base key)) → AreKept StepPrunes (λ key theirs. IsTakenFrom (book.made key) theirs.history) (λ key group. IsGroupOf (book.made key) group) IsOldMark i view
+  pub prunes_kept : (views : List View) → ((key : Text) → MarksKnown views variables key (base key)) → AreKept StepPrunes (λ key theirs. IsTakenFrom (variables.made key) theirs.history) (λ key group. IsGroupOf (variables.made key) group) IsOldMark i view
   prunes_kept views known =
-      let kept = mine_kept book.made i view small in
+      let kept = mine_kept variables.made i view small in
       record {
         added = λ key entry op p. one_more key entry _ (Operation op) refl (kept.added key entry op p.mine) (λ r e. absurd (cc e)) (λ r e. absurd (cc e)) p;
         took = λ key mine theirs p taken.
             same_row key mine (seen_by i view.number (merged mine theirs)) (kept.took key mine theirs p.mine taken)
-            (part_trans (base key).history mine.history _ p.part (part_of_union mine.history theirs.history)) (union_row (book.made key) i mine.history small p.mine theirs.history taken) p;
+            (part_trans (base key).history mine.history _ p.part (part_of_union mine.history theirs.history)) (union_row (variables.made key) i mine.history small p.mine theirs.history taken) p;
         grouped = λ key entry group judgement p of_log.
             same_row key entry (with_group entry group) (kept.grouped key entry group judgement p.mine of_log)
-            (part_trans (base key).history entry.history _ p.part (part_with_group entry group)) (group_row (book.made key) i entry small p.mine group of_log judgement) p;
+            (part_trans (base key).history entry.history _ p.part (part_with_group entry group)) (group_row (variables.made key) i entry small p.mine group of_log judgement) p;
         marks = λ key entry shares r ticks due p. record { mine = p.mine; part = p.part; known = p.known; once = p.once };
         prunes = λ key entry shares r ticks due seen p.
             one_more key entry _ (Prune r) refl (kept.prunes key entry shares r tt due seen p.mine)
@@ -120,7 +120,7 @@ module _ {Op : Type 0} (book : Book Op) (i : ℕ) (small : i < identity_limit) (
 
 -- A STEP
 
-module _ {Kind Op Shown : Type 0} (D : Replication Kind Op Shown) (book : Book Op) (node : Node Kind Op Shown) (small : node.identity < identity_limit) (fate : Fate) where
+module _ {Kind Op Shown : Type 0} (D : Replication Kind Op Shown) (variables : HistoryVariables Op) (node : Node Kind Op Shown) (small : node.identity < identity_limit) (fate : Fate) where
   -- the view stays in the step
   abbrev pub ViewStays : Input Op → Type 0
   ViewStays input = (step D node input fate).node.view ≡ node.view
@@ -131,13 +131,13 @@ module _ {Kind Op Shown : Type 0} (D : Replication Kind Op Shown) (book : Book O
 
   -- what an input brings
   abbrev pub BringsLogs : Input Op → Type 0
-  BringsLogs (Take from message) = IsMessageOf book.made message
+  BringsLogs (Take from message) = IsMessageOf variables.made message
   BringsLogs _ = Unit {0}
 
   abbrev After : Input Op → Text → Entry Op → Type 0
-  After input key entry = StepPrunes book node.identity small node.view (ViewStays input) node.entries key entry
+  After input key entry = StepPrunes variables node.identity small node.view (ViewStays input) node.entries key entry
 
-  brings : (input : Input Op) → BringsLogs input → BringsInput D (After input) (λ key theirs. IsTakenFrom (book.made key) theirs.history) (λ key group. IsGroupOf (book.made key) group) (IsOldMark book node.identity small node.view (ViewStays input) node.entries) node input
+  brings : (input : Input Op) → BringsLogs input → BringsInput D (After input) (λ key theirs. IsTakenFrom (variables.made key) theirs.history) (λ key group. IsGroupOf (variables.made key) group) (IsOldMark variables node.identity small node.view (ViewStays input) node.entries) node input
   brings (Update key op level) of_logs = tt
   brings (Get key level) of_logs = tt
   brings (Take from message) of_logs = λ member. record { entries = of_logs.entries; groups = of_logs.groups }
@@ -147,15 +147,15 @@ module _ {Kind Op Shown : Type 0} (D : Replication Kind Op Shown) (book : Book O
   brings PruneTick of_logs = λ key r. record { old = refl; stays = ticks_stay (step D node PruneTick fate).node (moves D node PruneTick fate).view }
   brings (Timeout op) of_logs = tt
 
-  pub step_prunes : (views : List View) → ((key : Text) → MarksKnown views book key (node.entries key)) → (input : Input Op) → BringsLogs input → ((key : Text) → IsMine (book.made key) node.identity (node.entries key).history)
-      → ((key : Text) → (node.entries key).history node.identity ≡ book.made key node.identity)
-      → ((key : Text) (k m r : ℕ) (x y : Record Op) → HasRecord (book.made key) node.identity k x → HasRecord (book.made key) node.identity m y → x.action ≡ Prune r → y.action ≡ Prune r → k ≡ m)
-      → (key : Text) → StepPrunes book node.identity small node.view (ViewStays input) node.entries key ((step D node input fate).node.entries key)
+  pub step_prunes : (views : List View) → ((key : Text) → MarksKnown views variables key (node.entries key)) → (input : Input Op) → BringsLogs input → ((key : Text) → IsMine (variables.made key) node.identity (node.entries key).history)
+      → ((key : Text) → (node.entries key).history node.identity ≡ variables.made key node.identity)
+      → ((key : Text) (k m r : ℕ) (x y : Record Op) → HasRecord (variables.made key) node.identity k x → HasRecord (variables.made key) node.identity m y → x.action ≡ Prune r → y.action ≡ Prune r → k ≡ m)
+      → (key : Text) → StepPrunes variables node.identity small node.view (ViewStays input) node.entries key ((step D node input fate).node.entries key)
   step_prunes views known input of_logs mine own once key =
-      keeps_any D (After input) (λ key theirs. IsTakenFrom (book.made key) theirs.history) (λ key group. IsGroupOf (book.made key) group) (IsOldMark book node.identity small node.view (ViewStays input) node.entries) node
-      (prunes_kept book node.identity small node.view (ViewStays input) node.entries views known) input fate (brings input of_logs)
+      keeps_any D (After input) (λ key theirs. IsTakenFrom (variables.made key) theirs.history) (λ key group. IsGroupOf (variables.made key) group) (IsOldMark variables node.identity small node.view (ViewStays input) node.entries) node
+      (prunes_kept variables node.identity small node.view (ViewStays input) node.entries views known) input fate (brings input of_logs)
       (λ k.
-      let made : (j : ℕ) (x : Record Op) → HasRecord (node.entries k).history node.identity j x → HasRecord (book.made k) node.identity j x = λ j x h. sym (ap (λ (xs : List (Record Op)). slice_get xs j) (own k)) ∙ h in
+      let made : (j : ℕ) (x : Record Op) → HasRecord (node.entries k).history node.identity j x → HasRecord (variables.made k) node.identity j x = λ j x h. sym (ap (λ (xs : List (Record Op)). slice_get xs j) (own k)) ∙ h in
       record {
         mine = mine k;
         part = part_same (node.entries k).history;

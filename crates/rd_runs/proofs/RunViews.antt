@@ -9,11 +9,12 @@ use Rattle.rd_model.specs.DataType.{Replication}
 use Rattle.rd_model.specs.Node.{Node, Input, Fate}
 use Rattle.rd_model.specs.Node.Input.{Take, Install}
 use Rattle.rd_model.specs.Step.{step}
-use Rattle.rd_model.specs.World.{World, IsGiven, view_of, views_of}
-use Rattle.rd_runs.specs.Pruning.{Book, noted, view_number}
+use Rattle.rd_model.specs.World.{World, IsGiven, views_of}
+use Rattle.rd_runs.specs.Pruning.{HistoryVariables, noted, view_number}
 use Rattle.rd_runs.proofs.Stepping.{HasView, moves}
 use Rattle.rd_runs.proofs.Stepping.HasView.{SameView, NewView}
-use Rattle.rd_runs.proofs.ViewLaws.{IsRising, HasPlaces, IsNextView, IsMemberAfter}
+use Rattle.rd_runs.specs.Views.{HasSoundViews}
+use Rattle.rd_runs.proofs.ViewLaws.{IsRising, HasPlaces, IsNextView, IsMemberAfter, some_members, sound}
 use Rattle.rd_runs.proofs.ViewLaws.IsMemberAfter.{OldMember, NewMember}
 use Rattle.rd_runs.proofs.Happening.{Comes, NodeAfter, ViewsAfter, AllRun, Follows}
 use Rattle.rd_runs.proofs.Happening.Comes.{Given, Brought}
@@ -43,6 +44,7 @@ pub record AreViews (views : List View) (last : View) : Type 0 where
   pub below : (k : ℕ) (view : View) (t : ℕ) → slice_get views k ≡ Some view → is_member view t ≡ true → t < view.given
   pub rising : (k : ℕ) (view : View) → slice_get views k ≡ Some view → IsRising 0 view.given view.members
   pub some : (k : ℕ) (view : View) → slice_get views k ≡ Some view → (t : ℕ) × (is_member view t ≡ true)
+  pub places : (k : ℕ) (view : View) → slice_get views k ≡ Some view → HasPlaces view
   pub given : (j k : ℕ) (v w : View) → j ≤ k → slice_get views j ≡ Some v → slice_get views k ≡ Some w → v.given ≤ w.given
   pub gone : (j k : ℕ) (v w : View) (r : ℕ) → j ≤ k → slice_get views j ≡ Some v → slice_get views k ≡ Some w → r < v.given → is_member v r ≡ false → is_member w r ≡ false
 
@@ -100,6 +102,10 @@ module _ (views : List View) (last : View) (are : AreViews views last) where
             | inl old ↦ are.some k view old
             | inr new ↦ (is_next.some.0, ap (λ (v : View). is_member v is_next.some.0) (sym new.1) ∙ is_next.some.1)
           ];
+          places = λ k view e. elim (slice_get-push views next view k e) [
+            | inl old ↦ are.places k view old
+            | inr new ↦ subst HasPlaces new.1 (is_next.places (are.places last.number last are.listed))
+          ];
           given = λ j k v w h hv hw. elim (slice_get-push views next w k hw) [
             | inl old ↦ elim (slice_get-push views next v j hv) [
               | inl old' ↦ are.given j k v w h old' old
@@ -131,42 +137,47 @@ module _ (views : List View) (last : View) (are : AreViews views last) where
 -- RUNNING MEMBERS
 
 module _ {Kind Op Shown : Type 0} where
-  pub record RunsWell (book : Book Op) (world : World Kind Op Shown) (t : ℕ) (node : Node Kind Op Shown) : Type 0 where
+  pub record RunsWell (variables : HistoryVariables Op) (world : World Kind Op Shown) (t : ℕ) (node : Node Kind Op Shown) : Type 0 where
     pub identity : node.identity ≡ t
     pub keys : node.keys ≡ world.keys
     pub viewed : slice_get (views_of world) node.view.number ≡ Some node.view
     pub member : is_member node.view t ≡ true
-    pub last : is_member (view_of world) t ≡ true
-    pub installed : book.installed t ≡ node.view.number
+    pub last : is_member world.view t ≡ true
+    pub installed : variables.installed t ≡ node.view.number
 
 module _ {Kind Op Shown : Type 0} (D : Replication Kind Op Shown) where
-  pub record HasViews (book : Book Op) (world : World Kind Op Shown) : Type 0 where
-    pub views : AreViews (views_of world) (view_of world)
-    pub running : (t : ℕ) (node : Node Kind Op Shown) → world.nodes t ≡ Some node → RunsWell book world t node
+  pub record HasViews (variables : HistoryVariables Op) (world : World Kind Op Shown) : Type 0 where
+    pub views : AreViews (views_of world) world.view
+    pub running : (t : ℕ) (node : Node Kind Op Shown) → world.nodes t ≡ Some node → RunsWell variables world t node
     pub all_run : AllRun D world
-    pub places : HasPlaces (view_of world)
-    pub installed : (t : ℕ) → book.installed t ≤ (view_of world).number
+    pub installed : (t : ℕ) → variables.installed t ≤ world.view.number
+
+  -- each view of the list is sound
+  pub sound_views : (variables : HistoryVariables Op) (world : World Kind Op Shown) → HasViews variables world → HasSoundViews world
+  sound_views variables world has number view listed =
+      let some = has.views.some number view listed in
+      sound number view (has.views.numbered number view listed) (some_members view some.0 some.1) (has.views.rising number view listed) (λ t m. has.views.below number view t listed m) (has.views.places number view listed)
 
   -- a running member that isn't in a view, or has installed a later one, is past it
-  pub past_view : (book : Book Op) (world : World Kind Op Shown) → HasViews book world → (t : ℕ) (node : Node Kind Op Shown) → world.nodes t ≡ Some node → (view : View) → slice_get (views_of world) view.number ≡ Some view → is_member view t ≡ false → view.number ≤ node.view.number
-  past_view book world has t node runs view listed stranger = elim (cases_lt node.view.number view.number) [
+  pub past_view : (variables : HistoryVariables Op) (world : World Kind Op Shown) → HasViews variables world → (t : ℕ) (node : Node Kind Op Shown) → world.nodes t ≡ Some node → (view : View) → slice_get (views_of world) view.number ≡ Some view → is_member view t ≡ false → view.number ≤ node.view.number
+  past_view variables world has t node runs view listed stranger = elim (cases_lt node.view.number view.number) [
     | inl early ↦
         let well = has.running t node runs in
         absurd (both_ways (is_member view t)
-        (between (views_of world) (view_of world) has.views node.view.number view.number (view_of world).number node.view view (view_of world) t (omega arith) (at_most_last (views_of world) (view_of world) has.views view.number view listed)
+        (between (views_of world) world.view has.views node.view.number view.number world.view.number node.view view world.view t (omega arith) (at_most_last (views_of world) world.view has.views view.number view listed)
         well.viewed listed has.views.listed well.member well.last) stranger)
     | inr late ↦ late
   ]
 
   -- AN EVENT
 
-  module _ (book : Book Op) (world next : World Kind Op Shown) (has : HasViews book world) (follows : Follows D world next) where
-    pub last_given : (t : ℕ) → is_member (view_of world) t ≡ true → t < (view_of world).given
-    last_given t m = has.views.below (view_of world).number (view_of world) t has.views.listed m
+  module _ (variables : HistoryVariables Op) (world next : World Kind Op Shown) (has : HasViews variables world) (follows : Follows D world next) where
+    pub last_given : (t : ℕ) → is_member world.view t ≡ true → t < world.view.given
+    last_given t m = has.views.below world.view.number world.view t has.views.listed m
 
-    views_after : ViewsAfter D world next → AreViews (views_of next) (view_of next)
-    views_after (SameViews e v) = subst (λ (views : List View). AreViews views (view_of next)) (λ i. sym e i ++ sym v i ∷ []) (subst (AreViews (views_of world)) (sym v) has.views)
-    views_after (NextViews e n) = subst (λ (views : List View). AreViews (views ++ view_of next ∷ []) (view_of next)) (sym e) (next_views (views_of world) (view_of world) has.views (view_of next) n)
+    views_after : ViewsAfter D world next → AreViews (views_of next) next.view
+    views_after (SameViews e v) = subst (λ (views : List View). AreViews views next.view) (λ i. sym e i ++ sym v i ∷ []) (subst (AreViews (views_of world)) (sym v) has.views)
+    views_after (NextViews e n) = subst (λ (views : List View). AreViews (views ++ next.view ∷ []) next.view) (sym e) (next_views (views_of world) world.view has.views next.view n)
 
     -- a view of the list stays in it
     pub still_listed : (k : ℕ) (view : View) → slice_get (views_of world) k ≡ Some view → slice_get (views_of next) k ≡ Some view
@@ -174,13 +185,13 @@ module _ {Kind Op Shown : Type 0} (D : Replication Kind Op Shown) where
       where
         go : ViewsAfter D world next → slice_get (views_of next) k ≡ Some view
         go (SameViews f v) = ap (λ (views : List View). slice_get views k) (λ i. f i ++ v i ∷ []) ∙ e
-        go (NextViews f n) = ap (λ (views : List View). slice_get (views ++ view_of next ∷ []) k) f ∙ slice_get-left (views_of world) (view_of next) view k e
+        go (NextViews f n) = ap (λ (views : List View). slice_get (views ++ next.view ∷ []) k) f ∙ slice_get-left (views_of world) next.view view k e
 
-    pub later_number : (view_of world).number ≤ (view_of next).number
+    pub later_number : world.view.number ≤ next.view.number
     later_number = go follows.views
       where
-        go : ViewsAfter D world next → (view_of world).number ≤ (view_of next).number
-        go (SameViews f v) = let a : (view_of next).number ≡ (view_of world).number = ap (λ (x : View). x.number) v in omega arith
+        go : ViewsAfter D world next → world.view.number ≤ next.view.number
+        go (SameViews f v) = let a : next.view.number ≡ world.view.number = ap (λ (x : View). x.number) v in omega arith
         go (NextViews f n) = let a = n.number in omega arith
 
     pub record StaysWell (t : ℕ) (node : Node Kind Op Shown) : Type 0 where
@@ -188,7 +199,7 @@ module _ {Kind Op Shown : Type 0} (D : Replication Kind Op Shown) where
       pub keys : node.keys ≡ next.keys
       pub viewed : slice_get (views_of next) node.view.number ≡ Some node.view
       pub member : is_member node.view t ≡ true
-      pub last : is_member (view_of next) t ≡ true
+      pub last : is_member next.view t ≡ true
 
     -- an installed view is one of the list, and the member is in it
     installs : (t : ℕ) (old : Node Kind Op Shown) (input : Input Op) → world.nodes t ≡ Some old → (view : View) → input ≡ Install view → old.view.number < view.number → Comes D world t input → (slice_get (views_of world) view.number ≡ Some view) × (is_member view t ≡ true)
@@ -197,7 +208,7 @@ module _ {Kind Op Shown : Type 0} (D : Replication Kind Op Shown) where
         let listed : slice_get (views_of world) view.number ≡ Some view = ap (slice_get (views_of world)) (has.views.numbered g.0 view g.1) ∙ g.1 in
         let well = has.running t old runs in (
           listed,
-          between (views_of world) (view_of world) has.views old.view.number view.number (view_of world).number old.view view (view_of world) t (omega arith) (at_most_last (views_of world) (view_of world) has.views view.number view listed)
+          between (views_of world) world.view has.views old.view.number view.number world.view.number old.view view world.view t (omega arith) (at_most_last (views_of world) world.view has.views view.number view listed)
               well.viewed listed has.views.listed well.member well.last,
         )
     installs t old input runs view is later (Brought from index message sent was) = absurd (let f : Install view ≡ Take from message = sym is ∙ was in cc f)
@@ -208,10 +219,10 @@ module _ {Kind Op Shown : Type 0} (D : Replication Kind Op Shown) where
         let m = moves D old input fate in
         let ident : new.identity ≡ t = ap (λ (n : Node Kind Op Shown). n.identity) is ∙ m.identity ∙ well.identity in
         let keys : new.keys ≡ next.keys = ap (λ (n : Node Kind Op Shown). n.keys) is ∙ m.keys ∙ well.keys ∙ sym follows.keys in
-        let stays : is_member (view_of next) t ≡ true = ap (λ (v : View). is_member v t) same ∙ well.last in
+        let stays : is_member next.view t ≡ true = ap (λ (v : View). is_member v t) same ∙ well.last in
         by_view m.view ident keys stays
       where
-        by_view : HasView old input (step D old input fate).node → new.identity ≡ t → new.keys ≡ next.keys → is_member (view_of next) t ≡ true → StaysWell t new
+        by_view : HasView old input (step D old input fate).node → new.identity ≡ t → new.keys ≡ next.keys → is_member next.view t ≡ true → StaysWell t new
         by_view (SameView e) ident keys stays =
             let well = has.running t old runs in
             let v : new.view ≡ old.view = ap (λ (n : Node Kind Op Shown). n.view) is ∙ e in
@@ -237,7 +248,7 @@ module _ {Kind Op Shown : Type 0} (D : Replication Kind Op Shown) where
     well_after t new (Same e stays) = let well = has.running t new e in record { identity = well.identity; keys = well.keys ∙ sym follows.keys; viewed = still_listed new.view.number new.view well.viewed; member = well.member; last = stays well.last }
     well_after t new (Stepped old input fate e comes is same) = stepped_well t old new input fate e comes is same
     well_after t new (Started store is given member made from) =
-        let v : new.view ≡ view_of next = ap (λ (n : Node Kind Op Shown). n.view) made in
+        let v : new.view ≡ next.view = ap (λ (n : Node Kind Op Shown). n.view) made in
         record {
           identity = ap (λ (n : Node Kind Op Shown). n.identity) made;
           keys = ap (λ (n : Node Kind Op Shown). n.keys) made ∙ sym follows.keys;
@@ -247,25 +258,20 @@ module _ {Kind Op Shown : Type 0} (D : Replication Kind Op Shown) where
         }
 
     -- the number of a listed view
-    listed_number : (k : ℕ) (view : View) → slice_get (views_of next) k ≡ Some view → k ≤ (view_of next).number
-    listed_number k view e = at_most_last (views_of next) (view_of next) (views_after follows.views) k view e
+    listed_number : (k : ℕ) (view : View) → slice_get (views_of next) k ≡ Some view → k ≤ next.view.number
+    listed_number k view e = at_most_last (views_of next) next.view (views_after follows.views) k view e
 
-    pub views_follow : HasViews (noted book next) next
+    pub views_follow : HasViews (noted variables next) next
     views_follow =
         record {
           views = views_after follows.views;
           running = λ t node e.
               let w = well_after t node (follows.nodes t node e) in
-              record { identity = w.identity; keys = w.keys; viewed = w.viewed; member = w.member; last = w.last; installed = ap (λ o. view_number o (book.installed t)) e };
+              record { identity = w.identity; keys = w.keys; viewed = w.viewed; member = w.member; last = w.last; installed = ap (λ o. view_number o (variables.installed t)) e };
           all_run = follows.running has.all_run;
-          places = places_after follows.views;
           installed = λ t. number_of t (next.nodes t) refl;
         }
       where
-        places_after : ViewsAfter D world next → HasPlaces (view_of next)
-        places_after (SameViews e v) = subst HasPlaces (sym v) has.places
-        places_after (NextViews e n) = n.places has.places
-
-        number_of : (t : ℕ) (o : Option (Node Kind Op Shown)) → next.nodes t ≡ o → view_number o (book.installed t) ≤ (view_of next).number
+        number_of : (t : ℕ) (o : Option (Node Kind Op Shown)) → next.nodes t ≡ o → view_number o (variables.installed t) ≤ next.view.number
         number_of t None e = let a = has.installed t in let b = later_number in omega arith
         number_of t (Some node) e = listed_number node.view.number node.view (well_after t node (follows.nodes t node e)).viewed

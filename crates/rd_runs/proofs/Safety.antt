@@ -2,7 +2,6 @@
 use Rattle.std.proofs.Common.{◌≡◌, ℕ, zero, suc, ◌<◌, ◌≤◌, List, [], ◌∷◌, ◌++◌, refl, sym, ap, subst, ◌∙◌, arith, Bool, true, false, Option, Some, None}
 use Rattle.std.specs.Prelude.{if◌then◌else◌, slice_get, nat_lt, find}
 use Rattle.std.specs.Str.{bytes_eq}
-use Rattle.std.proofs.lemmas.Bool.Decides.{nat_tests}
 use Rattle.std.proofs.lemmas.Bool.{ltb-true, lt-ltb}
 use Rattle.rd_history.specs.Texts.{Text}
 use Rattle.rd_history.specs.Table.{identity_limit}
@@ -12,14 +11,14 @@ use Rattle.rd_model.specs.Entry.{Entry, Mark, empty_entry, seen_by}
 use Rattle.rd_model.specs.DataType.{Replication}
 use Rattle.rd_model.specs.Message.{Message}
 use Rattle.rd_model.specs.Node.{KeyDecl, Node}
-use Rattle.rd_model.specs.World.{World, Event, run, start, happens, message_at, loaded_entry, loaded_node, stored_entry, view_of, views_of, IsLawful, AreLawful}
+use Rattle.rd_model.specs.World.{World, Event, no_entries, run, start, happens, message_at, loaded_entry, loaded_node, views_of, IsLawful, AreLawful, IsRun}
 use Rattle.rd_runs.specs.Logs.{HasLogs}
-use Rattle.rd_runs.specs.Pruning.{Book, Standing, empty_book, noted, book_from, book_of, IsLawfulRun, own_records, view_number, joined_by, joining, HasUnprunedMarks, AllSeeTheirMarks}
-use Rattle.rd_runs.proofs.EntriesOverRuns.{AllGood, happens_good, start_good}
+use Rattle.rd_runs.specs.Pruning.{HistoryVariables, Standing, nothing_noted, noted, variables_from, variables_of, own_records, view_number, joined_by, joining, HasUnprunedMarks, AllSeeTheirMarks}
+use Rattle.rd_runs.proofs.EntriesOverRuns.{AllGood, good_follows, start_good}
 use Rattle.rd_runs.proofs.UnprunedMarks.{unpruned_always}
-use Rattle.rd_runs.proofs.MarksOverRuns.{sees_happens, sees_at_start}
+use Rattle.rd_runs.proofs.MarksOverRuns.{sees_follow, sees_at_start}
 use Rattle.rd_runs.proofs.AgreementOverRuns.{start_has}
-use Rattle.rd_runs.proofs.ViewLaws.{IsRising, first_below, first_member, first_places, first_rising}
+use Rattle.rd_runs.proofs.ViewLaws.{IsRising, HasPlaces, first_below, first_member, first_places, first_rising}
 use Rattle.rd_runs.proofs.Happening.{event_follows}
 use Rattle.rd_runs.proofs.RunViews.{HasViews, AreViews, views_follow}
 use Rattle.rd_runs.proofs.StoredParts.{HasParts, parts_follow}
@@ -29,44 +28,44 @@ use Rattle.rd_runs.proofs.Bounds.{HasBounds, bounds_follow}
 use Rattle.rd_runs.proofs.EarlyPrunes.{HasBars, bars_follow}
 
 module _ {Kind Op Shown : Type 0} (D : Replication Kind Op Shown) where
-  -- what holds of the book and the world at each moment of a run
-  pub record IsSafe (book : Book Op) (world : World Kind Op Shown) : Type 0 where
-    pub views : HasViews D book world
+  -- what holds of the variables and the world at each moment of a run
+  pub record IsSafe (variables : HistoryVariables Op) (world : World Kind Op Shown) : Type 0 where
+    pub views : HasViews D variables world
     pub parts : HasParts D world
-    pub marks : HasMarks book world
-    pub logs : HasLogs book.made world
-    pub prunes : HasPrunes book world
-    pub bounds : HasBounds book world
-    pub bars : HasBars book world
+    pub marks : HasMarks variables world
+    pub logs : HasLogs variables.made world
+    pub prunes : HasPrunes variables world
+    pub bounds : HasBounds variables world
+    pub bars : HasBars variables world
     pub good : AllGood D HasUnprunedMarks unpruned_always world
     pub own : AllSeeTheirMarks world
 
   -- AN EVENT
 
-  safe_follows : (book : Book Op) (world : World Kind Op Shown) → IsSafe book world → (event : Event Op) → IsLawful D world event → IsSafe (noted book (happens D world event)) (happens D world event)
-  safe_follows book world safe event lawful =
+  safe_follows : (variables : HistoryVariables Op) (world : World Kind Op Shown) → IsSafe variables world → (event : Event Op) → IsLawful D world event → IsSafe (noted variables (happens D world event)) (happens D world event)
+  safe_follows variables world safe event lawful =
       let next = happens D world event in
       let views = safe.views.views in
-      let last = view_of world in
+      let last = world.view in
       let follows = event_follows D world (λ t m. views.below last.number last t views.listed m) (views.rising last.number last views.listed) event lawful in
-      let good = happens_good D HasUnprunedMarks unpruned_always world safe.good event lawful in
+      let good = good_follows D HasUnprunedMarks unpruned_always world next follows safe.good in
       let unpruned : (t : ℕ) (new : Node Kind Op Shown) (key : Text) → next.nodes t ≡ Some new → HasUnprunedMarks (new.entries key) = λ t new key runs. good.held t new runs key in
-      let logs = made_follow D book world safe.logs event lawful in
+      let logs = made_follow D variables world safe.logs event lawful in
       record {
-        views = views_follow D book world next safe.views follows;
-        parts = parts_follow D book world next safe.views follows safe.parts;
-        marks = marks_follow D book world next safe.views follows safe.parts safe.marks unpruned;
+        views = views_follow D variables world next safe.views follows;
+        parts = parts_follow D variables world next safe.views follows safe.parts;
+        marks = marks_follow D variables world next safe.views follows safe.parts safe.marks unpruned;
         logs = logs;
-        prunes = prunes_follow D book world next safe.views follows safe.parts safe.marks safe.logs safe.prunes;
-        bounds = bounds_follow D book world next safe.views follows safe.parts safe.marks unpruned safe.bounds;
-        bars = bars_follow D book world next safe.views follows safe.parts safe.marks safe.logs unpruned logs safe.bars;
+        prunes = prunes_follow D variables world next safe.views follows safe.parts safe.marks safe.logs safe.prunes;
+        bounds = bounds_follow D variables world next safe.views follows safe.parts safe.marks unpruned safe.bounds;
+        bars = bars_follow D variables world next safe.views follows safe.parts safe.marks safe.logs unpruned logs safe.bars;
         good = good;
-        own = sees_happens D world event safe.own;
+        own = sees_follow D world next follows safe.own;
       }
 
-  safe_run : (book : Book Op) (world : World Kind Op Shown) (events : List (Event Op)) → AreLawful D world events → IsSafe book world → IsSafe (book_from D book world events) (run D world events)
-  safe_run book world [] lawful safe = safe
-  safe_run book world (event ∷ events) lawful safe = safe_run (noted book (happens D world event)) (happens D world event) events lawful.1 (safe_follows book world safe event lawful.0)
+  safe_run : (variables : HistoryVariables Op) (world : World Kind Op Shown) (events : List (Event Op)) → AreLawful D world events → IsSafe variables world → IsSafe (variables_from D variables world events) (run D world events)
+  safe_run variables world [] lawful safe = safe
+  safe_run variables world (event ∷ events) lawful safe = safe_run (noted variables (happens D world event)) (happens D world event) events lawful.1 (safe_follows variables world safe event lawful.0)
 
   -- THE FIRST WORLD
 
@@ -74,8 +73,8 @@ module _ {Kind Op Shown : Type 0} (D : Replication Kind Op Shown) where
     abbrev first : World Kind Op Shown
     first = start members keys
 
-    abbrev opening : Book Op
-    opening = noted empty_book first
+    abbrev opening : HistoryVariables Op
+    opening = noted nothing_noted first
 
     abbrev view : View
     view = first_view members
@@ -92,17 +91,17 @@ module _ {Kind Op Shown : Type 0} (D : Replication Kind Op Shown) where
       pub view_is : node.view ≡ view
       pub bare : (key : Text) → IsBare (node.entries key)
 
-    bare_loaded : (t : ℕ) (o : Option (KeyDecl Kind)) → IsBare (loaded_entry t view [] o)
+    bare_loaded : (t : ℕ) (o : Option (KeyDecl Kind)) → IsBare (loaded_entry t view no_entries o)
     bare_loaded t None = record { history = refl; marks = λ r. refl }
     bare_loaded t (Some key) = go key.durable
       where
-        go : (b : Bool) → IsBare (if b then seen_by t view.number (stored_entry [] key.name) else empty_entry)
+        go : (b : Bool) → IsBare (if b then seen_by t view.number empty_entry else empty_entry)
         go true = record { history = refl; marks = λ r. refl }
         go false = record { history = refl; marks = λ r. refl }
 
-    first_by_test : (t : ℕ) (b : Bool) → nat_lt t members ≡ b → (node : Node Kind Op Shown) → (if b then Some (loaded_node keys t view []) else None) ≡ Some node → IsFirst t node
+    first_by_test : (t : ℕ) (b : Bool) → nat_lt t members ≡ b → (node : Node Kind Op Shown) → (if b then Some (loaded_node keys t view no_entries) else None) ≡ Some node → IsFirst t node
     first_by_test t true is node e =
-        let same : loaded_node keys t view [] ≡ node = cc e in
+        let same : loaded_node keys t view no_entries ≡ node = cc e in
         subst (IsFirst t) same (record { small = ltb-true t members is; identity = refl; keys_are = refl; view_is = refl; bare = λ key. bare_loaded t (find (λ (d : KeyDecl Kind). bytes_eq d.name key) keys) })
     first_by_test t false is node e = absurd (cc e)
 
@@ -128,6 +127,7 @@ module _ {Kind Op Shown : Type 0} (D : Replication Kind Op Shown) where
           below = λ k v t e m. let h = one_view k v e in subst (λ (x : View). t < x.given) h.1 (first_below members t (ap (λ (x : View). is_member x t) h.1 ∙ m));
           rising = λ k v e. let h = one_view k v e in subst (λ (x : View). IsRising 0 x.given x.members) h.1 (first_rising members);
           some = λ k v e. let h = one_view k v e in (0, ap (λ (x : View). is_member x 0) (sym h.1) ∙ first_member members 0 some);
+          places = λ k v e. let h = one_view k v e in subst HasPlaces h.1 (first_places members);
           given = λ j k v w h hv hw. let a : v.given ≡ w.given = ap (λ (x : View). x.given) (sym (one_view j v hv).1 ∙ (one_view k w hw).1) in omega arith;
           gone = λ j k v w r h hv hw small e. subst (λ (x : View). is_member x r ≡ false) (sym (one_view j v hv).1 ∙ (one_view k w hw).1) e;
         }
@@ -146,20 +146,18 @@ module _ {Kind Op Shown : Type 0} (D : Replication Kind Op Shown) where
                 last = first_member members t n.small;
                 installed = ap (λ o. view_number o 0) e;
               };
-          all_run = record { runs = λ t m. (loaded_node keys t view [], ap (λ b. if b then Some (loaded_node keys t view []) else None) (lt-ltb t members (first_below members t m))) };
-          places = first_places members;
+          all_run = record { runs = λ t m. (loaded_node keys t view no_entries, ap (λ b. if b then Some (loaded_node keys t view no_entries) else None) (lt-ltb t members (first_below members t m))) };
           installed = λ t. go t (nat_lt t members);
         }
       where
-        go : (t : ℕ) (b : Bool) → view_number (if b then Some (loaded_node {Op = Op} {Shown = Shown} keys t view []) else None) 0 ≤ 0
+        go : (t : ℕ) (b : Bool) → view_number (if b then Some (loaded_node {Op = Op} {Shown = Shown} keys t view no_entries) else None) 0 ≤ 0
         go t true = omega arith
         go t false = omega arith
 
     safe_parts : HasParts D first
     safe_parts =
         record {
-          alike = λ place. record { alike = λ e f he. absurd (cc he.1) };
-          stored = λ i node runs e h. absurd (cc h.1);
+          stored = λ i node runs key entry h. absurd (cc h);
           sent = λ from to index message node runs is. absurd (no_message from to index message is);
           senders = λ from to index message is. absurd (no_message from to index message is);
           groups = λ from to index message is. absurd (no_message from to index message is);
@@ -178,7 +176,7 @@ module _ {Kind Op Shown : Type 0} (D : Replication Kind Op Shown) where
         record {
           held = λ t node key runs. record { gone = λ r mark e. absurd (no_mark t node key r mark runs e); seen = λ r u mark e. absurd (no_mark t node key r mark runs e) };
           sent = λ from to index message is. absurd (no_message from to index message is);
-          stored = λ place e h. absurd (cc h.1);
+          stored = λ place key entry h. absurd (cc h);
           joined = λ key r v t standing e. absurd (nobody_joined key r v t standing (first.nodes t) refl e);
         }
 
@@ -218,12 +216,13 @@ module _ {Kind Op Shown : Type 0} (D : Replication Kind Op Shown) where
           own = sees_at_start D members keys;
         }
 
-    -- every lawful run
-    pub runs_are_safe : (events : List (Event Op)) → AreLawful D first events → IsSafe (book_from D opening first events) (run D first events)
-    runs_are_safe events lawful = safe_run opening first events lawful safe_start
+    run_is_safe : (events : List (Event Op)) → AreLawful D first events → IsSafe (variables_from D opening first events) (run D first events)
+    run_is_safe events lawful = safe_run opening first events lawful safe_start
 
-  pub lawful_runs_are_safe : (members : ℕ) (keys : List (KeyDecl Kind)) (events : List (Event Op)) → IsLawfulRun D members keys events → IsSafe (book_of D (start members keys) events) (run D (start members keys) events)
-  lawful_runs_are_safe members keys events lawful = runs_are_safe members keys (let a = lawful.some in omega arith) lawful.few events lawful.lawful
+  -- every run
+  pub runs_are_safe : (members : ℕ) (keys : List (KeyDecl Kind)) (events : List (Event Op)) (world : World Kind Op Shown) → IsRun D members keys events world → IsSafe (variables_of D (start members keys) events) world
+  runs_are_safe members keys events world is_run =
+      subst (λ (w : World Kind Op Shown). IsSafe (variables_of D (start members keys) events) w) (sym is_run.leads) (run_is_safe members keys (let a = is_run.some in omega arith) is_run.few events is_run.lawful)
 
   -- THE MOMENTS OF A RUN
 
@@ -235,6 +234,6 @@ module _ {Kind Op Shown : Type 0} (D : Replication Kind Op Shown) where
       let those : events ≡ before ++ rest = cc e in
       subst (λ (x : Event Op). IsLawful D world x × AreLawful D (happens D world x) before) same (lawful.0, lawful_before (happens D world event) events before rest those lawful.1)
 
-  -- what comes first of a lawful run is one
-  pub lawful_run_before : (members : ℕ) (keys : List (KeyDecl Kind)) (events before rest : List (Event Op)) → events ≡ before ++ rest → IsLawfulRun D members keys events → IsLawfulRun D members keys before
-  lawful_run_before members keys events before rest e lawful = record { some = lawful.some; few = lawful.few; lawful = lawful_before (start members keys) events before rest e lawful.lawful }
+  -- what comes first of a run is one
+  pub run_before : (members : ℕ) (keys : List (KeyDecl Kind)) (events before rest : List (Event Op)) (world : World Kind Op Shown) → events ≡ before ++ rest → IsRun D members keys events world → IsRun D members keys before (run D (start members keys) before)
+  run_before members keys events before rest world e is_run = record { some = is_run.some; few = is_run.few; lawful = lawful_before (start members keys) events before rest e is_run.lawful; leads = refl }

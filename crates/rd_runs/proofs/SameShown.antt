@@ -1,25 +1,25 @@
 -- What a running member shows depends only on the records that it has taken.
-use Rattle.std.proofs.Common.{◌≡◌, ℕ, zero, suc, ◌<◌, ◌≤◌, List, [], ◌∷◌, length, refl, sym, ap, ◌∙◌, arith, true, Option, Some, None, inl, inr}
-use Rattle.std.specs.Prelude.{if◌then◌else◌, slice_get, nat_lt, nat_le, ◌==◌, map, find, option_map}
+use Rattle.std.proofs.Common.{◌≡◌, ℕ, ◌<◌, ◌≤◌, List, refl, sym, ap, ◌∙◌, arith, Option, Some, None, inl, inr}
+use Rattle.std.specs.Prelude.{if◌then◌else◌, nat_lt, find, option_map}
 use Rattle.std.specs.List.{list_any}
 use Rattle.std.specs.Str.{bytes_eq}
 use Rattle.std.proofs.lemmas.Bool.{cases_lt}
-use Rattle.std.proofs.lemmas.Bool.Decides.{nat_tests}
 use Rattle.rd_history.proofs.Bridge.{has_at}
 use Rattle.rd_model.proofs.Steps.{one_is_enough}
 use Rattle.rd_history.specs.Texts.{Text}
 use Rattle.rd_history.specs.Table.{identities}
 use Rattle.rd_history.specs.History.{Record, History, at, HasRecord}
 use Rattle.rd_history.proofs.HistoryLaws.{same_part, slice_get-below}
-use Rattle.rd_model.specs.View.{Member}
 use Rattle.rd_model.specs.DataType.{Replication}
-use Rattle.rd_model.specs.Node.{KeyDecl, Node, Level, Input, Fate, Reply, state_of, one_step_later, needed}
+use Rattle.rd_model.specs.Node.{KeyDecl, Node, Level, Input, Fate, Reply, state_of, one_step_later}
 use Rattle.rd_model.specs.Node.Reply.{UnknownKey}
-use Rattle.rd_model.specs.Step.{step, got, got_needing, shown_of, value_reply, member_count}
+use Rattle.rd_model.specs.Step.{step, shown_of, value_reply, member_count}
 use Rattle.rd_model.specs.World.{World}
-use Rattle.rd_runs.specs.Pruning.{Book}
+use Rattle.rd_model.proofs.Cases.{got, got_needing}
+use Rattle.rd_runs.specs.Pruning.{HistoryVariables}
 use Rattle.rd_history.proofs.PruneLaws.{found}
 use Rattle.rd_runs.proofs.Keeping.{same_text}
+use Rattle.rd_runs.proofs.ViewLaws.{some_members}
 use Rattle.rd_runs.proofs.Safety.{IsSafe}
 
 -- RECORDS
@@ -36,10 +36,6 @@ module _ {Op : Type 0} where
   as_many H J there back o = let a = no_fewer H J there o in let b = no_fewer J H back o in omega arith
 
 -- A LOCAL GET
-
-has_members : (ms : List Member) (t : ℕ) → list_any (λ j. j == t) (map (λ (m : Member). m.identity) ms) ≡ true → 0 < length ms
-has_members [] t e = absurd (cc e)
-has_members (m ∷ ms) t e = omega arith
 
 module _ {Kind Op Shown : Type 0} (D : Replication Kind Op Shown) where
   -- what a key shows is by its history alone
@@ -60,10 +56,10 @@ module _ {Kind Op Shown : Type 0} (D : Replication Kind Op Shown) where
 
   -- MEMBERS THAT TOOK THE SAME
 
-  module _ (book : Book Op) (world : World Kind Op Shown) (safe : IsSafe D book world) (i j : ℕ) (a b : Node Kind Op Shown) (runs_a : world.nodes i ≡ Some a) (runs_b : world.nodes j ≡ Some b) where
+  module _ (variables : HistoryVariables Op) (world : World Kind Op Shown) (safe : IsSafe D variables world) (i j : ℕ) (a b : Node Kind Op Shown) (runs_a : world.nodes i ≡ Some a) (runs_b : world.nodes j ≡ Some b) where
     -- a history is known by how many records of each identity it has
     pub same_history : (key : Text) → ((o : ℕ) → at (a.entries key).history o ≡ at (b.entries key).history o) → (a.entries key).history ≡ (b.entries key).history
-    same_history key same = same_part (book.made key) (a.entries key).history (b.entries key).history (safe.logs.held i a key runs_a).part (safe.logs.held j b key runs_b).part same
+    same_history key same = same_part (variables.made key) (a.entries key).history (b.entries key).history (safe.logs.held i a key runs_a).part (safe.logs.held j b key runs_b).part same
 
     same_decl : (key : Text) (o : Option (KeyDecl Kind)) → find (λ (d : KeyDecl Kind). bytes_eq d.name key) world.keys ≡ o → (a.entries key).history ≡ (b.entries key).history → reply_of a o ≡ reply_of b o
     same_decl key None is same = refl
@@ -76,11 +72,11 @@ module _ {Kind Op Shown : Type 0} (D : Replication Kind Op Shown) where
     same_reply key fate same =
         let well_a = safe.views.running i a runs_a in
         let well_b = safe.views.running j b runs_b in
-        local_get a key fate (has_members a.view.members i well_a.member)
+        local_get a key fate (some_members a.view i well_a.member)
         ∙ ap (λ (ks : List (KeyDecl Kind)). reply_of a (find (λ (d : KeyDecl Kind). bytes_eq d.name key) ks)) well_a.keys
         ∙ same_decl key (find (λ (d : KeyDecl Kind). bytes_eq d.name key) world.keys) refl (same_history key same)
         ∙ ap (λ (ks : List (KeyDecl Kind)). reply_of b (find (λ (d : KeyDecl Kind). bytes_eq d.name key) ks)) (sym well_b.keys)
-        ∙ sym (local_get b key fate (has_members b.view.members j well_b.member))
+        ∙ sym (local_get b key fate (some_members b.view j well_b.member))
 
     -- and show the same in the final block
     pub same_shown : (decl : KeyDecl Kind) → ((o : ℕ) → at (a.entries decl.name).history o ≡ at (b.entries decl.name).history o) → shown_of D (state_of a decl) ≡ shown_of D (state_of b decl)

@@ -1,27 +1,25 @@
 -- What a step sends and stores are entries that the member then holds, and groups of its own records.
-use Rattle.std.proofs.Common.{◌≡◌, ℕ, ◌+◌, ◌<◌, List, [], ◌∷◌, length, drop, map, refl, sym, ap, ◌∙◌, arith, Bool, true, false, Option, Some, None}
-use Rattle.std.specs.Prelude.{if◌then◌else◌, option_map, find, filter, nat_le, nat_lt, not, ◌==◌, ◌&&◌, ◌||◌}
+use Rattle.std.proofs.Common.{◌≡◌, ◌≢◌, ℕ, ◌+◌, ◌<◌, List, [], ◌∷◌, length, drop, map, refl, sym, ap, Bool, true, false, Option, Some, None}
+use Rattle.std.specs.Prelude.{if◌then◌else◌, find, filter, nat_le, not, ◌==◌, ◌&&◌, ◌||◌}
 use Rattle.std.specs.List.{AllByRecursion, list_any}
 use Rattle.std.specs.Str.{bytes_eq}
-use Rattle.std.proofs.lemmas.Bool.Decides.{nat_tests}
 use Rattle.std.proofs.lemmas.Slice.Eq.{bytes_eq-Decides}
-use Rattle.std.proofs.lemmas.Bool.{ltb-true}
+use Rattle.std.proofs.lemmas.Bool.{ltb-true, eqb-false, not-true}
 use Rattle.rd_history.specs.Texts.{Text}
-use Rattle.rd_model.specs.View.{is_member, leader, others}
+use Rattle.rd_model.specs.View.{is_member, leader, others, identities_of}
 use Rattle.rd_history.specs.History.{Record, at}
 use Rattle.rd_model.specs.Entry.{Entry, Group, has_records, group_after, is_prune}
 use Rattle.rd_meanings.specs.Refusal.{Refusal}
 use Rattle.rd_model.specs.DataType.{Replication}
 use Rattle.rd_model.specs.Message.{Keyed, Message, Post, entries_in, groups_in}
 use Rattle.rd_model.specs.Message.Message.{Deltas, Nack, Status, Gossip, Write, WriteAck, WriteNack, Read, ReadAnswer}
-use Rattle.rd_model.specs.Node.{KeyDecl, KeyState, Node, Level, Input, Fate, Stepped, OpenOperation, key_state, key_states, state_of, with_entry, needed}
+use Rattle.rd_model.specs.Node.{KeyState, Node, Level, Input, Fate, Stepped, OpenOperation, key_state, key_states, state_of, with_entry, needed, keyed_entry, keyed_entry as stored_form}
 use Rattle.rd_model.specs.Node.Reply.{WrongKind, Taken, NotFromMember, NotAPeer, Done}
 use Rattle.rd_history.specs.Vector.{members_of}
 use Rattle.rd_model.specs.Node.Input.{Update, Get, Take, Install, Flush, GossipTo, PruneTick, Timeout}
-use Rattle.rd_model.specs.Step.{is_answered_by, status_of, took_deltas, answer_to, value_reply, shown_of, with_answer, KeyGap, AfterGroups, after_groups, after_entries, accepted, answered, sent, opened, to_others, updated, updated_needing, updated_unless, got, got_needing, taken, gossip_to, nack_to, keyed_entry, keyed_option, answered_entry, counted_for, took, flushed, deltas_for, is_behind, goes_as_group, step_of, step, has_failed, member_count, to_store, changed_keys}
-use Rattle.rd_model.specs.World.{keyed_entry as stored_form}
-use Rattle.rd_history.proofs.PruneLaws.{found}
-use Rattle.rd_runs.proofs.Keeping.{if_holds, same_text, found_entry}
+use Rattle.rd_model.specs.Step.{is_answered_by, status_of, took_deltas, answer_to, value_reply, shown_of, with_answer, KeyGap, AfterGroups, after_groups, after_entries, answered, sent, opened, step_of_take, gossip_to, nack_to, keyed_option, answered_entry, took, step_of_flush, deltas_for, is_behind, goes_as_group, step_of, step, has_failed, member_count, to_store, changed_keys}
+use Rattle.rd_model.proofs.Cases.{accepted, updated, updated_needing, updated_unless, got, got_needing, counted_for}
+use Rattle.rd_runs.proofs.Keeping.{if_holds, found_entry}
 
 -- LISTS
 
@@ -55,9 +53,10 @@ same_bytes xs = (bytes_eq-Decides xs xs).1 refl
 
 -- WHAT IS FROM A MEMBER
 
-module _ {Op : Type 0} (held : Text → Entry Op) (i : ℕ) where
-  -- a group of the member's own records after a number, up to its last
+module _ {Op : Type 0} (held : Text → Entry Op) (i to : ℕ) where
+  -- a group of the member's own records after a number, up to its last, that goes to another member
   pub record IsOwnGroup (key : Text) (group : Group Op) : Type 0 where
+    pub away : to ≢ i
     pub origin : group.origin ≡ i
     pub upto : group.upto ≡ at (held key).history i
     pub some : group.after < group.upto
@@ -68,8 +67,8 @@ module _ {Op : Type 0} (held : Text → Entry Op) (i : ℕ) where
     pub entries : AllByRecursion (λ (e : Keyed (Entry Op)). e.item ≡ held e.key) (entries_in message)
     pub groups : AllByRecursion (λ (g : Keyed (Group Op)). IsOwnGroup g.key g.item) (groups_in message)
 
-  abbrev pub AreFrom : List (Post Op) → Type 0
-  AreFrom posts = AllByRecursion (λ (post : Post Op). IsFrom post.message) posts
+abbrev pub AreFrom : {Op : Type 0} → (Text → Entry Op) → ℕ → List (Post Op) → Type 0
+AreFrom {Op} held i posts = AllByRecursion (λ (post : Post Op). IsFrom held i post.to post.message) posts
 
 module _ {Kind Op Shown : Type 0} (node : Node Kind Op Shown) where
   -- the entries of the member's keys, each as it holds it
@@ -77,14 +76,8 @@ module _ {Kind Op Shown : Type 0} (node : Node Kind Op Shown) where
   own_states = all_mapped _ (state_of node) (λ decl. refl) node.keys
 
 module _ {Kind Op Shown : Type 0} (D : Replication Kind Op Shown) (node : Node Kind Op Shown) where
-  own_entries : (p : KeyState Kind Op → Bool) → AllByRecursion (λ (e : Keyed (Entry Op)). e.item ≡ node.entries e.key) (map (keyed_entry D) (filter p (key_states node)))
-  own_entries p = all_mapped_by _ _ (keyed_entry D) (λ k e. e) (filter p (key_states node)) (all_filtered _ p (key_states node) (own_states node))
-
-  brings_nothing : (message : Message Op) → entries_in message ≡ [] → groups_in message ≡ [] → IsFrom node.entries node.identity message
-  brings_nothing message e g = record { entries = rw e tt; groups = rw g tt }
-
-  from_others : (message : Message Op) → IsFrom node.entries node.identity message → AreFrom node.entries node.identity (to_others node message)
-  from_others message h = all_mapped (λ (post : Post Op). IsFrom node.entries node.identity post.message) (λ i. record { to = i; message = message }) (λ i. h) (others node.view node.identity)
+  own_entries : (p : KeyState Kind Op → Bool) → AllByRecursion (λ (e : Keyed (Entry Op)). e.item ≡ node.entries e.key) (map keyed_entry (filter p (key_states node)))
+  own_entries p = all_mapped_by _ _ keyed_entry (λ k e. e) (filter p (key_states node)) (all_filtered _ p (key_states node) (own_states node))
 
   from_gossip : (i : ℕ) (entries : List (Keyed (Entry Op))) (wants : List Text) → AllByRecursion (λ (e : Keyed (Entry Op)). e.item ≡ node.entries e.key) entries → AreFrom node.entries node.identity (gossip_to D i entries wants)
   from_gossip i [] [] all = tt
@@ -141,9 +134,9 @@ module _ {Kind Op Shown : Type 0} (D : Replication Kind Op Shown) where
 
   -- TAKING
 
-  from_answer : (held : Text → Entry Op) (i : ℕ) (b : Bool) (op : ℕ) → IsFrom held i (if b then WriteNack op else WriteAck op)
-  from_answer held i true op = record { entries = tt; groups = tt }
-  from_answer held i false op = record { entries = tt; groups = tt }
+  from_answer : (held : Text → Entry Op) (i to : ℕ) (b : Bool) (op : ℕ) → IsFrom held i to (if b then WriteNack op else WriteAck op)
+  from_answer held i to true op = record { entries = tt; groups = tt }
+  from_answer held i to false op = record { entries = tt; groups = tt }
 
   sends_deltas : (node : Node Kind Op Shown) (from : ℕ) (fate : Fate) (groups_in : AfterGroups Kind Op Shown) (entries : List (Keyed (Entry Op))) → SendsOwn (took_deltas D node from fate groups_in entries)
   sends_deltas node from fate groups_in entries = from_nack D (after_entries groups_in.node entries) from groups_in.gaps
@@ -151,17 +144,17 @@ module _ {Kind Op Shown : Type 0} (D : Replication Kind Op Shown) where
   sends_read : (node : Node Kind Op Shown) (from op : ℕ) (key : Text) (o : Option (KeyState Kind Op)) → key_state node key ≡ o → AreFrom node.entries node.identity (answer_to D from (ReadAnswer op key (answered_entry D o)))
   sends_read node from op key None e = (record { entries = tt; groups = tt }, tt)
   sends_read node from op key (Some k) e = (
-    if_holds (λ (o : Option (Entry Op)). IsFrom node.entries node.identity (ReadAnswer op key o)) (has_records k.entry) (Some k.entry) None
+    if_holds (λ (o : Option (Entry Op)). IsFrom node.entries node.identity from (ReadAnswer op key o)) (has_records k.entry) (Some k.entry) None
         (record { entries = (found_entry node key k e, tt); groups = tt }) (record { entries = tt; groups = tt }),
     tt,
   )
 
-  sends_taken : (node : Node Kind Op Shown) (from : ℕ) (fate : Fate) (message : Message Op) → SendsOwn (taken D node from fate message)
+  sends_taken : (node : Node Kind Op Shown) (from : ℕ) (fate : Fate) (message : Message Op) → SendsOwn (step_of_take D node from fate message)
   sends_taken node from fate (Deltas groups entries) = sends_deltas node from fate (after_groups node groups) entries
   sends_taken node from fate (Nack keys) = from_gossip D node from _ [] (own_entries D node _)
   sends_taken node from fate (Status digests) = from_gossip D node from _ _ (own_entries D node _)
   sends_taken node from fate (Gossip entries wants) = from_gossip D (after_entries node entries) from _ [] (own_entries D (after_entries node entries) _)
-  sends_taken node from fate (Write op key entry) = (from_answer _ _ (has_failed fate) op, tt)
+  sends_taken node from fate (Write op key entry) = (from_answer _ _ from (has_failed fate) op, tt)
   sends_taken node from fate (WriteAck op) = sends_counted (answered node Taken) from _ tt
   sends_taken node from fate (WriteNack op) = tt
   sends_taken node from fate (Read op key) = sends_read node from op key (key_state node key) refl
@@ -183,9 +176,10 @@ module _ {Kind Op Shown : Type 0} (D : Replication Kind Op Shown) where
   not_false true false e = refl
   not_false false b e = absurd (cc e)
 
-  own_group : (node : Node Kind Op Shown) (peer : ℕ) (k : KeyState Kind Op) → (k.entry ≡ node.entries k.name) × (node.flushed k.name peer < at k.entry.history node.identity) → goes_as_group D node peer k ≡ true → IsOwnGroup node.entries node.identity k.name (group_after k.entry node.identity (node.flushed k.name peer))
-  own_group node peer k h plain =
+  own_group : (node : Node Kind Op Shown) (peer : ℕ) → peer ≢ node.identity → (k : KeyState Kind Op) → (k.entry ≡ node.entries k.name) × (node.flushed k.name peer < at k.entry.history node.identity) → goes_as_group D node peer k ≡ true → IsOwnGroup node.entries node.identity peer k.name (group_after k.entry node.identity (node.flushed k.name peer))
+  own_group node peer other k h plain =
       record {
+        away = other;
         origin = refl;
         upto = ap (λ (e : Entry Op). at e.history node.identity) h.0;
         some = h.1;
@@ -193,23 +187,26 @@ module _ {Kind Op Shown : Type 0} (D : Replication Kind Op Shown) where
         plain = not_false _ _ plain;
       }
 
-  from_deltas : (node : Node Kind Op Shown) (peer : ℕ) → IsFrom node.entries node.identity (deltas_for D node peer)
-  from_deltas node peer =
+  from_deltas : (node : Node Kind Op Shown) (peer : ℕ) → peer ≢ node.identity → IsFrom node.entries node.identity peer (deltas_for D node peer)
+  from_deltas node peer other =
       let behind = filter (is_behind D node peer) (key_states node) in
       record {
-        entries = all_mapped_by _ _ (keyed_entry D) (λ k h. h.0) (filter (λ k. not (goes_as_group D node peer k)) behind) (all_filtered _ (λ k. not (goes_as_group D node peer k)) behind (own_and_behind node peer));
+        entries = all_mapped_by _ _ keyed_entry (λ k h. h.0) (filter (λ k. not (goes_as_group D node peer k)) behind) (all_filtered _ (λ k. not (goes_as_group D node peer k)) behind (own_and_behind node peer));
         groups = all_mapped_by _ _ (λ (k : KeyState Kind Op). record { key = k.name; item = group_after k.entry node.identity (node.flushed k.name peer) }) (λ k h. h) (filter (goes_as_group D node peer) behind)
-            (all_both _ _ (λ (k : KeyState Kind Op). IsOwnGroup node.entries node.identity k.name (group_after k.entry node.identity (node.flushed k.name peer))) (λ k p q. own_group node peer k p q) (filter (goes_as_group D node peer) behind)
+            (all_both _ _ (λ (k : KeyState Kind Op). IsOwnGroup node.entries node.identity peer k.name (group_after k.entry node.identity (node.flushed k.name peer))) (λ k p q. own_group node peer other k p q) (filter (goes_as_group D node peer) behind)
             (all_filtered _ (goes_as_group D node peer) behind (own_and_behind node peer)) (all_passing (λ k. goes_as_group D node peer k ≡ true) (goes_as_group D node peer) (λ k e. e) behind));
       }
 
-  sends_flushed : (node : Node Kind Op Shown) → SendsOwn (flushed D node)
-  sends_flushed node = all_mapped _ (λ peer. record { to = peer; message = deltas_for D node peer }) (λ peer. from_deltas node peer) (filter (λ peer. list_any (is_behind D node peer) (key_states node)) (others node.view node.identity))
+  sends_flushed : (node : Node Kind Op Shown) → SendsOwn (step_of_flush D node)
+  sends_flushed node =
+      let is_late = λ (peer : ℕ). list_any (is_behind D node peer) (key_states node) in
+      all_mapped_by (λ peer. peer ≢ node.identity) _ (λ peer. record { to = peer; message = deltas_for D node peer }) (from_deltas node) (filter is_late (others node.view node.identity))
+      (all_filtered _ is_late (others node.view node.identity) (all_passing _ (λ j. not (j == node.identity)) (λ j e. eqb-false j node.identity (not-true (j == node.identity) e)) (identities_of node.view)))
 
   sends_step_of : (node : Node Kind Op Shown) (input : Input Op) (fate : Fate) → SendsOwn (step_of D node input fate)
   sends_step_of node (Update key op level) fate = sends_updated node (key_state node key) op level fate
   sends_step_of node (Get key level) fate = sends_got node (key_state node key) level
-  sends_step_of node (Take from message) fate = if_holds SendsOwn (is_member node.view from) (taken D node from fate message) (answered node NotFromMember) (sends_taken node from fate message) tt
+  sends_step_of node (Take from message) fate = if_holds SendsOwn (is_member node.view from) (step_of_take D node from fate message) (answered node NotFromMember) (sends_taken node from fate message) tt
   sends_step_of node (Install view) fate = if_holds SendsOwn (nat_le view.number node.view.number) _ _ tt tt
   sends_step_of node Flush fate = sends_flushed node
   sends_step_of node (GossipTo i) fate = if_holds SendsOwn ((i == node.identity) || not (is_member node.view i)) (answered node NotAPeer) (sent node Done (answer_to D i (status_of D node))) tt (record { entries = tt; groups = tt }, tt)

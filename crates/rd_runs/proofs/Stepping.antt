@@ -1,8 +1,7 @@
 -- What one step of a member does to its entries, its identity and its view, whatever the input: what the changes of an entry keep is kept.
-use Rattle.std.proofs.Common.{◌≡◌, ℕ, ◌+◌, ◌<◌, List, [], ◌∷◌, refl, arith, Bool, true, false, Some, None, Option}
+use Rattle.std.proofs.Common.{◌≡◌, ℕ, ◌+◌, ◌<◌, List, [], ◌∷◌, refl, Bool, true, false, Some, None, Option}
 use Rattle.std.specs.Prelude.{if◌then◌else◌, nat_le, ⊤}
 use Rattle.std.specs.List.{AllByRecursion}
-use Rattle.std.proofs.lemmas.Bool.Decides.{nat_tests}
 use Rattle.std.proofs.lemmas.Bool.{leb-false}
 use Rattle.rd_history.specs.Texts.{Text}
 use Rattle.rd_model.specs.View.{View, is_member}
@@ -13,7 +12,7 @@ use Rattle.rd_model.specs.Message.Message.{Deltas, Nack, Status, Gossip, Write, 
 use Rattle.rd_model.specs.Node.{Node, Input, Fate, Stepped, one_step_later}
 use Rattle.rd_model.specs.Node.Input.{Update, Get, Take, Install, Flush, GossipTo, PruneTick, Timeout}
 use Rattle.rd_model.specs.Node.Reply.{NotFromMember, OldView, NotStored, Installed}
-use Rattle.rd_model.specs.Step.{step, taken, answered, has_failed}
+use Rattle.rd_model.specs.Step.{step, step_of_take, answered, has_failed}
 use Rattle.rd_runs.proofs.Keeping.{AnyTick, keeps_pruned, AreKept, Keeps, IsKnown, IsKnownInput, keeps_step, keeps_taken, if_tells}
 
 pub all_trivial : {X : Type 0} (xs : List X) → AllByRecursion (λ (x : X). ⊤) xs
@@ -53,7 +52,7 @@ module _ {Kind Op Shown : Type 0} (D : Replication Kind Op Shown) (P M : Text �
     by_taking : (from : ℕ) (message : Message Op) (fate : Fate) → ((key : Text) → P key (node.entries key)) → (is_member node.view from ≡ true → Brings M G message) → (key : Text) → P key ((step D node (Take from message) fate).node.entries key)
     by_taking from message fate before brought =
         let later = one_step_later node in
-        (if_tells (λ (s : Stepped Kind Op Shown). Keeps P node.identity node.view node.keys s.node) (is_member node.view from) (taken D later from fate message) (answered later NotFromMember)
+        (if_tells (λ (s : Stepped Kind Op Shown). Keeps P node.identity node.view node.keys s.node) (is_member node.view from) (step_of_take D later from fate message) (answered later NotFromMember)
         (λ member. keeps_taken D P M G Ticks node.identity node.view kept node.keys later from fate message (record { same_identity = refl; same_view = refl; same_keys = refl; entries = before }) (known message (brought member)))
         (λ stranger. record { same_identity = refl; same_view = refl; same_keys = refl; entries = before })).entries
 

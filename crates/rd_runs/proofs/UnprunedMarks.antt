@@ -38,7 +38,7 @@ module _ {Op : Type 0} where
       rest false e = e
 
   -- a plain group prunes nothing
-  unpruned-with_group : (entry : Entry Op) (group : Group Op) (q : ℕ) → list_any (λ (r : Record Op). is_prune r.action) group.group_records ≡ false → is_pruned entry.history q ≡ false → is_pruned (with_group entry group).history q ≡ false
+  pub unpruned-with_group : (entry : Entry Op) (group : Group Op) (q : ℕ) → list_any (λ (r : Record Op). is_prune r.action) group.group_records ≡ false → is_pruned entry.history q ≡ false → is_pruned (with_group entry group).history q ≡ false
   unpruned-with_group entry group q no_prunes before = go (is_pruned (with_group entry group).history q) refl
     where
       in_row : (k : ℕ) (x : Record Op) → x.action ≡ Prune q → group.origin < identity_limit → IsIn (continued (entry.history group.origin) (take group.after (entry.history group.origin) ++ group.group_records)) x → ⊥

@@ -1,10 +1,11 @@
 -- Members and places of a view, and of the view after it.
 use Rattle.std.proofs.Common.{◌≡◌, ◌≢◌, ℕ, ◌+◌, ◌<◌, ◌≤◌, List, [], ◌∷◌, ◌++◌, length, map, refl, sym, ap, subst, ◌∙◌, arith, Bool, true, false, Some, None, ◌⊎◌, inl, inr, zero, suc}
-use Rattle.std.specs.Prelude.{⊤, if◌then◌else◌, not, filter, find, option_map, unwrap_or, ◌==◌, ◌||◌}
+use Rattle.std.specs.Prelude.{⊤, if◌then◌else◌, not, filter, find, option_map, unwrap_or, slice_get, ◌==◌, ◌||◌}
 use Rattle.std.specs.List.{list_any, range_with_len}
 use Rattle.std.proofs.lemmas.Bool.Decides.{eqb_tells}
-use Rattle.std.proofs.lemmas.Bool.{eq-eqb, ne_eqb}
+use Rattle.std.proofs.lemmas.Bool.{eq-eqb, ne_eqb, cases_lt}
 use Rattle.rd_model.specs.View.{Member, View, first_view, is_member, is_taken, place_of, without_member, with_joined, with_replaced}
+use Rattle.rd_runs.specs.Views.{IsSoundView}
 
 -- MEMBERS AS A LIST
 
@@ -164,6 +165,57 @@ some_other i low high (m ∷ n ∷ ms) all more = elim (eqb_tells m.identity i) 
 -- no two members share a place
 pub record HasPlaces (view : View) : Type 0 where
   pub apart : (t u : ℕ) → is_member view t ≡ true → is_member view u ≡ true → place_of view t ≡ place_of view u → t ≡ u
+
+-- MEMBERS BY POSITION
+
+rising_at : (low high : ℕ) (ms : List Member) → IsRising low high ms → (k : ℕ) (m : Member) → slice_get ms k ≡ Some m → low ≤ m.identity
+rising_at low high [] all k m e = absurd (cc e)
+rising_at low high (n ∷ ms) all zero m e = let same : n ≡ m = cc e in subst (λ (x : Member). low ≤ x.identity) same all.0
+rising_at low high (n ∷ ms) all (suc k) m e = let a = rising_at (n.identity + 1) high ms all.2 k m e in let b = all.0 in omega arith
+
+rising_pair : (low high : ℕ) (ms : List Member) → IsRising low high ms → (k l : ℕ) (a b : Member) → k < l → slice_get ms k ≡ Some a → slice_get ms l ≡ Some b → a.identity < b.identity
+rising_pair low high [] all k l a b h ea eb = absurd (cc ea)
+rising_pair low high (n ∷ ms) all k zero a b h ea eb = absurd (omega arith)
+rising_pair low high (n ∷ ms) all zero (suc l) a b h ea eb = let same : n ≡ a = cc ea in subst (λ (x : Member). x.identity < b.identity) same (let c = rising_at (n.identity + 1) high ms all.2 l b eb in omega arith)
+rising_pair low high (n ∷ ms) all (suc k) (suc l) a b h ea eb = rising_pair (n.identity + 1) high ms all.2 k l a b (omega arith) ea eb
+
+-- who stands in the list is a member, at its place
+placed : (low high : ℕ) (ms : List Member) → IsRising low high ms → (k : ℕ) (m : Member) → slice_get ms k ≡ Some m → (has ms m.identity ≡ true) × (stays_at ms m.identity ≡ m.place)
+placed low high [] all k m e = absurd (cc e)
+placed low high (n ∷ ms) all zero m e =
+    let same : n ≡ m = cc e in
+    subst (λ (x : Member). (has (n ∷ ms) x.identity ≡ true) × (stays_at (n ∷ ms) x.identity ≡ x.place)) same
+    (has_first n ms, ap (λ b. unwrap_or (option_map (λ (x : Member). x.place) (if b then Some n else find (λ (x : Member). x.identity == n.identity) ms)) 0) (eq-eqb n.identity n.identity refl))
+placed low high (n ∷ ms) all (suc k) m e =
+    let later = placed (n.identity + 1) high ms all.2 k m e in
+    let other : (n.identity == m.identity) ≡ false = ne_eqb n.identity m.identity (λ same. absurd (let a = rising_at (n.identity + 1) high ms all.2 k m e in omega arith)) in (
+      ap (λ b. b || has ms m.identity) other ∙ later.0,
+      ap (λ b. unwrap_or (option_map (λ (x : Member). x.place) (if b then Some n else find (λ (x : Member). x.identity == m.identity) ms)) 0) other ∙ later.1,
+    )
+
+has_some : (ms : List Member) (t : ℕ) → has ms t ≡ true → 0 < length ms
+has_some [] t e = absurd (cc e)
+has_some (m ∷ ms) t e = omega arith
+
+pub some_members : (view : View) (t : ℕ) → is_member view t ≡ true → 0 < length view.members
+some_members view t e = has_some view.members t e
+
+pub sound : (number : ℕ) (view : View) → view.number ≡ number → 0 < length view.members → IsRising 0 view.given view.members → ((t : ℕ) → is_member view t ≡ true → t < view.given) → HasPlaces view → IsSoundView number view
+sound number view numbered some rising below places =
+    record { numbered = numbered; some = some; rising = rising_pair 0 view.given view.members rising; given = below; apart = apart }
+  where
+    apart : (k l : ℕ) (a b : Member) → slice_get view.members k ≡ Some a → slice_get view.members l ≡ Some b → a.place ≡ b.place → k ≡ l
+    apart k l a b ea eb same =
+        let pa = placed 0 view.given view.members rising k a ea in
+        let pb = placed 0 view.given view.members rising l b eb in
+        let one : a.identity ≡ b.identity = places.apart a.identity b.identity pa.0 pb.0 (pa.1 ∙ same ∙ sym pb.1) in
+        elim (cases_lt k l) [
+          | inl before ↦ absurd (let c = rising_pair 0 view.given view.members rising k l a b before ea eb in omega arith)
+          | inr not_before ↦ elim (cases_lt l k) [
+            | inl after ↦ absurd (let c = rising_pair 0 view.given view.members rising l k b a after eb ea in omega arith)
+            | inr not_after ↦ omega arith
+          ]
+        ]
 
 -- THE NEXT VIEW
 

@@ -4,6 +4,6 @@
 mod laws;
 
 pub use laws::{
-    logs_throughout, one_log, own_marks, pruning_safety, same_taken_same_shown, scripts_are_runs,
-    unpruned_marks,
+    logs_throughout, nothing_is_passed_over, pruning_safety, same_taken_same_shown,
+    scripts_are_runs, sound_views,
 };

@@ -1,6 +1,6 @@
 -- A delivery: the message is handed to its receiver, and passed where it was the next one due.
 use Rattle.std.proofs.Common.{◌≡◌, ℕ, zero, suc, ◌<◌, ◌≤◌, List, [], ◌∷◌, length, get_or, refl, sym, ap, subst, ◌∙◌, arith, false, Option, Some, None}
-use Rattle.std.specs.Prelude.{nat_lt, ◌&&◌, if◌then◌else◌, is_some, map}
+use Rattle.std.specs.Prelude.{nat_lt, ◌&&◌, if◌then◌else◌, is_some, map, option_and_then}
 use Rattle.std.proofs.lemmas.Bool.Decides.{nat_tests}
 use Rattle.std.proofs.lemmas.List.{length-map}
 use Rattle.std.proofs.lemmas.Option.{slice_get_within}
@@ -14,10 +14,10 @@ use Rattle.rd_model.specs.Node as nodes
 use Rattle.rd_model.specs.Node.{Input}
 use Rattle.rd_model.specs.Node.Fate.{NoStore}
 use Rattle.rd_model.specs.World as worlds
-use Rattle.rd_model.specs.World.{Link, moved_on, message_at, happens, delivered, stepped_at, after_step}
+use Rattle.rd_model.specs.World.{Link, message_at, turn_at, turn_of}
 use Rattle.rd_model.specs.World.Event.{Delivery}
 use Rattle.rd_model.specs.Script as script
-use Rattle.rd_model.specs.Script.{Playing, IsRun, told, deliver, deliver_message, given_to, played}
+use Rattle.rd_model.specs.Script.{Playing, told, deliver, given, played}
 use Rattle.rd_kinds.specs.declared.shown.Shown.{Shown}
 use Rattle.rd_lattice.specs.declared.replica.Replica.{Ghosts}
 use Rattle.rd_messages.specs.declared.message.Message.{Message}
@@ -73,9 +73,16 @@ module _ {T Kind Op Delta : Type 0} (kind_of : T → Kind) (IsDataOf : T → His
       (λ i. record { kind = kind.Gossip; first = zip_length (StandsForKeyed kind_of IsDataOf kinds logs) entries s.sent_entries s.entries_stand i; second = length wants }) ∙ sym (ap sketched s.is)
 
   module _ (ghosts : Ghosts T Kind Op Delta) (D : Replication Kind Op Shown) (code : World T Kind Op Delta ghosts) (p : Playing Kind Op Shown) (stands : StandsForWorld kind_of IsDataOf kinds logs code p.world) (from to index : ℕ) where
+    -- what is delivered of a message, if there is one
+    abbrev message_handed : Option (Sent Op) → Playing Kind Op Shown
+    message_handed o = elim o [
+      | None ↦ told p (script.Head.DeliverHead from to index None) script.Answer.NoSuchMessage
+      | Some message ↦ given D p (script.Head.DeliverHead from to index (Some message)) (Delivery from to index)
+    ]
+
     pub undelivered_gone : length code.nodes.items ≤ to → deliver D p from to index ≡ told p (script.Head.DeliverHead from to index None) script.Answer.Gone
     undelivered_gone past =
-        ap (λ (o : Option (nodes.Node Kind Op Shown)). if is_some o then deliver_message D p from to index (message_at p.world from to index) else told p (script.Head.DeliverHead from to index None) script.Answer.Gone)
+        ap (λ (o : Option (nodes.Node Kind Op Shown)). if is_some o then message_handed (message_at p.world from to index) else told p (script.Head.DeliverHead from to index None) script.Answer.Gone)
         (gone_past kind_of IsDataOf kinds logs ghosts code.nodes.items code.links p.world stands.parts to past)
 
     pub gone_stands : (q : Playing Kind Op Shown) (h : script.Head Op) (a : script.Answer Shown) → q ≡ told p h a → StandsForWorld kind_of IsDataOf kinds logs code q.world
@@ -117,12 +124,12 @@ module _ {T Kind Op Delta : Type 0} (kind_of : T → Kind) (IsDataOf : T → His
       pub running : IsRunning kind_of IsDataOf kinds logs ghosts p.world to old
       running = running_at kind_of IsDataOf kinds logs ghosts code.nodes.items code.links p.world stands.parts to old within is
 
-      there : deliver D p from to index ≡ deliver_message D p from to index (message_at p.world from to index)
-      there = ap (λ (o : Option (nodes.Node Kind Op Shown)). if is_some o then deliver_message D p from to index (message_at p.world from to index) else told p (script.Head.DeliverHead from to index None) script.Answer.Gone) running.runs
+      there : deliver D p from to index ≡ message_handed (message_at p.world from to index)
+      there = ap (λ (o : Option (nodes.Node Kind Op Shown)). if is_some o then message_handed (message_at p.world from to index) else told p (script.Head.DeliverHead from to index None) script.Answer.Gone) running.runs
 
       -- no such message
       undelivered_at : message_on (channel_at code.links from to) index ≡ None → deliver D p from to index ≡ told p (script.Head.DeliverHead from to index None) script.Answer.NoSuchMessage
-      undelivered_at none = there ∙ ap (deliver_message D p from to index) (unsent (message_on (channel_at code.links from to) index) (message_at p.world from to index) (link_message kind_of IsDataOf kinds logs (channel_at code.links from to) (p.world.links from to) index (stands.parts.links from to)) none)
+      undelivered_at none = there ∙ ap message_handed (unsent (message_on (channel_at code.links from to) index) (message_at p.world from to index) (link_message kind_of IsDataOf kinds logs (channel_at code.links from to) (p.world.links from to) index (stands.parts.links from to)) none)
         where
           unsent : (o : Option (Message T Kind Op Delta ghosts)) (m : Option (Sent Op)) → IsPair (StandsForMessage kind_of IsDataOf kinds logs) o m → o ≡ None → m ≡ None
           unsent _ _ (both r) e = absurd (cc e)
@@ -130,10 +137,14 @@ module _ {T Kind Op Delta : Type 0} (kind_of : T → Kind) (IsDataOf : T → His
 
       module _ (message : Message T Kind Op Delta ghosts) (found : IsSent message) where
         abbrev pub handed : Playing Kind Op Shown
-        handed = given_to D p (script.Head.DeliverHead from to index (Some found.sent)) (Delivery from to index) to (Input.Take from found.sent) (p.world.nodes to)
+        handed = given D p (script.Head.DeliverHead from to index (Some found.sent)) (Delivery from to index)
+
+        -- the receiver takes it
+        pub receives : turn_of p.world (Delivery from to index NoStore) ≡ turn_at p.world to (Input.Take from found.sent) NoStore
+        receives = ap (option_and_then (λ (message : Sent Op). turn_at p.world to (Input.Take from message) NoStore)) found.is_there
 
         pub is_handed : deliver D p from to index ≡ handed
-        is_handed = there ∙ ap (deliver_message D p from to index) found.is_there
+        is_handed = there ∙ ap message_handed found.is_there
 
         pub is_head : IsHead (head.Deliver from to index (Some (sketch_of message))) (script.Head.DeliverHead from to index (Some found.sent))
         is_head = (Some found.sent, refl, ap Some (same_sketch message found.sent found.stands_for))
@@ -142,12 +153,12 @@ module _ {T Kind Op Delta : Type 0} (kind_of : T → Kind) (IsDataOf : T → His
         pub full_stands : old.steps ≡ 16384 → StandsForWorld kind_of IsDataOf kinds logs code (deliver D p from to index).world
         full_stands full =
             gone_stands (deliver D p from to index) (script.Head.DeliverHead from to index (Some found.sent)) script.Answer.HistoryFull
-            (is_handed ∙ full_tells kind_of IsDataOf kinds logs ghosts D code.nodes.items code.links p stands.parts (script.Head.DeliverHead from to index (Some found.sent)) (Delivery from to index) to (Input.Take from found.sent) old old within is full)
+            (is_handed ∙ full_tells kind_of IsDataOf kinds logs ghosts D code.nodes.items code.links p stands.parts (script.Head.DeliverHead from to index (Some found.sent)) (Delivery from to index) to (Input.Take from found.sent) receives old old within is full)
 
         pub full_told : old.steps ≡ 16384 → IsNextLine (record { head = head.Deliver from to index (Some (sketch_of message)); answer = answer.HistoryFull; sent = [] }) p (deliver D p from to index)
         full_told full =
-            told_plainly kind_of IsDataOf kinds logs ghosts D code.nodes.items code.links p stands.parts (script.Head.DeliverHead from to index (Some found.sent)) (Delivery from to index) to (Input.Take from found.sent) (deliver D p from to index) (head.Deliver from to index (Some (sketch_of message))) answer.HistoryFull script.Answer.HistoryFull
-            (is_handed ∙ full_tells kind_of IsDataOf kinds logs ghosts D code.nodes.items code.links p stands.parts (script.Head.DeliverHead from to index (Some found.sent)) (Delivery from to index) to (Input.Take from found.sent) old old within is full) refl is_head
+            told_plainly kind_of IsDataOf kinds logs ghosts D code.nodes.items code.links p stands.parts (script.Head.DeliverHead from to index (Some found.sent)) (Delivery from to index) to (Input.Take from found.sent) receives (deliver D p from to index) (head.Deliver from to index (Some (sketch_of message))) answer.HistoryFull script.Answer.HistoryFull
+            (is_handed ∙ full_tells kind_of IsDataOf kinds logs ghosts D code.nodes.items code.links p stands.parts (script.Head.DeliverHead from to index (Some found.sent)) (Delivery from to index) to (Input.Take from found.sent) receives old old within is full) refl is_head
 
     pub undelivered_none : to < length code.nodes.items → message_on (channel_at code.links from to) index ≡ None → deliver D p from to index ≡ told p (script.Head.DeliverHead from to index None) script.Answer.NoSuchMessage
     undelivered_none within none = let here = item_at code.nodes.items to within in undelivered_at within here.0 here.1 none

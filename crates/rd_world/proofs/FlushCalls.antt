@@ -11,14 +11,15 @@ use Rattle.rd_model.specs.View.{first_view}
 use Rattle.rd_model.specs.Entry.{Entry}
 use Rattle.rd_model.specs.DataType.{DataType, Replication}
 use Rattle.rd_model.specs.Node as nodes
-use Rattle.rd_model.specs.Node.{Input}
+use Rattle.rd_model.specs.Node.{KeyDecl, Input}
 use Rattle.rd_model.specs.Node.Fate.{NoStore}
 use Rattle.rd_model.specs.Step.{step}
 use Rattle.rd_model.specs.World as worlds
-use Rattle.rd_model.specs.World.{stepped_at, after_step, happens, with_posts}
+use Rattle.rd_model.specs.World.{after_step, happens, with_posts, IsRun}
 use Rattle.rd_model.specs.World.Event.{InputAt}
 use Rattle.rd_model.specs.Script as script
-use Rattle.rd_model.specs.Script.{Playing, IsRun, given, told}
+use Rattle.rd_model.specs.Script.{Playing, given, told}
+use Rattle.rd_model.proofs.Cases.{stepped_at}
 use Rattle.rd_kinds.specs.declared.shown.Shown.{Shown}
 use Rattle.rd_lattice.specs.declared.replica.Replica.{Ghosts}
 use Rattle.rd_messages.specs.declared.message.Message.{Message}
@@ -48,17 +49,17 @@ module _ {T Kind Op Delta : Type 0} (data_type : DataType Kind Op Shown) (kind_o
   D = delta_groups data_type digest
 
   abbrev pub flushed : Playing Kind Op Shown
-  flushed = given (delta_groups data_type digest) p (script.Head.FlushHead i) i Input.Flush
+  flushed = given (delta_groups data_type digest) p (script.Head.FlushHead i) (InputAt i Input.Flush)
 
   running : IsRunning kind_of IsDataOf kinds logs ghosts p.world i old
   running = running_at kind_of IsDataOf kinds logs ghosts code.nodes.items code.links p.world stands.parts i old within is
 
   pub flush_full : old.steps ≡ 16384 → flushed ≡ told p (script.Head.FlushHead i) script.Answer.HistoryFull
-  flush_full full = gives_full kind_of IsDataOf kinds logs ghosts D code.nodes.items code.links p stands.parts (script.Head.FlushHead i) (InputAt i Input.Flush) i Input.Flush old running full
+  flush_full full = gives_full kind_of IsDataOf kinds logs ghosts D code.nodes.items code.links p stands.parts (script.Head.FlushHead i) (InputAt i Input.Flush) i Input.Flush refl old running full
 
   module _ (new : Node T Kind Op Delta ghosts) (links : Channels (Message T Kind Op Delta ghosts)) (sent : List SentTo) (room : old.steps ≡ 16384 → ⊥)
       (becomes : (node : nodes.Node Kind Op Shown) → StandsForNode kind_of IsDataOf kinds logs old node → AreTakenFrom logs (step (delta_groups data_type digest) node Input.Flush NoStore).node → StandsForNode kind_of IsDataOf kinds logs new (step (delta_groups data_type digest) node Input.Flush NoStore).node)
-      (sends : IsSentFrom (AreFlushed data_type kind_of IsDataOf old) i code.members code.links links sent) (first : worlds.World Kind Op Shown) (run : IsRun (delta_groups data_type digest) first flushed.events flushed.world) (through : Throughout (delta_groups data_type digest) logs first flushed) where
+      (sends : IsSentFrom (AreFlushed data_type kind_of IsDataOf old) i code.members code.links links sent) (started : ℕ) (decls : List (KeyDecl Kind)) (run : IsRun (delta_groups data_type digest) started decls flushed.events flushed.world) (through : Throughout (delta_groups data_type digest) logs started decls flushed) where
     node : nodes.Node Kind Op Shown
     node = running.node
 
@@ -66,7 +67,7 @@ module _ {T Kind Op Delta : Type 0} (data_type : DataType Kind Op Shown) (kind_o
     happened = ap (λ o. stepped_at D p.world i o Input.Flush NoStore) running.runs
 
     taken : AreTakenFrom logs (step D running.node Input.Flush NoStore).node
-    taken = member_after kind_of IsDataOf kinds logs ghosts D code.nodes.items code.links p stands.parts (script.Head.FlushHead i) (InputAt i Input.Flush) i Input.Flush old running flush p.world happened room first run through
+    taken = member_after kind_of IsDataOf kinds logs ghosts D code.nodes.items code.links p stands.parts (script.Head.FlushHead i) (InputAt i Input.Flush) i Input.Flush refl old running flush p.world happened room started decls run through
 
     in_first : running.node.view ≡ first_view (length code.nodes.items)
     in_first = running.member.installed ∙ stands.parts.view
@@ -94,7 +95,7 @@ module _ {T Kind Op Delta : Type 0} (data_type : DataType Kind Op Shown) (kind_o
           parts = subst (λ those. StandsForParts kind_of IsDataOf kinds logs those after.links flushed.world) (sym changed)
               (subst (λ channels. StandsForParts kind_of IsDataOf kinds logs (set code.nodes.items i new) channels flushed.world) (sym same_links)
               (subst (λ w. StandsForParts kind_of IsDataOf kinds logs (set code.nodes.items i new) links w)
-              (sym (world_after kind_of IsDataOf kinds logs ghosts D code.nodes.items code.links p stands.parts (script.Head.FlushHead i) (InputAt i Input.Flush) i Input.Flush old running flush p.world happened room))
+              (sym (world_after kind_of IsDataOf kinds logs ghosts D code.nodes.items code.links p stands.parts (script.Head.FlushHead i) (InputAt i Input.Flush) i Input.Flush refl old running flush p.world happened room))
               (stands_after kind_of IsDataOf kinds logs ghosts code.nodes.items code.links p.world stands.parts i running.node next new links within
               (record { installed = (same_step D running.node Input.Flush NoStore flush).view ∙ running.member.installed; stands = becomes running.node running.member.stands taken })
               (still_linked kind_of IsDataOf kinds logs (channel_at code.links) links p.world.links i n sends.0 next.output.posts posts_stand below went within stands.parts.linked stands.parts.links)
@@ -105,7 +106,7 @@ module _ {T Kind Op Delta : Type 0} (data_type : DataType Kind Op Shown) (kind_o
     flush_tells =
         let next = step D running.node Input.Flush NoStore in (
           record { head = script.Head.FlushHead i; answer = script.Answer.Replied next.output.reply; posts = next.output.posts; ended = next.output.ended },
-          ap (λ (q : Playing Kind Op Shown). q.lines) (gives_step kind_of IsDataOf kinds logs ghosts D code.nodes.items code.links p stands.parts (script.Head.FlushHead i) (InputAt i Input.Flush) i Input.Flush old running flush room),
+          ap (λ (q : Playing Kind Op Shown). q.lines) (gives_step kind_of IsDataOf kinds logs ghosts D code.nodes.items code.links p stands.parts (script.Head.FlushHead i) (InputAt i Input.Flush) i Input.Flush refl old running flush room),
           record { head = refl; answer = refl; sent = (sends.2 few).1 ∙ told_alike kind_of IsDataOf kinds logs sends.0 next.output.posts posts_stand; ended = refl },
         )
 

@@ -11,15 +11,16 @@ use Rattle.rd_model.specs.Entry.{Entry}
 use Rattle.rd_model.specs.DataType.{DataType, Replication}
 use Rattle.rd_model.specs.Node as nodes
 use Rattle.rd_model.specs.Message as model
-use Rattle.rd_model.specs.Node.{Input, one_step_later}
+use Rattle.rd_model.specs.Node.{KeyDecl, Input, one_step_later}
 use Rattle.rd_model.specs.Node.Fate.{NoStore}
 use Rattle.rd_model.specs.Node.Reply.{Done, NotAPeer}
 use Rattle.rd_model.specs.Step.{step, answered, sent, answer_to, status_of}
 use Rattle.rd_model.specs.World as worlds
-use Rattle.rd_model.specs.World.{stepped_at, after_step, happens, with_posts}
+use Rattle.rd_model.specs.World.{after_step, happens, with_posts, IsRun}
 use Rattle.rd_model.specs.World.Event.{InputAt}
 use Rattle.rd_model.specs.Script as script
-use Rattle.rd_model.specs.Script.{Playing, IsRun, given, told}
+use Rattle.rd_model.specs.Script.{Playing, given, told}
+use Rattle.rd_model.proofs.Cases.{stepped_at}
 use Rattle.rd_kinds.specs.declared.shown.Shown.{Shown}
 use Rattle.rd_lattice.specs.declared.replica.Replica.{Ghosts}
 use Rattle.rd_messages.specs.declared.message.Message.{Message}
@@ -76,18 +77,18 @@ module _ {T Kind Op Delta : Type 0} (data_type : DataType Kind Op Shown) (kind_o
   D = delta_groups data_type digest
 
   abbrev pub gossiped : Playing Kind Op Shown
-  gossiped = given (delta_groups data_type digest) p (script.Head.GossipHead i to) i (Input.GossipTo to)
+  gossiped = given (delta_groups data_type digest) p (script.Head.GossipHead i to) (InputAt i (Input.GossipTo to))
 
   running : IsRunning kind_of IsDataOf kinds logs ghosts p.world i old
   running = running_at kind_of IsDataOf kinds logs ghosts code.nodes.items code.links p.world stands.parts i old within is
 
   pub gossip_full : old.steps ≡ 16384 → gossiped ≡ told p (script.Head.GossipHead i to) script.Answer.HistoryFull
-  gossip_full full = gives_full kind_of IsDataOf kinds logs ghosts D code.nodes.items code.links p stands.parts (script.Head.GossipHead i to) (InputAt i (Input.GossipTo to)) i (Input.GossipTo to) old running full
+  gossip_full full = gives_full kind_of IsDataOf kinds logs ghosts D code.nodes.items code.links p stands.parts (script.Head.GossipHead i to) (InputAt i (Input.GossipTo to)) i (Input.GossipTo to) refl old running full
 
   module _ (new : Node T Kind Op Delta ghosts) (links : Channels (Message T Kind Op Delta ghosts)) (said : Reply) (sent : List SentTo) (room : old.steps ≡ 16384 → ⊥)
       (becomes : (node : nodes.Node Kind Op Shown) → StandsForNode kind_of IsDataOf kinds logs old node → AreTakenFrom logs (step (delta_groups data_type digest) node (Input.GossipTo to) NoStore).node → StandsForNode kind_of IsDataOf kinds logs new (step (delta_groups data_type digest) node (Input.GossipTo to) NoStore).node)
       (says : (node : nodes.Node Kind Op Shown) → StandsForNode kind_of IsDataOf kinds logs old node → AreTakenFrom logs (step (delta_groups data_type digest) node (Input.GossipTo to) NoStore).node → meant said ≡ (step (delta_groups data_type digest) node (Input.GossipTo to) NoStore).output.reply)
-      (sends : IsSentFrom (AreGossiped data_type digest kind_of IsDataOf old to) i 2 code.links links sent) (first : worlds.World Kind Op Shown) (run : IsRun (delta_groups data_type digest) first gossiped.events gossiped.world) (through : Throughout (delta_groups data_type digest) logs first gossiped) where
+      (sends : IsSentFrom (AreGossiped data_type digest kind_of IsDataOf old to) i 2 code.links links sent) (started : ℕ) (decls : List (KeyDecl Kind)) (run : IsRun (delta_groups data_type digest) started decls gossiped.events gossiped.world) (through : Throughout (delta_groups data_type digest) logs started decls gossiped) where
     node : nodes.Node Kind Op Shown
     node = running.node
 
@@ -95,7 +96,7 @@ module _ {T Kind Op Delta : Type 0} (data_type : DataType Kind Op Shown) (kind_o
     happened = ap (λ o. stepped_at D p.world i o (Input.GossipTo to) NoStore) running.runs
 
     taken : AreTakenFrom logs (step D running.node (Input.GossipTo to) NoStore).node
-    taken = member_after kind_of IsDataOf kinds logs ghosts D code.nodes.items code.links p stands.parts (script.Head.GossipHead i to) (InputAt i (Input.GossipTo to)) i (Input.GossipTo to) old running (gossip to) p.world happened room first run through
+    taken = member_after kind_of IsDataOf kinds logs ghosts D code.nodes.items code.links p stands.parts (script.Head.GossipHead i to) (InputAt i (Input.GossipTo to)) i (Input.GossipTo to) refl old running (gossip to) p.world happened room started decls run through
 
     in_first : running.node.view ≡ first_view (length code.nodes.items)
     in_first = running.member.installed ∙ stands.parts.view
@@ -116,7 +117,7 @@ module _ {T Kind Op Delta : Type 0} (data_type : DataType Kind Op Shown) (kind_o
           parts = subst (λ those. StandsForParts kind_of IsDataOf kinds logs those after.links gossiped.world) (sym changed)
               (subst (λ channels. StandsForParts kind_of IsDataOf kinds logs (set code.nodes.items i new) channels gossiped.world) (sym same_links)
               (subst (λ w. StandsForParts kind_of IsDataOf kinds logs (set code.nodes.items i new) links w)
-              (sym (world_after kind_of IsDataOf kinds logs ghosts D code.nodes.items code.links p stands.parts (script.Head.GossipHead i to) (InputAt i (Input.GossipTo to)) i (Input.GossipTo to) old running (gossip to) p.world happened room))
+              (sym (world_after kind_of IsDataOf kinds logs ghosts D code.nodes.items code.links p stands.parts (script.Head.GossipHead i to) (InputAt i (Input.GossipTo to)) i (Input.GossipTo to) refl old running (gossip to) p.world happened room))
               (stands_after kind_of IsDataOf kinds logs ghosts code.nodes.items code.links p.world stands.parts i running.node next new links within
               (record { installed = (same_step D running.node (Input.GossipTo to) NoStore (gossip to)).view ∙ running.member.installed; stands = becomes running.node running.member.stands taken })
               (still_linked kind_of IsDataOf kinds logs (channel_at code.links) links p.world.links i n sends.0 next.output.posts posts_stand below went within stands.parts.linked stands.parts.links)
@@ -127,7 +128,7 @@ module _ {T Kind Op Delta : Type 0} (data_type : DataType Kind Op Shown) (kind_o
     gossip_tells =
         let next = step D running.node (Input.GossipTo to) NoStore in (
           record { head = script.Head.GossipHead i to; answer = script.Answer.Replied next.output.reply; posts = next.output.posts; ended = next.output.ended },
-          ap (λ (q : Playing Kind Op Shown). q.lines) (gives_step kind_of IsDataOf kinds logs ghosts D code.nodes.items code.links p stands.parts (script.Head.GossipHead i to) (InputAt i (Input.GossipTo to)) i (Input.GossipTo to) old running (gossip to) room),
+          ap (λ (q : Playing Kind Op Shown). q.lines) (gives_step kind_of IsDataOf kinds logs ghosts D code.nodes.items code.links p stands.parts (script.Head.GossipHead i to) (InputAt i (Input.GossipTo to)) i (Input.GossipTo to) refl old running (gossip to) room),
           record { head = refl; answer = ap script.Answer.Replied (sym (says running.node running.member.stands taken)); sent = (sends.2 sends.1.1).1 ∙ told_alike kind_of IsDataOf kinds logs sends.0 next.output.posts posts_stand; ended = gossip-ends_nothing data_type digest running.node NoStore to },
         )
 

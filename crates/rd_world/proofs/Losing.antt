@@ -10,7 +10,7 @@ use Rattle.rd_model.specs.World as worlds
 use Rattle.rd_model.specs.World.{Link, moved_on}
 use Rattle.rd_model.specs.World.Event.{Loss}
 use Rattle.rd_model.specs.Script as script
-use Rattle.rd_model.specs.Script.{Playing, told, did, lose}
+use Rattle.rd_model.specs.Script.{Playing, told, did_plainly, lose}
 use Rattle.rd_kinds.specs.declared.shown.Shown.{Shown}
 use Rattle.rd_lattice.specs.declared.replica.Replica.{Ghosts}
 use Rattle.rd_messages.specs.declared.message.Message.{Message}
@@ -31,7 +31,7 @@ module _ {T Kind Op Delta : Type 0} (kind_of : T → Kind) (IsDataOf : T → His
   at_count = link_count kind_of IsDataOf kinds logs (channel_at code.links from to) (p.world.links from to) (stands.parts.links from to)
 
   abbrev lost : Playing Kind Op Shown
-  lost = did D p (Loss from to) (script.Head.LoseHead from to (p.world.links from to).next) script.Answer.Lost [] None
+  lost = did_plainly D p (Loss from to) (script.Head.LoseHead from to (p.world.links from to).next) script.Answer.Lost
 
   abbrev unlost : Playing Kind Op Shown
   unlost = told p (script.Head.LoseHead from to (p.world.links from to).next) script.Answer.NoSuchMessage

@@ -12,8 +12,9 @@ use Rattle.rd_meanings.specs.Refusal.{Refusal}
 use Rattle.rd_history.specs.Texts.{Text}
 use Rattle.rd_model.specs.Node.{KeyDecl, KeyState, Node, Input, Fate, Level, Stepped, key_state, state_of, one_step_later, needed}
 use Rattle.rd_model.specs.Node.Fate.{Stored}
-use Rattle.rd_model.specs.Step.{step, updated, updated_needing, updated_unless, got, got_needing, AfterGroups, has_failed, is_strange_entry, is_strange_group, with_taken_entry, take_entry, after_entries, with_judged, with_taken_group, take_group, member_count}
+use Rattle.rd_model.specs.Step.{step, AfterGroups, has_failed, is_entry_passed_over, is_group_passed_over, take_entry, after_entries, take_group, member_count}
 use Rattle.rd_model.specs.World.{stores}
+use Rattle.rd_model.proofs.Cases.{updated, updated_needing, updated_unless, got, got_needing, with_taken_entry, with_judged, with_taken_group}
 use Rattle.rd_runs.proofs.Keeping.{if_holds}
 
 -- the view and the keys are those of before
@@ -50,7 +51,7 @@ module _ {Kind Op Shown : Type 0} where
 
   same_taken : (node : Node Kind Op Shown) (o : Option (KeyState Kind Op)) (theirs : Entry Op) → IsSame node (with_taken_entry node o theirs)
   same_taken node None theirs = same node
-  same_taken node (Some k) theirs = if_holds (λ (n : Node Kind Op Shown). IsSame node n) (is_strange_entry node.identity k.entry theirs) _ _ (same node) (record { view = refl; keys = refl })
+  same_taken node (Some k) theirs = if_holds (λ (n : Node Kind Op Shown). IsSame node n) (is_entry_passed_over node.identity k.entry theirs) _ _ (same node) (record { view = refl; keys = refl })
 
   same_entries : (entries : List (Keyed (Entry Op))) (node : Node Kind Op Shown) → IsSame node (after_entries node entries)
   same_entries [] node = same node
@@ -64,7 +65,7 @@ module _ {Kind Op Shown : Type 0} where
   same_group : (so_far : AfterGroups Kind Op Shown) (o : Option (KeyState Kind Op)) (group : Group Op) → IsSame so_far.node (with_taken_group so_far o group).node
   same_group so_far None group = same so_far.node
   same_group so_far (Some k) group =
-      if_holds (λ (next : AfterGroups Kind Op Shown). IsSame so_far.node next.node) (is_strange_group so_far.node.identity k.entry group) _ _ (same so_far.node) (same_judged so_far k group (judged k.entry group))
+      if_holds (λ (next : AfterGroups Kind Op Shown). IsSame so_far.node next.node) (is_group_passed_over so_far.node.identity k.entry group) _ _ (same so_far.node) (same_judged so_far k group (judged k.entry group))
 
   same_groups : (groups : List (Keyed (Group Op))) (so_far : AfterGroups Kind Op Shown) → IsSame so_far.node (fold take_group so_far groups).node
   same_groups [] so_far = same so_far.node

@@ -3,9 +3,10 @@ use Rattle.std.proofs.Common.{◌≡◌, ℕ, zero, suc, ◌+◌, ◌-◌, ◌�
 use Rattle.std.specs.Prelude.{fold}
 use Rattle.std.specs.List.{range_with_len}
 use Rattle.rd_model.specs.DataType.{Replication}
-use Rattle.rd_model.specs.World.{World}
+use Rattle.rd_model.specs.Node.{KeyDecl}
+use Rattle.rd_model.specs.World.{IsRun}
 use Rattle.rd_model.specs.Script as script
-use Rattle.rd_model.specs.Script.{Playing, IsRun, deliver, deliver_due}
+use Rattle.rd_model.specs.Script.{Playing, deliver, deliver_due}
 use Rattle.rd_runs.proofs.Playing.{played_is_run, deliver_appends}
 use Rattle.rd_world.specs.declared.rounds.Due.{Due}
 use Rattle.rd_world.specs.Dues.{delivered_upto}
@@ -31,12 +32,12 @@ module _ {Kind Op Shown : Type 0} (D : Replication Kind Op Shown) where
   fold_prefix from to [] p = prefix_same p.events
   fold_prefix from to (i ∷ indices) p = prefix_trans p.events (deliver D p from to i).events _ (deliver_appends D p from to i) (fold_prefix from to indices (deliver D p from to i))
 
-  pub deliver_run : (first : World Kind Op Shown) (p : Playing Kind Op Shown) (from to index : ℕ) → IsRun D first p.events p.world → IsRun D first (deliver D p from to index).events (deliver D p from to index).world
-  deliver_run first p from to index run = played_is_run D first p (script.ScriptStep.Deliver from to (Some index) ∷ []) (tt, tt) run
+  pub deliver_run : (started : ℕ) (decls : List (KeyDecl Kind)) (p : Playing Kind Op Shown) (from to index : ℕ) → IsRun D started decls p.events p.world → IsRun D started decls (deliver D p from to index).events (deliver D p from to index).world
+  deliver_run started decls p from to index run = played_is_run D started decls p (script.ScriptStep.Deliver from to (Some index) ∷ []) (tt, tt) run
 
-  pub fold_run : (first : World Kind Op Shown) (from to : ℕ) (indices : List ℕ) (p : Playing Kind Op Shown) → IsRun D first p.events p.world → IsRun D first (fold (λ q i. deliver D q from to i) p indices).events (fold (λ q i. deliver D q from to i) p indices).world
-  fold_run first from to [] p run = run
-  fold_run first from to (i ∷ indices) p run = fold_run first from to indices (deliver D p from to i) (deliver_run first p from to i run)
+  pub fold_run : (started : ℕ) (decls : List (KeyDecl Kind)) (from to : ℕ) (indices : List ℕ) (p : Playing Kind Op Shown) → IsRun D started decls p.events p.world → IsRun D started decls (fold (λ q i. deliver D q from to i) p indices).events (fold (λ q i. deliver D q from to i) p indices).world
+  fold_run started decls from to [] p run = run
+  fold_run started decls from to (i ∷ indices) p run = fold_run started decls from to indices (deliver D p from to i) (deliver_run started decls p from to i run)
 
   module _ (p : Playing Kind Op Shown) (due : Due) where
     pub upto_start : delivered_upto D p due due.first ≡ p
@@ -51,8 +52,8 @@ module _ {Kind Op Shown : Type 0} (D : Replication Kind Op Shown) where
         ∙ fold_append (λ q i. deliver D q due.from due.to i) p (range_with_len due.first (index - due.first)) ((due.first + (index - due.first)) ∷ [])
         ∙ ap (deliver D (delivered_upto D p due index) due.from due.to) here
 
-    pub upto_run : (first : World Kind Op Shown) (index : ℕ) → IsRun D first p.events p.world → IsRun D first (delivered_upto D p due index).events (delivered_upto D p due index).world
-    upto_run first index run = fold_run first due.from due.to (range_with_len due.first (index - due.first)) p run
+    pub upto_run : (started : ℕ) (decls : List (KeyDecl Kind)) (index : ℕ) → IsRun D started decls p.events p.world → IsRun D started decls (delivered_upto D p due index).events (delivered_upto D p due index).world
+    upto_run started decls index run = fold_run started decls due.from due.to (range_with_len due.first (index - due.first)) p run
 
     pub upto_since : (index : ℕ) → IsPrefix p.events (delivered_upto D p due index).events
     upto_since index = fold_prefix due.from due.to (range_with_len due.first (index - due.first)) p

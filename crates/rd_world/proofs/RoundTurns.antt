@@ -10,9 +10,11 @@ use Rattle.rd_history.specs.History.{History}
 use Rattle.rd_history.proofs.HistoryLaws.{append_nothing}
 use Rattle.rd_model.specs.Entry.{Entry}
 use Rattle.rd_model.specs.DataType.{DataType, Replication}
+use Rattle.rd_model.specs.Node.{KeyDecl}
 use Rattle.rd_model.specs.World as worlds
 use Rattle.rd_model.specs.Script as script
-use Rattle.rd_model.specs.Script.{Playing, IsRun, deliver, deliver_due, round_of, due_now, told}
+use Rattle.rd_model.specs.Script.{Playing, deliver, deliver_due, round_of, due_now, told}
+use Rattle.rd_model.specs.World.{IsRun}
 use Rattle.rd_kinds.specs.declared.shown.Shown.{Shown}
 use Rattle.rd_lattice.specs.declared.replica.Replica.{Ghosts}
 use Rattle.rd_node.specs.Members.{delta_groups}
@@ -38,9 +40,9 @@ module _ {Kind Op Shown : Type 0} (D : Replication Kind Op Shown) where
   turned_prefix [] p = prefix_same p.events
   turned_prefix (due ∷ dues) p = prefix_trans p.events (deliver_due D p due).events _ (due_appends D p due) (turned_prefix dues (deliver_due D p due))
 
-  pub turned_run : (first : worlds.World Kind Op Shown) (dues : List script.Due) (p : Playing Kind Op Shown) → IsRun D first p.events p.world → IsRun D first (fold (deliver_due D) p dues).events (fold (deliver_due D) p dues).world
-  turned_run first [] p run = run
-  turned_run first (due ∷ dues) p run = turned_run first dues (deliver_due D p due) (fold_run D first due.from due.to (range_with_len due.first due.count) p run)
+  pub turned_run : (started : ℕ) (decls : List (KeyDecl Kind)) (dues : List script.Due) (p : Playing Kind Op Shown) → IsRun D started decls p.events p.world → IsRun D started decls (fold (deliver_due D) p dues).events (fold (deliver_due D) p dues).world
+  turned_run started decls [] p run = run
+  turned_run started decls (due ∷ dues) p run = turned_run started decls dues (deliver_due D p due) (fold_run D started decls due.from due.to (range_with_len due.first due.count) p run)
 
   module _ (p : Playing Kind Op Shown) (dues : List Due) (k : ℕ) (due : Due) (within : k < length dues) (is : due ≡ get_or dues k due) where
     pub one_turn : turned p (take (k + 1) dues) ≡ deliver_due D (turned p (take k dues)) (meant_due due)
@@ -63,60 +65,60 @@ module _ {Kind Op Shown : Type 0} (D : Replication Kind Op Shown) where
 module _ {T Kind Op Delta : Type 0} (data_type : DataType Kind Op Shown) (digest : Kind → Entry Op → List ℕ) (kind_of : T → Kind) (IsDataOf : T → History Op → VersionVector → IdentitySet → Type 0) (ghosts : Ghosts T Kind Op Delta) where
   -- what was due on the first links was delivered
   pub record IsTurnedUpto (dues : List Due) (count : ℕ) (start now : World T Kind Op Delta ghosts) (events : List Event) : Type 0 where
-    pub stands : (kinds : Text → Kind) (logs : Text → History Op) (first : worlds.World Kind Op Shown) (p : Playing Kind Op Shown)
+    pub stands : (kinds : Text → Kind) (logs : Text → History Op) (started : ℕ) (decls : List (KeyDecl Kind)) (p : Playing Kind Op Shown)
         → let D = delta_groups data_type digest in
-        IsRun D first p.events p.world → Throughout D logs first (turned D p dues) → StandsForWorld kind_of IsDataOf kinds logs start p.world → StandsForWorld kind_of IsDataOf kinds logs now (turned D p (take count dues)).world
-    pub told : (kinds : Text → Kind) (logs : Text → History Op) (first : worlds.World Kind Op Shown) (p : Playing Kind Op Shown)
+        IsRun D started decls p.events p.world → Throughout D logs started decls (turned D p dues) → StandsForWorld kind_of IsDataOf kinds logs start p.world → StandsForWorld kind_of IsDataOf kinds logs now (turned D p (take count dues)).world
+    pub told : (kinds : Text → Kind) (logs : Text → History Op) (started : ℕ) (decls : List (KeyDecl Kind)) (p : Playing Kind Op Shown)
         → let D = delta_groups data_type digest in
-        IsRun D first p.events p.world → Throughout D logs first (turned D p dues) → StandsForWorld kind_of IsDataOf kinds logs start p.world → AreNextLines events p (turned D p (take count dues))
+        IsRun D started decls p.events p.world → Throughout D logs started decls (turned D p dues) → StandsForWorld kind_of IsDataOf kinds logs start p.world → AreNextLines events p (turned D p (take count dues))
 
   abbrev pub DueDelivers : Due → World T Kind Op Delta ghosts → World T Kind Op Delta ghosts → Type 0
   DueDelivers due now later =
-      (kinds : Text → Kind) (logs : Text → History Op) (first : worlds.World Kind Op Shown) (p : Playing Kind Op Shown)
+      (kinds : Text → Kind) (logs : Text → History Op) (started : ℕ) (decls : List (KeyDecl Kind)) (p : Playing Kind Op Shown)
       → let D = delta_groups data_type digest in
-      IsRun D first p.events p.world → Throughout D logs first (deliver_due D p (meant_due due)) → StandsForWorld kind_of IsDataOf kinds logs now p.world → StandsForWorld kind_of IsDataOf kinds logs later (deliver_due D p (meant_due due)).world
+      IsRun D started decls p.events p.world → Throughout D logs started decls (deliver_due D p (meant_due due)) → StandsForWorld kind_of IsDataOf kinds logs now p.world → StandsForWorld kind_of IsDataOf kinds logs later (deliver_due D p (meant_due due)).world
 
   abbrev pub DueTells : Due → World T Kind Op Delta ghosts → List Event → List Event → Type 0
   DueTells due now before events =
-      (kinds : Text → Kind) (logs : Text → History Op) (first : worlds.World Kind Op Shown) (opening p : Playing Kind Op Shown)
+      (kinds : Text → Kind) (logs : Text → History Op) (started : ℕ) (decls : List (KeyDecl Kind)) (opening p : Playing Kind Op Shown)
       → let D = delta_groups data_type digest in
-      IsRun D first p.events p.world → Throughout D logs first (deliver_due D p (meant_due due)) → StandsForWorld kind_of IsDataOf kinds logs now p.world → AreNextLines before opening p → AreNextLines events opening (deliver_due D p (meant_due due))
+      IsRun D started decls p.events p.world → Throughout D logs started decls (deliver_due D p (meant_due due)) → StandsForWorld kind_of IsDataOf kinds logs now p.world → AreNextLines before opening p → AreNextLines events opening (deliver_due D p (meant_due due))
 
   pub none_turned : (dues : List Due) (start : World T Kind Op Delta ghosts) → IsTurnedUpto dues 0 start start []
   none_turned dues start =
       record {
-        stands = λ kinds logs first p run through st. st;
-        told = λ kinds logs first p run through st. ([], sym (append_nothing p.lines), tt);
+        stands = λ kinds logs started decls p run through st. st;
+        told = λ kinds logs started decls p run through st. ([], sym (append_nothing p.lines), tt);
       }
 
   module _ (dues : List Due) (k : ℕ) (start now : World T Kind Op Delta ghosts) (before : List Event) (due : Due) (within : k < length dues) (is : due ≡ get_or dues k due) (upto : IsTurnedUpto dues k start now before) where
-    through_turn : (D : Replication Kind Op Shown) (logs : Text → History Op) (first : worlds.World Kind Op Shown) (p : Playing Kind Op Shown) → Throughout D logs first (turned D p dues) → Throughout D logs first (deliver_due D (turned D p (take k dues)) (meant_due due))
-    through_turn D logs first p through =
-        subst (Throughout D logs first) (one_turn D p dues k due within is) (throughout_earlier D logs first (turned D p (take (k + 1) dues)) (turned D p dues) (turns_until D p dues (k + 1)) through)
+    through_turn : (D : Replication Kind Op Shown) (logs : Text → History Op) (started : ℕ) (decls : List (KeyDecl Kind)) (p : Playing Kind Op Shown) → Throughout D logs started decls (turned D p dues) → Throughout D logs started decls (deliver_due D (turned D p (take k dues)) (meant_due due))
+    through_turn D logs started decls p through =
+        subst (Throughout D logs started decls) (one_turn D p dues k due within is) (throughout_earlier D logs started decls (turned D p (take (k + 1) dues)) (turned D p dues) (turns_until D p dues (k + 1)) through)
 
     pub one_turned : (later : World T Kind Op Delta ghosts) (events : List Event) → DueDelivers due now later → DueTells due now before events → IsTurnedUpto dues (k + 1) start later events
     one_turned later events delivers tells =
         record {
-          stands = λ kinds logs first p run through st.
+          stands = λ kinds logs started decls p run through st.
               let D = delta_groups data_type digest in
               subst (λ (q : Playing Kind Op Shown). StandsForWorld kind_of IsDataOf kinds logs later q.world) (sym (one_turn D p dues k due within is))
-              (delivers kinds logs first (turned D p (take k dues)) (turned_run D first (map meant_due (take k dues)) p run) (through_turn D logs first p through) (upto.stands kinds logs first p run through st));
-          told = λ kinds logs first p run through st.
+              (delivers kinds logs started decls (turned D p (take k dues)) (turned_run D started decls (map meant_due (take k dues)) p run) (through_turn D logs started decls p through) (upto.stands kinds logs started decls p run through st));
+          told = λ kinds logs started decls p run through st.
               let D = delta_groups data_type digest in
               subst (AreNextLines events p) (sym (one_turn D p dues k due within is))
-              (tells kinds logs first p (turned D p (take k dues)) (turned_run D first (map meant_due (take k dues)) p run) (through_turn D logs first p through) (upto.stands kinds logs first p run through st) (upto.told kinds logs first p run through st));
+              (tells kinds logs started decls p (turned D p (take k dues)) (turned_run D started decls (map meant_due (take k dues)) p run) (through_turn D logs started decls p through) (upto.stands kinds logs started decls p run through st) (upto.told kinds logs started decls p run through st));
         }
 
     -- memory was refused amid a link
-    pub amid_turn : (kinds : Text → Kind) (logs : Text → History Op) (first : worlds.World Kind Op Shown) (p : Playing Kind Op Shown) (later : World T Kind Op Delta ghosts) → IsRun (delta_groups data_type digest) first p.events p.world
-        → Throughout (delta_groups data_type digest) logs first (turned (delta_groups data_type digest) p dues) → StandsForWorld kind_of IsDataOf kinds logs start p.world
-        → ((q : Playing Kind Op Shown) → IsRun (delta_groups data_type digest) first q.events q.world → Throughout (delta_groups data_type digest) logs first (deliver_due (delta_groups data_type digest) q (meant_due due)) → StandsForWorld kind_of IsDataOf kinds logs now q.world
-        → (r : Playing Kind Op Shown) × IsBetween (delta_groups data_type digest) first q r (deliver_due (delta_groups data_type digest) q (meant_due due)) × StandsForWorld kind_of IsDataOf kinds logs later r.world)
-        → (r : Playing Kind Op Shown) × IsBetween (delta_groups data_type digest) first p r (turned (delta_groups data_type digest) p dues) × StandsForWorld kind_of IsDataOf kinds logs later r.world
-    amid_turn kinds logs first p later run through st amid =
+    pub amid_turn : (kinds : Text → Kind) (logs : Text → History Op) (started : ℕ) (decls : List (KeyDecl Kind)) (p : Playing Kind Op Shown) (later : World T Kind Op Delta ghosts) → IsRun (delta_groups data_type digest) started decls p.events p.world
+        → Throughout (delta_groups data_type digest) logs started decls (turned (delta_groups data_type digest) p dues) → StandsForWorld kind_of IsDataOf kinds logs start p.world
+        → ((q : Playing Kind Op Shown) → IsRun (delta_groups data_type digest) started decls q.events q.world → Throughout (delta_groups data_type digest) logs started decls (deliver_due (delta_groups data_type digest) q (meant_due due)) → StandsForWorld kind_of IsDataOf kinds logs now q.world
+        → (r : Playing Kind Op Shown) × IsBetween (delta_groups data_type digest) started decls q r (deliver_due (delta_groups data_type digest) q (meant_due due)) × StandsForWorld kind_of IsDataOf kinds logs later r.world)
+        → (r : Playing Kind Op Shown) × IsBetween (delta_groups data_type digest) started decls p r (turned (delta_groups data_type digest) p dues) × StandsForWorld kind_of IsDataOf kinds logs later r.world
+    amid_turn kinds logs started decls p later run through st amid =
         let D = delta_groups data_type digest in
         let here = turned D p (take k dues) in
-        let found = amid here (turned_run D first (map meant_due (take k dues)) p run) (through_turn D logs first p through) (upto.stands kinds logs first p run through st) in
+        let found = amid here (turned_run D started decls (map meant_due (take k dues)) p run) (through_turn D logs started decls p through) (upto.stands kinds logs started decls p run through st) in
         let between = found.1 in
         let rest = subst (λ (q : Playing Kind Op Shown). IsPrefix q.events (turned D p dues).events) (one_turn D p dues k due within is) (turns_until D p dues (k + 1)) in (
           found.0,
@@ -166,8 +168,8 @@ module _ {T Kind Op Delta : Type 0} (data_type : DataType Kind Op Shown) (kind_o
   )
 
 -- nothing was delivered yet
-pub at_start : {Kind Op Shown : Type 0} (D : Replication Kind Op Shown) (first : worlds.World Kind Op Shown) (p : Playing Kind Op Shown) → IsRun D first p.events p.world → IsBetween D first p p (round_of D p (due_now D p))
-at_start D first p run = record { run = run; since = prefix_same p.events; until = played_appends D p script.ScriptStep.Round tt }
+pub at_start : {Kind Op Shown : Type 0} (D : Replication Kind Op Shown) (started : ℕ) (decls : List (KeyDecl Kind)) (p : Playing Kind Op Shown) → IsRun D started decls p.events p.world → IsBetween D started decls p p (round_of D p (due_now D p))
+at_start D started decls p run = record { run = run; since = prefix_same p.events; until = played_appends D p script.ScriptStep.Round tt }
 
 pub empty_count : (n : ℕ) → (n == 0) ≡ true → n ≡ 0
 empty_count n e = elim (eqb_tells n 0) [ inl same ↦ same.1 | inr other ↦ absurd (let f : false ≡ true = sym other.0 ∙ e in cc f) ]

@@ -9,7 +9,7 @@ use Rattle.rd_history.specs.Table.{identity_limit}
 use Rattle.rd_history.specs.Vector.{VersionVector, IdentitySet}
 use Rattle.rd_history.specs.History.{History}
 use Rattle.rd_model.specs.View.{Member, first_view, identities_of}
-use Rattle.rd_model.specs.World.{start, no_link, loaded_node}
+use Rattle.rd_model.specs.World.{start, no_link, no_entries, loaded_node}
 use Rattle.rd_lattice.specs.declared.replica.Replica.{Ghosts}
 use Rattle.rd_node.specs.declared.key.KeyDecl.{KeyDecl}
 use Rattle.rd_messages.specs.declared.message.Message.{Message}
@@ -43,8 +43,8 @@ identity_at n k = let same : 0 + k ≡ k = omega arith in range_at 0 n k ∙ ap 
 
 module _ {T Kind Op Delta : Type 0} (kind_of : T → Kind) (IsDataOf : T → History Op → VersionVector → IdentitySet → Type 0) (kinds : Text → Kind) (logs : Text → History Op) (ghosts : Ghosts T Kind Op Delta) (keys : List (KeyDecl T Kind Op Delta)) (n : ℕ) where
   one_running : (o : Option (Node T Kind Op Delta ghosts)) (b : Bool) (k : ℕ) → IsPair (IsNewMember kind_of IsDataOf kinds logs keys (first_view n)) o (if b then Some k else None)
-      → StandsForRunning kind_of IsDataOf kinds logs (first_view n) o (if b then Some (loaded_node (map declared keys) k (first_view n) []) else None)
-  one_running (Some code) true k (both r) = (loaded_node (map declared keys) k (first_view n) [], refl, record { installed = refl; stands = r })
+      → StandsForRunning kind_of IsDataOf kinds logs (first_view n) o (if b then Some (loaded_node (map declared keys) k (first_view n) no_entries) else None)
+  one_running (Some code) true k (both r) = (loaded_node (map declared keys) k (first_view n) no_entries, refl, record { installed = refl; stands = r })
   one_running None false k neither = refl
   one_running None true k pair = elim pair [ ]
   one_running (Some code) false k pair = elim pair [ ]

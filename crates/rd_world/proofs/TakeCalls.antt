@@ -13,14 +13,15 @@ use Rattle.rd_model.specs.DataType.{DataType, Replication}
 use Rattle.rd_model.specs.Message as model
 use Rattle.rd_model.specs.Message.{Message as Sent}
 use Rattle.rd_model.specs.Node as nodes
-use Rattle.rd_model.specs.Node.{Input}
+use Rattle.rd_model.specs.Node.{KeyDecl, Input}
 use Rattle.rd_model.specs.Node.Fate.{NoStore}
 use Rattle.rd_model.specs.Step.{KeyGap, step, nack_to, gossip_to}
 use Rattle.rd_model.specs.World as worlds
-use Rattle.rd_model.specs.World.{Link, moved_on, happens, delivered, stepped_at, after_step}
+use Rattle.rd_model.specs.World.{turn_at, turn_of, moved_on, happens, after_step, IsRun}
 use Rattle.rd_model.specs.World.Event.{Delivery}
 use Rattle.rd_model.specs.Script as script
-use Rattle.rd_model.specs.Script.{Playing, IsRun, deliver}
+use Rattle.rd_model.specs.Script.{Playing, deliver}
+use Rattle.rd_model.proofs.Cases.{delivered, stepped_at}
 use Rattle.rd_runs.proofs.Keeping.{if_holds}
 use Rattle.rd_kinds.specs.declared.shown.Shown.{Shown}
 use Rattle.rd_lattice.specs.declared.replica.Replica.{Ghosts}
@@ -46,7 +47,7 @@ use Rattle.rd_world.proofs.Standings.{IsRunning, stands_after_links}
 use Rattle.rd_world.proofs.Steppings.{gives_step, world_after, member_after}
 use Rattle.rd_world.proofs.Moving.{links_moved}
 use Rattle.rd_world.proofs.Flushing.{told_alike, links_sent, still_linked}
-use Rattle.rd_world.proofs.Delivering.{IsSent, plain_message, running, handed, is_handed, is_head}
+use Rattle.rd_world.proofs.Delivering.{IsSent, plain_message, running, handed, receives, is_handed, is_head}
 
 -- TO WHOM A MEMBER ANSWERS
 
@@ -121,7 +122,7 @@ module _ {T Kind Op Delta : Type 0} (data_type : DataType Kind Op Shown) (kind_o
       (becomes : (node : nodes.Node Kind Op Shown) → StandsForNode kind_of IsDataOf kinds logs old node → AreTakenFrom logs (step D node input NoStore).node → StandsForNode kind_of IsDataOf kinds logs new (step D node input NoStore).node)
       (says : (node : nodes.Node Kind Op Shown) → StandsForNode kind_of IsDataOf kinds logs old node → AreTakenFrom logs (step D node input NoStore).node → meant reply ≡ (step D node input NoStore).output.reply)
       (sends : IsSentFrom (AreAnswers data_type digest kind_of IsDataOf old from message) to 2 code.links mid sent) (changes : ChangesOne (passed index) from to mid links)
-      (first : worlds.World Kind Op Shown) (run : IsRun D first (deliver D p from to index).events (deliver D p from to index).world) (through : Throughout D logs first (deliver D p from to index)) where
+      (started : ℕ) (decls : List (KeyDecl Kind)) (run : IsRun D started decls (deliver D p from to index).events (deliver D p from to index).world) (through : Throughout D logs started decls (deliver D p from to index)) where
     at_work : IsRunning kind_of IsDataOf kinds logs ghosts p.world to old
     at_work = running kind_of IsDataOf kinds logs ghosts D code p stands from to index within old is
 
@@ -137,6 +138,9 @@ module _ {T Kind Op Delta : Type 0} (data_type : DataType Kind Op Shown) (kind_o
     same_play : deliver D p from to index ≡ given
     same_play = is_handed kind_of IsDataOf kinds logs ghosts D code p stands from to index within old is message found
 
+    receives_it : turn_of p.world (Delivery from to index NoStore) ≡ turn_at p.world to input NoStore
+    receives_it = receives kind_of IsDataOf kinds logs ghosts D code p stands from to index within old is message found
+
     plain : IsPlain input
     plain = plain_message kind_of IsDataOf kinds logs message found.sent from found.stands_for
 
@@ -145,8 +149,8 @@ module _ {T Kind Op Delta : Type 0} (data_type : DataType Kind Op Shown) (kind_o
 
     taken : AreTakenFrom logs (step D at_work.node input NoStore).node
     taken =
-        member_after kind_of IsDataOf kinds logs ghosts D code.nodes.items code.links p stands.parts told_head (Delivery from to index) to input old at_work plain before happened room first
-        (subst (λ (q : Playing Kind Op Shown). IsRun D first q.events q.world) same_play run) (subst (Throughout D logs first) same_play through)
+        member_after kind_of IsDataOf kinds logs ghosts D code.nodes.items code.links p stands.parts told_head (Delivery from to index) to input receives_it old at_work plain before happened room started decls
+        (subst (λ (q : Playing Kind Op Shown). IsRun D started decls q.events q.world) same_play run) (subst (Throughout D logs started decls) same_play through)
 
     posts_stand : AllZip (StandsForPost kind_of IsDataOf kinds logs) sends.0 (step D at_work.node input NoStore).output.posts
     posts_stand = sends.1.0 kinds logs at_work.node found.sent at_work.member.stands through.prune_free found.stands_for taken
@@ -194,7 +198,7 @@ module _ {T Kind Op Delta : Type 0} (data_type : DataType Kind Op Shown) (kind_o
           parts = subst (λ those. StandsForParts kind_of IsDataOf kinds logs those after.links (deliver D p from to index).world) (sym changed)
               (subst (λ channels. StandsForParts kind_of IsDataOf kinds logs (set code.nodes.items to new) channels (deliver D p from to index).world) (sym same_links)
               (subst (λ w. StandsForParts kind_of IsDataOf kinds logs (set code.nodes.items to new) links w)
-              (sym (ap (λ (q : Playing Kind Op Shown). q.world) same_play ∙ world_after kind_of IsDataOf kinds logs ghosts D code.nodes.items code.links p stands.parts told_head (Delivery from to index) to input old at_work plain before happened room))
+              (sym (ap (λ (q : Playing Kind Op Shown). q.world) same_play ∙ world_after kind_of IsDataOf kinds logs ghosts D code.nodes.items code.links p stands.parts told_head (Delivery from to index) to input receives_it old at_work plain before happened room))
               (stands_after_links kind_of IsDataOf kinds logs ghosts code.nodes.items code.links p.world stands.parts to (moved_on p.world.links from to index) at_work.node next new links within
               (record { installed = (same_step D at_work.node input NoStore plain).view ∙ at_work.member.installed; stands = becomes at_work.node at_work.member.stands taken })
               (λ a b. still_linked kind_of IsDataOf kinds logs was links (moved_on p.world.links from to index) to n sends.0 next.output.posts posts_stand below went within linked passed_stand a b ∙ some_passed ((a == from) && (b == to)) (channel_at code.links a b))
@@ -205,7 +209,7 @@ module _ {T Kind Op Delta : Type 0} (data_type : DataType Kind Op Shown) (kind_o
     take_tells =
         let next = step D at_work.node input NoStore in (
           record { head = told_head; answer = script.Answer.Replied next.output.reply; posts = next.output.posts; ended = next.output.ended },
-          ap (λ (q : Playing Kind Op Shown). q.lines) (same_play ∙ gives_step kind_of IsDataOf kinds logs ghosts D code.nodes.items code.links p stands.parts told_head (Delivery from to index) to input old at_work plain room),
+          ap (λ (q : Playing Kind Op Shown). q.lines) (same_play ∙ gives_step kind_of IsDataOf kinds logs ghosts D code.nodes.items code.links p stands.parts told_head (Delivery from to index) to input receives_it old at_work plain room),
           record {
             head = is_head kind_of IsDataOf kinds logs ghosts D code p stands from to index within old is message found;
             answer = ap script.Answer.Replied (sym (says at_work.node at_work.member.stands taken));

@@ -10,7 +10,7 @@ use Rattle.rd_history.specs.History.{History}
 use Rattle.rd_model.specs.View.{View, first_view}
 use Rattle.rd_model.specs.Node as nodes
 use Rattle.rd_model.specs.World as worlds
-use Rattle.rd_model.specs.World.{Link, no_link}
+use Rattle.rd_model.specs.World.{Link, no_link, no_entries}
 use Rattle.rd_kinds.specs.declared.shown.Shown.{Shown}
 use Rattle.rd_lattice.specs.declared.replica.Replica.{Ghosts}
 use Rattle.rd_node.specs.declared.key.KeyDecl.{KeyDecl}
@@ -37,7 +37,7 @@ module _ {T Kind Op Delta : Type 0} (kind_of : T → Kind) (IsDataOf : T → His
 
   -- a member of a view, with these keys and no record
   abbrev pub IsNewMember : {ghosts : Ghosts T Kind Op Delta} → List (KeyDecl T Kind Op Delta) → View → Node T Kind Op Delta ghosts → ℕ → Type 0
-  IsNewMember keys view code id = StandsForNode kind_of IsDataOf kinds logs code (worlds.loaded_node (map declared keys) id view [])
+  IsNewMember keys view code id = StandsForNode kind_of IsDataOf kinds logs code (worlds.loaded_node (map declared keys) id view no_entries)
 
   -- a member runs exactly where there is one
   abbrev pub StandsForRunning : {ghosts : Ghosts T Kind Op Delta} → View → Option (Node T Kind Op Delta ghosts) → Option (nodes.Node Kind Op Shown) → Type 0

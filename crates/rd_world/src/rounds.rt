@@ -1,9 +1,10 @@
 ghost use Rattle.std.specs.Prelude.{◌≡◌, ℕ, List, ◌++◌, ◌∷◌, [], map, OnOk, OnErr, IfOk};
 ghost use Rattle.rd_history.specs.Texts.{Text as Name};
 ghost use Rattle.rd_history.specs.History.{History};
-ghost use Rattle.rd_model.specs.World.{World as Modelled};
+ghost use Rattle.rd_model.specs.Node.{KeyDecl as Declared};
+ghost use Rattle.rd_model.specs.World.{IsRun};
 ghost use Rattle.rd_model.specs.Script as script;
-ghost use Rattle.rd_model.specs.Script.{Playing, ScriptStep, IsRun, played};
+ghost use Rattle.rd_model.specs.Script.{Playing, ScriptStep, played};
 ghost use Rattle.rd_kinds.specs.declared.shown.Shown.{Shown};
 ghost use Rattle.rd_node.specs.Members.{spelled_groups};
 
@@ -30,16 +31,16 @@ impl<T: SpelledData> World<T> {
     /// Delivers all messages that are due when the round begins: by senders, then by receivers, each link's in their order.
     /// Where memory is refused, what was delivered stands.
     pub fn round(&mut self) -> Result<Events, Memory>
-        ensures stands { (kinds : Name → T.Kind) (logs : Name → History T.Op) (first : Modelled T.Kind T.Op Shown) (p : Playing T.Kind T.Op Shown)
+        ensures stands { (kinds : Name → T.Kind) (logs : Name → History T.Op) (members : ℕ) (decls : List (Declared T.Kind)) (p : Playing T.Kind T.Op Shown)
             → let D = spelled_groups T.data_type T.byte_of T.history_spelled in let q = played D p ScriptStep.Round in
-            IsRun D first p.events p.world → Throughout D logs first q → StandsForWorld T.kind_of T.IsDataOf kinds logs self.old p.world → OnOk result (StandsForWorld T.kind_of T.IsDataOf kinds logs self.new q.world) }
-        ensures told { (kinds : Name → T.Kind) (logs : Name → History T.Op) (first : Modelled T.Kind T.Op Shown) (p : Playing T.Kind T.Op Shown)
+            IsRun D members decls p.events p.world → Throughout D logs members decls q → StandsForWorld T.kind_of T.IsDataOf kinds logs self.old p.world → OnOk result (StandsForWorld T.kind_of T.IsDataOf kinds logs self.new q.world) }
+        ensures told { (kinds : Name → T.Kind) (logs : Name → History T.Op) (members : ℕ) (decls : List (Declared T.Kind)) (p : Playing T.Kind T.Op Shown)
             → let D = spelled_groups T.data_type T.byte_of T.history_spelled in let q = played D p ScriptStep.Round in
-            IsRun D first p.events p.world → Throughout D logs first q → StandsForWorld T.kind_of T.IsDataOf kinds logs self.old p.world → IfOk result (λ events. AreNextLines events p q) }
-        ensures err { (kinds : Name → T.Kind) (logs : Name → History T.Op) (first : Modelled T.Kind T.Op Shown) (p : Playing T.Kind T.Op Shown)
+            IsRun D members decls p.events p.world → Throughout D logs members decls q → StandsForWorld T.kind_of T.IsDataOf kinds logs self.old p.world → IfOk result (λ events. AreNextLines events p q) }
+        ensures err { (kinds : Name → T.Kind) (logs : Name → History T.Op) (members : ℕ) (decls : List (Declared T.Kind)) (p : Playing T.Kind T.Op Shown)
             → let D = spelled_groups T.data_type T.byte_of T.history_spelled in let q = played D p ScriptStep.Round in
-            IsRun D first p.events p.world → Throughout D logs first q → StandsForWorld T.kind_of T.IsDataOf kinds logs self.old p.world
-            → OnErr result ((r : Playing T.Kind T.Op Shown) × IsBetween D first p r q × StandsForWorld T.kind_of T.IsDataOf kinds logs self.new r.world) }
+            IsRun D members decls p.events p.world → Throughout D logs members decls q → StandsForWorld T.kind_of T.IsDataOf kinds logs self.old p.world
+            → OnErr result ((r : Playing T.Kind T.Op Shown) × IsBetween D members decls p r q × StandsForWorld T.kind_of T.IsDataOf kinds logs self.new r.world) }
     {
         let dues = self.dues()?;
         let mut events = Items::new(self.alloc);
@@ -85,16 +86,16 @@ impl<T: SpelledData> World<T> {
 
     /// Delivers what is due on a link, and adds the events.
     fn deliver_due(&mut self, due: Due, events: &mut Events) -> Result<(), Memory>
-        ensures stands { (kinds : Name → T.Kind) (logs : Name → History T.Op) (first : Modelled T.Kind T.Op Shown) (p : Playing T.Kind T.Op Shown)
+        ensures stands { (kinds : Name → T.Kind) (logs : Name → History T.Op) (members : ℕ) (decls : List (Declared T.Kind)) (p : Playing T.Kind T.Op Shown)
             → let D = spelled_groups T.data_type T.byte_of T.history_spelled in let q = script.deliver_due D p (meant_due due) in
-            IsRun D first p.events p.world → Throughout D logs first q → StandsForWorld T.kind_of T.IsDataOf kinds logs self.old p.world → OnOk result (StandsForWorld T.kind_of T.IsDataOf kinds logs self.new q.world) }
-        ensures told { (kinds : Name → T.Kind) (logs : Name → History T.Op) (first : Modelled T.Kind T.Op Shown) (start p : Playing T.Kind T.Op Shown)
+            IsRun D members decls p.events p.world → Throughout D logs members decls q → StandsForWorld T.kind_of T.IsDataOf kinds logs self.old p.world → OnOk result (StandsForWorld T.kind_of T.IsDataOf kinds logs self.new q.world) }
+        ensures told { (kinds : Name → T.Kind) (logs : Name → History T.Op) (members : ℕ) (decls : List (Declared T.Kind)) (start p : Playing T.Kind T.Op Shown)
             → let D = spelled_groups T.data_type T.byte_of T.history_spelled in let q = script.deliver_due D p (meant_due due) in
-            IsRun D first p.events p.world → Throughout D logs first q → StandsForWorld T.kind_of T.IsDataOf kinds logs self.old p.world → AreNextLines events.old start p → OnOk result (AreNextLines events.new start q) }
-        ensures err { (kinds : Name → T.Kind) (logs : Name → History T.Op) (first : Modelled T.Kind T.Op Shown) (p : Playing T.Kind T.Op Shown)
+            IsRun D members decls p.events p.world → Throughout D logs members decls q → StandsForWorld T.kind_of T.IsDataOf kinds logs self.old p.world → AreNextLines events.old start p → OnOk result (AreNextLines events.new start q) }
+        ensures err { (kinds : Name → T.Kind) (logs : Name → History T.Op) (members : ℕ) (decls : List (Declared T.Kind)) (p : Playing T.Kind T.Op Shown)
             → let D = spelled_groups T.data_type T.byte_of T.history_spelled in let q = script.deliver_due D p (meant_due due) in
-            IsRun D first p.events p.world → Throughout D logs first q → StandsForWorld T.kind_of T.IsDataOf kinds logs self.old p.world
-            → OnErr result ((r : Playing T.Kind T.Op Shown) × IsBetween D first p r q × StandsForWorld T.kind_of T.IsDataOf kinds logs self.new r.world) }
+            IsRun D members decls p.events p.world → Throughout D logs members decls q → StandsForWorld T.kind_of T.IsDataOf kinds logs self.old p.world
+            → OnErr result ((r : Playing T.Kind T.Op Shown) × IsBetween D members decls p r q × StandsForWorld T.kind_of T.IsDataOf kinds logs self.new r.world) }
     {
         for index in due.first..due.end {
             let event = self.deliver_at(due.from, due.to, index)?;

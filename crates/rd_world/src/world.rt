@@ -2,9 +2,9 @@ ghost use Rattle.std.specs.Prelude.{◌≡◌, ℕ, ◌≤◌, List, map, OnOk, 
 ghost use Rattle.rd_history.specs.Texts.{Text as Name};
 ghost use Rattle.rd_history.specs.History.{History, IsHistory};
 ghost use Rattle.rd_model.specs.Entry.{Entry};
-ghost use Rattle.rd_model.specs.Node.{Level};
-ghost use Rattle.rd_model.specs.World.{World as Modelled, start as at_start};
-ghost use Rattle.rd_model.specs.Script.{Playing, ScriptStep, IsRun, played, deliver};
+ghost use Rattle.rd_model.specs.Node.{Level, KeyDecl as Declared};
+ghost use Rattle.rd_model.specs.World.{start as at_start, IsRun};
+ghost use Rattle.rd_model.specs.Script.{Playing, ScriptStep, played, deliver};
 ghost use Rattle.rd_kinds.specs.declared.shown.Shown.{Shown};
 ghost use Rattle.rd_world.specs.Lines.{answer_of};
 ghost use Rattle.rd_world.specs.declared.event.Head.TheVariants as head;
@@ -62,12 +62,12 @@ impl<T: Replica> World<T> {
 
     /// Gives a member an operation on a key.
     pub fn update(&mut self, at: u8, key: &Text, op: &T::Op) -> Result<Event, Memory>
-        ensures stands { (digest : T.Kind → Entry T.Op → List ℕ) (kinds : Name → T.Kind) (logs : Name → History T.Op) (first : Modelled T.Kind T.Op Shown) (p : Playing T.Kind T.Op Shown)
+        ensures stands { (digest : T.Kind → Entry T.Op → List ℕ) (kinds : Name → T.Kind) (logs : Name → History T.Op) (members : ℕ) (decls : List (Declared T.Kind)) (p : Playing T.Kind T.Op Shown)
             → let D = delta_groups T.data_type digest in let q = played D p (ScriptStep.Update at key.now op.now Level.Local) in
-            IsRun D first p.events p.world → Throughout D logs first q → StandsForWorld T.kind_of T.IsDataOf kinds logs self.old p.world → OnOk result (StandsForWorld T.kind_of T.IsDataOf kinds logs self.new q.world) }
-        ensures told { (digest : T.Kind → Entry T.Op → List ℕ) (kinds : Name → T.Kind) (logs : Name → History T.Op) (first : Modelled T.Kind T.Op Shown) (p : Playing T.Kind T.Op Shown)
+            IsRun D members decls p.events p.world → Throughout D logs members decls q → StandsForWorld T.kind_of T.IsDataOf kinds logs self.old p.world → OnOk result (StandsForWorld T.kind_of T.IsDataOf kinds logs self.new q.world) }
+        ensures told { (digest : T.Kind → Entry T.Op → List ℕ) (kinds : Name → T.Kind) (logs : Name → History T.Op) (members : ℕ) (decls : List (Declared T.Kind)) (p : Playing T.Kind T.Op Shown)
             → let D = delta_groups T.data_type digest in let q = played D p (ScriptStep.Update at key.now op.now Level.Local) in
-            IsRun D first p.events p.world → Throughout D logs first q → StandsForWorld T.kind_of T.IsDataOf kinds logs self.old p.world → IfOk result (λ event. IsNextLine event p q) }
+            IsRun D members decls p.events p.world → Throughout D logs members decls q → StandsForWorld T.kind_of T.IsDataOf kinds logs self.old p.world → IfOk result (λ event. IsNextLine event p q) }
         ensures err { OnErr result (self.new ≡ self.old) }
     {
         let head = Head::Update {
@@ -84,12 +84,12 @@ impl<T: Replica> World<T> {
 
     /// Asks a member for the value of a key.
     pub fn get(&mut self, at: u8, key: &Text) -> Result<Event, Memory>
-        ensures stands { (digest : T.Kind → Entry T.Op → List ℕ) (kinds : Name → T.Kind) (logs : Name → History T.Op) (first : Modelled T.Kind T.Op Shown) (p : Playing T.Kind T.Op Shown)
+        ensures stands { (digest : T.Kind → Entry T.Op → List ℕ) (kinds : Name → T.Kind) (logs : Name → History T.Op) (members : ℕ) (decls : List (Declared T.Kind)) (p : Playing T.Kind T.Op Shown)
             → let D = delta_groups T.data_type digest in let q = played D p (ScriptStep.Get at key.now Level.Local) in
-            IsRun D first p.events p.world → Throughout D logs first q → StandsForWorld T.kind_of T.IsDataOf kinds logs self.old p.world → OnOk result (StandsForWorld T.kind_of T.IsDataOf kinds logs self.new q.world) }
-        ensures told { (digest : T.Kind → Entry T.Op → List ℕ) (kinds : Name → T.Kind) (logs : Name → History T.Op) (first : Modelled T.Kind T.Op Shown) (p : Playing T.Kind T.Op Shown)
+            IsRun D members decls p.events p.world → Throughout D logs members decls q → StandsForWorld T.kind_of T.IsDataOf kinds logs self.old p.world → OnOk result (StandsForWorld T.kind_of T.IsDataOf kinds logs self.new q.world) }
+        ensures told { (digest : T.Kind → Entry T.Op → List ℕ) (kinds : Name → T.Kind) (logs : Name → History T.Op) (members : ℕ) (decls : List (Declared T.Kind)) (p : Playing T.Kind T.Op Shown)
             → let D = delta_groups T.data_type digest in let q = played D p (ScriptStep.Get at key.now Level.Local) in
-            IsRun D first p.events p.world → Throughout D logs first q → StandsForWorld T.kind_of T.IsDataOf kinds logs self.old p.world → IfOk result (λ event. IsNextLine event p q) }
+            IsRun D members decls p.events p.world → Throughout D logs members decls q → StandsForWorld T.kind_of T.IsDataOf kinds logs self.old p.world → IfOk result (λ event. IsNextLine event p q) }
         ensures err { OnErr result (self.new ≡ self.old) }
     {
         let head = Head::Get {
@@ -125,12 +125,12 @@ impl<T: Replica> World<T> {
 
     /// Makes a member send what it has not sent yet. Each message goes to the end of its link.
     pub fn flush(&mut self, at: u8) -> Result<Event, Memory>
-        ensures stands { (digest : T.Kind → Entry T.Op → List ℕ) (kinds : Name → T.Kind) (logs : Name → History T.Op) (first : Modelled T.Kind T.Op Shown) (p : Playing T.Kind T.Op Shown)
+        ensures stands { (digest : T.Kind → Entry T.Op → List ℕ) (kinds : Name → T.Kind) (logs : Name → History T.Op) (members : ℕ) (decls : List (Declared T.Kind)) (p : Playing T.Kind T.Op Shown)
             → let D = delta_groups T.data_type digest in let q = played D p (ScriptStep.Flush at) in
-            IsRun D first p.events p.world → Throughout D logs first q → StandsForWorld T.kind_of T.IsDataOf kinds logs self.old p.world → OnOk result (StandsForWorld T.kind_of T.IsDataOf kinds logs self.new q.world) }
-        ensures told { (digest : T.Kind → Entry T.Op → List ℕ) (kinds : Name → T.Kind) (logs : Name → History T.Op) (first : Modelled T.Kind T.Op Shown) (p : Playing T.Kind T.Op Shown)
+            IsRun D members decls p.events p.world → Throughout D logs members decls q → StandsForWorld T.kind_of T.IsDataOf kinds logs self.old p.world → OnOk result (StandsForWorld T.kind_of T.IsDataOf kinds logs self.new q.world) }
+        ensures told { (digest : T.Kind → Entry T.Op → List ℕ) (kinds : Name → T.Kind) (logs : Name → History T.Op) (members : ℕ) (decls : List (Declared T.Kind)) (p : Playing T.Kind T.Op Shown)
             → let D = delta_groups T.data_type digest in let q = played D p (ScriptStep.Flush at) in
-            IsRun D first p.events p.world → Throughout D logs first q → StandsForWorld T.kind_of T.IsDataOf kinds logs self.old p.world → IfOk result (λ event. IsNextLine event p q) }
+            IsRun D members decls p.events p.world → Throughout D logs members decls q → StandsForWorld T.kind_of T.IsDataOf kinds logs self.old p.world → IfOk result (λ event. IsNextLine event p q) }
         ensures err { OnErr result (self.new ≡ self.old) }
     {
         let head = Head::Flush { at };
@@ -163,12 +163,12 @@ impl<T: SpelledData> World<T> {
 
     /// Makes a member tell another the digests of its entries. The message goes to the end of its link.
     pub fn gossip(&mut self, at: u8, to: Id) -> Result<Event, Memory>
-        ensures stands { (kinds : Name → T.Kind) (logs : Name → History T.Op) (first : Modelled T.Kind T.Op Shown) (p : Playing T.Kind T.Op Shown)
+        ensures stands { (kinds : Name → T.Kind) (logs : Name → History T.Op) (members : ℕ) (decls : List (Declared T.Kind)) (p : Playing T.Kind T.Op Shown)
             → let D = spelled_groups T.data_type T.byte_of T.history_spelled in let q = played D p (ScriptStep.Gossip at to) in
-            IsRun D first p.events p.world → Throughout D logs first q → StandsForWorld T.kind_of T.IsDataOf kinds logs self.old p.world → OnOk result (StandsForWorld T.kind_of T.IsDataOf kinds logs self.new q.world) }
-        ensures told { (kinds : Name → T.Kind) (logs : Name → History T.Op) (first : Modelled T.Kind T.Op Shown) (p : Playing T.Kind T.Op Shown)
+            IsRun D members decls p.events p.world → Throughout D logs members decls q → StandsForWorld T.kind_of T.IsDataOf kinds logs self.old p.world → OnOk result (StandsForWorld T.kind_of T.IsDataOf kinds logs self.new q.world) }
+        ensures told { (kinds : Name → T.Kind) (logs : Name → History T.Op) (members : ℕ) (decls : List (Declared T.Kind)) (p : Playing T.Kind T.Op Shown)
             → let D = spelled_groups T.data_type T.byte_of T.history_spelled in let q = played D p (ScriptStep.Gossip at to) in
-            IsRun D first p.events p.world → Throughout D logs first q → StandsForWorld T.kind_of T.IsDataOf kinds logs self.old p.world → IfOk result (λ event. IsNextLine event p q) }
+            IsRun D members decls p.events p.world → Throughout D logs members decls q → StandsForWorld T.kind_of T.IsDataOf kinds logs self.old p.world → IfOk result (λ event. IsNextLine event p q) }
         ensures err { OnErr result (self.new ≡ self.old) }
     {
         let head = Head::Gossip {
@@ -196,12 +196,12 @@ impl<T: SpelledData> World<T> {
     /// Hands a message to its receiver: the one of this number, or the next one due. A message may be handed over any
     /// number of times.
     pub fn deliver(&mut self, from: u8, to: u8, index: Option<u32>) -> Result<Event, Memory>
-        ensures stands { (kinds : Name → T.Kind) (logs : Name → History T.Op) (first : Modelled T.Kind T.Op Shown) (p : Playing T.Kind T.Op Shown)
+        ensures stands { (kinds : Name → T.Kind) (logs : Name → History T.Op) (members : ℕ) (decls : List (Declared T.Kind)) (p : Playing T.Kind T.Op Shown)
             → let D = spelled_groups T.data_type T.byte_of T.history_spelled in let q = played D p (ScriptStep.Deliver from to index) in
-            IsRun D first p.events p.world → Throughout D logs first q → StandsForWorld T.kind_of T.IsDataOf kinds logs self.old p.world → OnOk result (StandsForWorld T.kind_of T.IsDataOf kinds logs self.new q.world) }
-        ensures told { (kinds : Name → T.Kind) (logs : Name → History T.Op) (first : Modelled T.Kind T.Op Shown) (p : Playing T.Kind T.Op Shown)
+            IsRun D members decls p.events p.world → Throughout D logs members decls q → StandsForWorld T.kind_of T.IsDataOf kinds logs self.old p.world → OnOk result (StandsForWorld T.kind_of T.IsDataOf kinds logs self.new q.world) }
+        ensures told { (kinds : Name → T.Kind) (logs : Name → History T.Op) (members : ℕ) (decls : List (Declared T.Kind)) (p : Playing T.Kind T.Op Shown)
             → let D = spelled_groups T.data_type T.byte_of T.history_spelled in let q = played D p (ScriptStep.Deliver from to index) in
-            IsRun D first p.events p.world → Throughout D logs first q → StandsForWorld T.kind_of T.IsDataOf kinds logs self.old p.world → IfOk result (λ event. IsNextLine event p q) }
+            IsRun D members decls p.events p.world → Throughout D logs members decls q → StandsForWorld T.kind_of T.IsDataOf kinds logs self.old p.world → IfOk result (λ event. IsNextLine event p q) }
         ensures err { OnErr result (self.new ≡ self.old) }
     {
         let index = match index {
@@ -213,12 +213,12 @@ impl<T: SpelledData> World<T> {
 
     /// Hands the message of this number to its receiver.
     pub(crate) fn deliver_at(&mut self, from: u8, to: u8, index: usize) -> Result<Event, Memory>
-        ensures stands { (kinds : Name → T.Kind) (logs : Name → History T.Op) (first : Modelled T.Kind T.Op Shown) (p : Playing T.Kind T.Op Shown)
+        ensures stands { (kinds : Name → T.Kind) (logs : Name → History T.Op) (members : ℕ) (decls : List (Declared T.Kind)) (p : Playing T.Kind T.Op Shown)
             → let D = spelled_groups T.data_type T.byte_of T.history_spelled in let q = deliver D p from to index in
-            IsRun D first p.events p.world → Throughout D logs first q → StandsForWorld T.kind_of T.IsDataOf kinds logs self.old p.world → OnOk result (StandsForWorld T.kind_of T.IsDataOf kinds logs self.new q.world) }
-        ensures told { (kinds : Name → T.Kind) (logs : Name → History T.Op) (first : Modelled T.Kind T.Op Shown) (p : Playing T.Kind T.Op Shown)
+            IsRun D members decls p.events p.world → Throughout D logs members decls q → StandsForWorld T.kind_of T.IsDataOf kinds logs self.old p.world → OnOk result (StandsForWorld T.kind_of T.IsDataOf kinds logs self.new q.world) }
+        ensures told { (kinds : Name → T.Kind) (logs : Name → History T.Op) (members : ℕ) (decls : List (Declared T.Kind)) (p : Playing T.Kind T.Op Shown)
             → let D = spelled_groups T.data_type T.byte_of T.history_spelled in let q = deliver D p from to index in
-            IsRun D first p.events p.world → Throughout D logs first q → StandsForWorld T.kind_of T.IsDataOf kinds logs self.old p.world → IfOk result (λ event. IsNextLine event p q) }
+            IsRun D members decls p.events p.world → Throughout D logs members decls q → StandsForWorld T.kind_of T.IsDataOf kinds logs self.old p.world → IfOk result (λ event. IsNextLine event p q) }
         ensures err { OnErr result (self.new ≡ self.old) }
     {
         let receiver = usize::from(to);

@@ -2,8 +2,7 @@ use Rattle.std.proofs.Common.{◌≡◌, ◌++◌, ◌∷◌, [], sym, ap, ◌�
 use Rattle.std.specs.Prelude.{◌&&◌}
 use Rattle.std.specs.List.{AllZip}
 use Rattle.rd_model.specs.Entry.{has_records}
-use Rattle.rd_model.specs.Node.{state_of}
-use Rattle.rd_model.specs.Step.{keyed_entry}
+use Rattle.rd_model.specs.Node.{state_of, keyed_entry}
 use Rattle.rd_messages.specs.declared.message.Keyed.{Keyed}
 use Rattle.rd_envelope.specs.declared.envelope.Envelope.{Envelope}
 use Rattle.rd_messages.specs.Standing.{StandsForKeyed}
@@ -35,8 +34,8 @@ loop-index-preserved g c = λ digest kinds logs id view before node held kept wo
           let keyed : Keyed (Envelope g.row.T.Denot g.row.T-Kind.Denot g.row.T-Op.Denot g.row.T-Delta.Denot) = record { key = w.in_ok-key.key; item = w.in_ok-item.item } in
           let here = keyed_now R.kind_of R.IsDataOf kinds logs id keys view before held c.args.changes.now kept node work i state change c.loop-index-test.true c.index-keys-index.is c.index-changes-index.is mine c.current-now.ensures keyed w.in_ok-key.ensures w.in_ok-item.ensures in
           subst (λ ys. AllZip S c.if-contains.entries ys) (sym (ap (named_of D node names) more ∙ named_one D node names (take i keys) state asked))
-          (subst (λ xs. AllZip S xs (named_of D node names (take i keys) ++ keyed_entry D (state_of node (declared_by state)) ∷ [])) (sym (w.entries-is ∙ w.in_ok-push.ensures.ok))
-          (zip_push S c.loop-index.entries (named_of D node names (take i keys)) keyed (keyed_entry D (state_of node (declared_by state))) so_far here))
+          (subst (λ xs. AllZip S xs (named_of D node names (take i keys) ++ keyed_entry (state_of node (declared_by state)) ∷ [])) (sym (w.entries-is ∙ w.in_ok-push.ensures.ok))
+          (zip_push S c.loop-index.entries (named_of D node names (take i keys)) keyed (keyed_entry (state_of node (declared_by state))) so_far here))
       | else-contains w ↦
           let unasked : is_asked D names (state_of node (declared_by state)) ≡ false =
           elim w.else-contains.branch [

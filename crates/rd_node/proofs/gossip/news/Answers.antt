@@ -1,9 +1,8 @@
 use Rattle.std.proofs.Common.{◌++◌, ◌∷◌, [], sym, ap, ◌∙◌, subst, arith, take, take_all}
 use Rattle.std.specs.Prelude.{map}
 use Rattle.std.specs.List.{AllZip}
-use Rattle.rd_model.specs.Node.{state_of}
+use Rattle.rd_model.specs.Node.{state_of, keyed_entry}
 use Rattle.rd_model.specs.Node as nodes
-use Rattle.rd_model.specs.Step.{keyed_entry}
 use Rattle.rd_envelope.specs.declared.envelope.Envelope.{Envelope}
 use Rattle.rd_messages.specs.declared.message.Keyed.{Keyed}
 use Rattle.rd_messages.specs.Standing.{digest_told, StandsForKeyed}
@@ -31,12 +30,12 @@ loop-state-preserved g c = record {
       elim c.if-comparison.branch [
         | then-comparison+in_ok-key+in_ok-item+in_ok-push w ↦
             let keyed : Keyed (Envelope g.row.T.Denot g.row.T-Kind.Denot g.row.T-Op.Denot g.row.T-Delta.Denot) = record { key = w.in_ok-key.key; item = w.in_ok-item.item } in
-            subst (λ ys. AllZip S c.if-comparison.entries ys) (sym (more ∙ chosen_one (λ state. state_of node (declared_by state)) (is_news D ds) (keyed_entry D) (take i keys) state (sym compared.news ∙ w.if-comparison.true)))
-            (subst (λ xs. AllZip S xs (news_of D ds (map (λ state. state_of node (declared_by state)) (take i keys)) ++ keyed_entry D (state_of node (declared_by state)) ∷ [])) (sym (w.entries-is ∙ w.in_ok-push.ensures.ok))
-            (zip_push S c.loop-state.entries (news_of D ds (map (λ state. state_of node (declared_by state)) (take i keys))) keyed (keyed_entry D (state_of node (declared_by state))) so_far
+            subst (λ ys. AllZip S c.if-comparison.entries ys) (sym (more ∙ chosen_one (λ state. state_of node (declared_by state)) (is_news D ds) keyed_entry (take i keys) state (sym compared.news ∙ w.if-comparison.true)))
+            (subst (λ xs. AllZip S xs (news_of D ds (map (λ state. state_of node (declared_by state)) (take i keys)) ++ keyed_entry (state_of node (declared_by state)) ∷ [])) (sym (w.entries-is ∙ w.in_ok-push.ensures.ok))
+            (zip_push S c.loop-state.entries (news_of D ds (map (λ state. state_of node (declared_by state)) (take i keys))) keyed (keyed_entry (state_of node (declared_by state))) so_far
             (keyed_of R.kind_of R.IsDataOf kinds logs node state w.in_ok-key.key w.in_ok-item.item here w.in_ok-key.ensures w.in_ok-item.ensures)))
         | else-comparison w ↦
-            subst (λ ys. AllZip S c.if-comparison.entries ys) (sym (more ∙ chosen_none (λ state. state_of node (declared_by state)) (is_news D ds) (keyed_entry D) (take i keys) state (sym compared.news ∙ w.if-comparison.false)))
+            subst (λ ys. AllZip S c.if-comparison.entries ys) (sym (more ∙ chosen_none (λ state. state_of node (declared_by state)) (is_news D ds) keyed_entry (take i keys) state (sym compared.news ∙ w.if-comparison.false)))
             (subst (λ xs. AllZip S xs (news_of D ds (map (λ state. state_of node (declared_by state)) (take i keys)))) (sym w.entries-is) so_far)
       ];
   wants = λ D kinds logs node same holds.

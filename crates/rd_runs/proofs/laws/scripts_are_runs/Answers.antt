@@ -1,8 +1,6 @@
-use Rattle.std.proofs.Common.{refl, []}
-use Rattle.rd_model.specs.World.{start}
-use Rattle.rd_runs.proofs.Playing.{played_is_run}
+use Rattle.rd_model.specs.Script.{opening}
+use Rattle.rd_runs.proofs.Playing.{no_events, played_is_run}
 use Rattle.rd_runs.proofs.laws.scripts_are_runs.Goals as goal
 
 pub returns : goal.returns
-returns g c = λ D members keys keepers steps ok.
-    played_is_run D (start members keys) (record { world = start members keys; keepers = keepers; events = []; lines = [] }) steps ok (record { leads = refl; lawful = tt })
+returns g c = λ D members keys answers steps some few ok. played_is_run D members keys (opening answers members keys) steps ok (no_events D members keys answers some few)

@@ -5,7 +5,7 @@ use Rattle.rd_history.specs.Vector.{VersionVector}
 use Rattle.rd_model.specs.Node.{one_step_later}
 use Rattle.rd_model.specs.Node.Fate.{NoStore}
 use Rattle.rd_model.specs.Node.Reply.{NotFromMember}
-use Rattle.rd_model.specs.Step.{taken, answered}
+use Rattle.rd_model.specs.Step.{step_of_take, answered}
 use Rattle.rd_model.proofs.Taking.{step-take-stranger}
 use Rattle.rd_messages.specs.Standing.{StandsForPosts}
 use Rattle.rd_node.specs.declared.change.Change.TheVariants.{Same}
@@ -76,10 +76,10 @@ returns-clause-stands g c = λ kinds logs node sent s free stands given.
     let code = c.args.self.now in
     let changes = c.in_ok-taken.taken.changes.items in
     let member = member_is R.kind_of R.IsDataOf kinds logs code node s c.args.from ∙ sym c.has_member.ensures ∙ c.if-not-has_member.false in
-    let same = ap (λ b. if b then taken D (one_step_later node) c.args.from NoStore sent else answered (one_step_later node) NotFromMember) member in
+    let same = ap (λ b. if b then step_of_take D (one_step_later node) c.args.from NoStore sent else answered (one_step_later node) NotFromMember) member in
     let held = subst (λ keys. AreHeld R.kind_of R.IsDataOf kinds logs code.id keys node.entries) (sym c.deref.ensures.value) (held_first R.kind_of R.IsDataOf kinds logs code node s) in
     let t = c.in_ok-taken.ensures.image kinds logs (one_step_later node) sent free held s.identity s.view (s.keys ∙ ap (map declared_by) (sym c.deref.ensures.value)) stands in
-    let next = (taken D (one_step_later node) c.args.from NoStore sent).node in
+    let next = (step_of_take D (one_step_later node) c.args.from NoStore sent).node in
     let after = written_back code.keys c.as_mut_slice.result.now c.write_all.new.keys changes c.as_mut_slice.ensures.value c.write_all.ensures in
     let kept = subst (λ keys. AreMade (IsKept R.kind_of code.id) keys changes) c.deref.ensures.value c.in_ok-taken.ensures.kept in
     let leads = subst (λ keys. AreMade (LeadsTo R.IsDataOf logs node.entries next.entries) keys changes) c.deref.ensures.value t.leads in
@@ -96,7 +96,7 @@ returns-clause-reply g c = λ kinds logs node sent s free stands given.
     let code = c.args.self.now in
     let changes = c.in_ok-taken.taken.changes.items in
     let member = member_is R.kind_of R.IsDataOf kinds logs code node s c.args.from ∙ sym c.has_member.ensures ∙ c.if-not-has_member.false in
-    let same = ap (λ b. if b then taken D (one_step_later node) c.args.from NoStore sent else answered (one_step_later node) NotFromMember) member in
+    let same = ap (λ b. if b then step_of_take D (one_step_later node) c.args.from NoStore sent else answered (one_step_later node) NotFromMember) member in
     let held = subst (λ keys. AreHeld R.kind_of R.IsDataOf kinds logs code.id keys node.entries) (sym c.deref.ensures.value) (held_first R.kind_of R.IsDataOf kinds logs code node s) in
     let t = c.in_ok-taken.ensures.image kinds logs (one_step_later node) sent free held s.identity s.view (s.keys ∙ ap (map declared_by) (sym c.deref.ensures.value)) stands in
     t.reply ∙ sym (ap (λ stepped. stepped.output.reply) same)
@@ -108,7 +108,7 @@ returns-clause-posts g c = λ kinds logs node sent s free stands given.
     let code = c.args.self.now in
     let changes = c.in_ok-taken.taken.changes.items in
     let member = member_is R.kind_of R.IsDataOf kinds logs code node s c.args.from ∙ sym c.has_member.ensures ∙ c.if-not-has_member.false in
-    let same = ap (λ b. if b then taken D (one_step_later node) c.args.from NoStore sent else answered (one_step_later node) NotFromMember) member in
+    let same = ap (λ b. if b then step_of_take D (one_step_later node) c.args.from NoStore sent else answered (one_step_later node) NotFromMember) member in
     let held = subst (λ keys. AreHeld R.kind_of R.IsDataOf kinds logs code.id keys node.entries) (sym c.deref.ensures.value) (held_first R.kind_of R.IsDataOf kinds logs code node s) in
     let t = c.in_ok-taken.ensures.image kinds logs (one_step_later node) sent free held s.identity s.view (s.keys ∙ ap (map declared_by) (sym c.deref.ensures.value)) stands in
     subst (StandsForPosts {ghosts = R} R.kind_of R.IsDataOf kinds logs c.in_ok-taken.taken.output.posts) (sym (ap (λ stepped. stepped.output.posts) same)) t.posts

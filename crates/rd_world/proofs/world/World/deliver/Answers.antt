@@ -13,7 +13,7 @@ use Rattle.rd_world.proofs.world.World.deliver.Goals as goal
 use Rattle.rd_world.proofs.world.World.deliver.Goals.{in-Some, in-None}
 
 pub returns-clause-stands : goal.returns-clause-stands
-returns-clause-stands g c = λ kinds logs first p run through stands.
+returns-clause-stands g c = λ kinds logs members decls p run through stands.
     let digest = entry_digest g.T.SpelledData.byte_of g.T.SpelledData.history_spelled in
     let D = delta_groups g.T.Replica.data_type digest in
     let code = c.args.self.now in
@@ -23,10 +23,10 @@ returns-clause-stands g c = λ kinds logs first p run through stands.
       | in-None w ↦ index_due g.T.Replica.kind_of g.T.Replica.IsDataOf kinds logs g.T.Replica D code p stands c.args.from c.args.to c.match-index.index c.args.index c.match-index.index w.in-None.is (w.index-is ∙ w.next-index.ensures)
     ] in
     subst (λ (q : Playing g.row.T-Kind.Denot g.row.T-Op.Denot Shown). OnOk c.deliver_at.result (StandsForWorld g.T.Replica.kind_of g.T.Replica.IsDataOf kinds logs c.deliver_at.new.self q.world)) (sym same)
-    (c.deliver_at.ensures.stands kinds logs first p run (subst (Throughout D logs first) same through) stands)
+    (c.deliver_at.ensures.stands kinds logs members decls p run (subst (Throughout D logs members decls) same through) stands)
 
 pub returns-clause-told : goal.returns-clause-told
-returns-clause-told g c = λ kinds logs first p run through stands.
+returns-clause-told g c = λ kinds logs members decls p run through stands.
     let digest = entry_digest g.T.SpelledData.byte_of g.T.SpelledData.history_spelled in
     let D = delta_groups g.T.Replica.data_type digest in
     let code = c.args.self.now in
@@ -36,4 +36,4 @@ returns-clause-told g c = λ kinds logs first p run through stands.
       | in-None w ↦ index_due g.T.Replica.kind_of g.T.Replica.IsDataOf kinds logs g.T.Replica D code p stands c.args.from c.args.to c.match-index.index c.args.index c.match-index.index w.in-None.is (w.index-is ∙ w.next-index.ensures)
     ] in
     subst (λ (q : Playing g.row.T-Kind.Denot g.row.T-Op.Denot Shown). IfOk c.deliver_at.result (λ event. IsNextLine event p q)) (sym same)
-    (c.deliver_at.ensures.told kinds logs first p run (subst (Throughout D logs first) same through) stands)
+    (c.deliver_at.ensures.told kinds logs members decls p run (subst (Throughout D logs members decls) same through) stands)

@@ -22,7 +22,7 @@ use Rattle.rd_world.proofs.Delivering.{sent_within, undelivered_gone, undelivere
 use Rattle.rd_world.proofs.world.World.deliver_at.Goals as goal
 
 pub returns-then-receiver-len-clause-stands : goal.returns-then-receiver-len-clause-stands
-returns-then-receiver-len-clause-stands g c = λ kinds logs first p run through stands.
+returns-then-receiver-len-clause-stands g c = λ kinds logs members decls p run through stands.
     let digest = entry_digest g.T.SpelledData.byte_of g.T.SpelledData.history_spelled in
     let D = delta_groups g.T.Replica.data_type digest in
     let nodes = c.args.self.now.nodes in
@@ -30,7 +30,7 @@ returns-then-receiver-len-clause-stands g c = λ kinds logs first p run through 
     (undelivered_gone g.T.Replica.kind_of g.T.Replica.IsDataOf kinds logs g.T.Replica D c.args.self.now p stands c.args.from c.args.to c.args.index (omega (arith, nodes.ok.0)))
 
 pub returns-then-receiver-len-clause-told : goal.returns-then-receiver-len-clause-told
-returns-then-receiver-len-clause-told g c = λ kinds logs first p run through stands.
+returns-then-receiver-len-clause-told g c = λ kinds logs members decls p run through stands.
     let digest = entry_digest g.T.SpelledData.byte_of g.T.SpelledData.history_spelled in
     let D = delta_groups g.T.Replica.data_type digest in
     let nodes = c.args.self.now.nodes in
@@ -40,7 +40,7 @@ returns-then-receiver-len-clause-told g c = λ kinds logs first p run through st
     (undelivered_gone g.T.Replica.kind_of g.T.Replica.IsDataOf kinds logs g.T.Replica D c.args.self.now p stands c.args.from c.args.to c.args.index (omega (arith, nodes.ok.0))) refl)
 
 pub returns-in_default-message-clause-stands : goal.returns-in_default-message-clause-stands
-returns-in_default-message-clause-stands g c = λ kinds logs first p run through stands.
+returns-in_default-message-clause-stands g c = λ kinds logs members decls p run through stands.
     let digest = entry_digest g.T.SpelledData.byte_of g.T.SpelledData.history_spelled in
     let D = delta_groups g.T.Replica.data_type digest in
     let nodes = c.args.self.now.nodes in
@@ -49,7 +49,7 @@ returns-in_default-message-clause-stands g c = λ kinds logs first p run through
     (undelivered_none g.T.Replica.kind_of g.T.Replica.IsDataOf kinds logs g.T.Replica D c.args.self.now p stands c.args.from c.args.to c.args.index (omega (arith, nodes.ok.0)) (sym c.message.ensures ∙ ap option_copied c.in_default-message.is))
 
 pub returns-in_default-message-clause-told : goal.returns-in_default-message-clause-told
-returns-in_default-message-clause-told g c = λ kinds logs first p run through stands.
+returns-in_default-message-clause-told g c = λ kinds logs members decls p run through stands.
     let digest = entry_digest g.T.SpelledData.byte_of g.T.SpelledData.history_spelled in
     let D = delta_groups g.T.Replica.data_type digest in
     let nodes = c.args.self.now.nodes in
@@ -66,7 +66,7 @@ pass-requires g c =
     (λ posts are. are.1) c.in-Ok.ensures.sends c.in-Ok.ensures.gone found
 
 pub returns-in-Ok-clause-stands : goal.returns-in-Ok-clause-stands
-returns-in-Ok-clause-stands g c = λ kinds logs first p run through stands.
+returns-in-Ok-clause-stands g c = λ kinds logs members decls p run through stands.
     let digest = entry_digest g.T.SpelledData.byte_of g.T.SpelledData.history_spelled in
     let D = delta_groups g.T.Replica.data_type digest in
     let code = c.args.self.now in
@@ -86,7 +86,7 @@ returns-in-Ok-clause-stands g c = λ kinds logs first p run through stands.
     let copied = c.in_ok-message.ensures in
     let given = subst (λ m. StandsForMessage g.T.Replica.kind_of g.T.Replica.IsDataOf kinds logs m found.sent) (sym copied) found.stands_for in
     let member = c.in-Some.ensures.value in
-    let run_then = played_is_run D first p (ScriptStep.Deliver from to (Some index) ∷ []) (tt, tt) run in
+    let run_then = played_is_run D members decls p (ScriptStep.Deliver from to (Some index) ∷ []) (tt, tt) run in
     take_stands g.T.Replica.data_type g.T.Replica.kind_of g.T.Replica.IsDataOf g.T.Replica digest kinds logs code p stands from to index within old is message found (sent_within _ index message sent) new c.take.new.links c.pass.new.self c.in-Ok.answered.reply c.in-Ok.answered.sent (c.in-Ok.ensures.room row)
     (subst (λ i. (node : Member g.row.T-Kind.Denot g.row.T-Op.Denot Shown) → StandsForNode g.T.Replica.kind_of g.T.Replica.IsDataOf kinds logs old node → AreTakenFrom logs (step D node (Input.Take i found.sent) NoStore).node → StandsForNode g.T.Replica.kind_of g.T.Replica.IsDataOf kinds logs new (step D node (Input.Take i found.sent) NoStore).node) member
     (λ node st. c.in-Ok.ensures.stands kinds logs node found.sent row st through.prune_free given))
@@ -94,10 +94,10 @@ returns-in-Ok-clause-stands g c = λ kinds logs first p run through stands.
     (λ node st. c.in-Ok.ensures.reply kinds logs node found.sent row st through.prune_free given))
     (subst (λ i. IsSentFrom (AreAnswers g.T.Replica.data_type (entry_digest g.T.SpelledData.byte_of g.T.SpelledData.history_spelled) g.T.Replica.kind_of g.T.Replica.IsDataOf old i message) to 2 code.links c.take.new.links c.in-Ok.answered.sent) member
     (subst (λ m. IsSentFrom (AreAnswers g.T.Replica.data_type (entry_digest g.T.SpelledData.byte_of g.T.SpelledData.history_spelled) g.T.Replica.kind_of g.T.Replica.IsDataOf old c.in-Some.sender m) to 2 code.links c.take.new.links c.in-Ok.answered.sent) copied (c.in-Ok.ensures.sends row)))
-    c.pass.ensures first run_then through _ refl (ap (λ j. set nodes.items j new) here) refl
+    c.pass.ensures members decls run_then through _ refl (ap (λ j. set nodes.items j new) here) refl
 
 pub returns-in-Ok-clause-told : goal.returns-in-Ok-clause-told
-returns-in-Ok-clause-told g c = λ kinds logs first p run through stands.
+returns-in-Ok-clause-told g c = λ kinds logs members decls p run through stands.
     let digest = entry_digest g.T.SpelledData.byte_of g.T.SpelledData.history_spelled in
     let D = delta_groups g.T.Replica.data_type digest in
     let code = c.args.self.now in
@@ -117,7 +117,7 @@ returns-in-Ok-clause-told g c = λ kinds logs first p run through stands.
     let copied = c.in_ok-message.ensures in
     let given = subst (λ m. StandsForMessage g.T.Replica.kind_of g.T.Replica.IsDataOf kinds logs m found.sent) (sym copied) found.stands_for in
     let member = c.in-Some.ensures.value in
-    let run_then = played_is_run D first p (ScriptStep.Deliver from to (Some index) ∷ []) (tt, tt) run in
+    let run_then = played_is_run D members decls p (ScriptStep.Deliver from to (Some index) ∷ []) (tt, tt) run in
     subst (λ (event : Event). IsNextLine event p (deliver D p from to index)) (ap (λ sketch. record { head = head.Deliver from to index (Some sketch); answer = answer.Reply c.in-Ok.answered.reply; sent = c.in-Ok.answered.sent }) (sym c.sketch.ensures))
     (take_tells g.T.Replica.data_type g.T.Replica.kind_of g.T.Replica.IsDataOf g.T.Replica digest kinds logs code p stands from to index within old is message found (sent_within _ index message sent) new c.take.new.links c.pass.new.self c.in-Ok.answered.reply c.in-Ok.answered.sent (c.in-Ok.ensures.room row)
     (subst (λ i. (node : Member g.row.T-Kind.Denot g.row.T-Op.Denot Shown) → StandsForNode g.T.Replica.kind_of g.T.Replica.IsDataOf kinds logs old node → AreTakenFrom logs (step D node (Input.Take i found.sent) NoStore).node → StandsForNode g.T.Replica.kind_of g.T.Replica.IsDataOf kinds logs new (step D node (Input.Take i found.sent) NoStore).node) member
@@ -126,10 +126,10 @@ returns-in-Ok-clause-told g c = λ kinds logs first p run through stands.
     (λ node st. c.in-Ok.ensures.reply kinds logs node found.sent row st through.prune_free given))
     (subst (λ i. IsSentFrom (AreAnswers g.T.Replica.data_type (entry_digest g.T.SpelledData.byte_of g.T.SpelledData.history_spelled) g.T.Replica.kind_of g.T.Replica.IsDataOf old i message) to 2 code.links c.take.new.links c.in-Ok.answered.sent) member
     (subst (λ m. IsSentFrom (AreAnswers g.T.Replica.data_type (entry_digest g.T.SpelledData.byte_of g.T.SpelledData.history_spelled) g.T.Replica.kind_of g.T.Replica.IsDataOf old c.in-Some.sender m) to 2 code.links c.take.new.links c.in-Ok.answered.sent) copied (c.in-Ok.ensures.sends row)))
-    c.pass.ensures first run_then through)
+    c.pass.ensures members decls run_then through)
 
 pub returns-in-Err-HistoryFull-clause-stands : goal.returns-in-Err-HistoryFull-clause-stands
-returns-in-Err-HistoryFull-clause-stands g c = λ kinds logs first p run through stands.
+returns-in-Err-HistoryFull-clause-stands g c = λ kinds logs members decls p run through stands.
     let digest = entry_digest g.T.SpelledData.byte_of g.T.SpelledData.history_spelled in
     let D = delta_groups g.T.Replica.data_type digest in
     let code = c.args.self.now in
@@ -150,7 +150,7 @@ returns-in-Err-HistoryFull-clause-stands g c = λ kinds logs first p run through
     (full_stands g.T.Replica.kind_of g.T.Replica.IsDataOf kinds logs g.T.Replica D code p stands from to index within old is message found (c.in-Err-HistoryFull.ensures.full (ap Err c.in-Err-HistoryFull.field-0-is)))
 
 pub returns-in-Err-HistoryFull-clause-told : goal.returns-in-Err-HistoryFull-clause-told
-returns-in-Err-HistoryFull-clause-told g c = λ kinds logs first p run through stands.
+returns-in-Err-HistoryFull-clause-told g c = λ kinds logs members decls p run through stands.
     let digest = entry_digest g.T.SpelledData.byte_of g.T.SpelledData.history_spelled in
     let D = delta_groups g.T.Replica.data_type digest in
     let code = c.args.self.now in

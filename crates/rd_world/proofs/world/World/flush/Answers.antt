@@ -8,7 +8,7 @@ use Rattle.rd_world.proofs.FlushCalls.{flushed, flush_stands, flush_tells, full_
 use Rattle.rd_world.proofs.world.World.flush.Goals as goal
 
 pub returns-in-Ok-clause-stands : goal.returns-in-Ok-clause-stands
-returns-in-Ok-clause-stands g c = λ digest kinds logs first p run through stands.
+returns-in-Ok-clause-stands g c = λ digest kinds logs members decls p run through stands.
     let D = delta_groups g.T.Replica.data_type digest in
     let code = c.args.self.now in
     let nodes = code.nodes in
@@ -18,12 +18,12 @@ returns-in-Ok-clause-stands g c = λ digest kinds logs first p run through stand
     let within : c.args.at < length nodes.items = omega (arith, nodes.ok.0) in
     let is = c.index_mut.ensures.value ∙ ap (λ j. get_or nodes.items j old) here in
     let row = row_of_member g.T.Replica.kind_of g.T.Replica.IsDataOf kinds logs g.T.Replica code p.world stands c.args.at within in
-    let run_then = played_is_run D first p (ScriptStep.Flush c.args.at ∷ []) (tt, tt) run in
+    let run_then = played_is_run D members decls p (ScriptStep.Flush c.args.at ∷ []) (tt, tt) run in
     flush_stands g.T.Replica.data_type g.T.Replica.kind_of g.T.Replica.IsDataOf g.T.Replica digest kinds logs code p stands c.args.at old within is new c.flush.new.links c.in-Ok.sent (c.in-Ok.ensures.room row)
-    (λ node st. c.in-Ok.ensures.stands digest kinds logs node row st) (c.in-Ok.ensures.sends row) first run_then through _ refl (ap (λ j. set nodes.items j new) here) refl
+    (λ node st. c.in-Ok.ensures.stands digest kinds logs node row st) (c.in-Ok.ensures.sends row) members decls run_then through _ refl (ap (λ j. set nodes.items j new) here) refl
 
 pub returns-in-Ok-clause-told : goal.returns-in-Ok-clause-told
-returns-in-Ok-clause-told g c = λ digest kinds logs first p run through stands.
+returns-in-Ok-clause-told g c = λ digest kinds logs members decls p run through stands.
     let D = delta_groups g.T.Replica.data_type digest in
     let code = c.args.self.now in
     let nodes = code.nodes in
@@ -33,12 +33,12 @@ returns-in-Ok-clause-told g c = λ digest kinds logs first p run through stands.
     let within : c.args.at < length nodes.items = omega (arith, nodes.ok.0) in
     let is = c.index_mut.ensures.value ∙ ap (λ j. get_or nodes.items j old) here in
     let row = row_of_member g.T.Replica.kind_of g.T.Replica.IsDataOf kinds logs g.T.Replica code p.world stands c.args.at within in
-    let run_then = played_is_run D first p (ScriptStep.Flush c.args.at ∷ []) (tt, tt) run in
+    let run_then = played_is_run D members decls p (ScriptStep.Flush c.args.at ∷ []) (tt, tt) run in
     flush_tells g.T.Replica.data_type g.T.Replica.kind_of g.T.Replica.IsDataOf g.T.Replica digest kinds logs code p stands c.args.at old within is new c.flush.new.links c.in-Ok.sent (c.in-Ok.ensures.room row)
-    (λ node st. c.in-Ok.ensures.stands digest kinds logs node row st) (c.in-Ok.ensures.sends row) first run_then through
+    (λ node st. c.in-Ok.ensures.stands digest kinds logs node row st) (c.in-Ok.ensures.sends row) members decls run_then through
 
 pub returns-in-Err-HistoryFull-clause-stands : goal.returns-in-Err-HistoryFull-clause-stands
-returns-in-Err-HistoryFull-clause-stands g c = λ digest kinds logs first p run through stands.
+returns-in-Err-HistoryFull-clause-stands g c = λ digest kinds logs members decls p run through stands.
     let code = c.args.self.now in
     let nodes = code.nodes in
     let old = c.index_mut.result.now in
@@ -49,7 +49,7 @@ returns-in-Err-HistoryFull-clause-stands g c = λ digest kinds logs first p run 
     (same_world g.T.Replica code c.from-index.result old c.flush.new.node c.flush.new.links c.index_mut.ensures.value c.in-Err-HistoryFull.ensures.err.0 c.in-Err-HistoryFull.ensures.err.1)
 
 pub returns-in-Err-HistoryFull-clause-told : goal.returns-in-Err-HistoryFull-clause-told
-returns-in-Err-HistoryFull-clause-told g c = λ digest kinds logs first p run through stands.
+returns-in-Err-HistoryFull-clause-told g c = λ digest kinds logs members decls p run through stands.
     let code = c.args.self.now in
     let nodes = code.nodes in
     let old = c.index_mut.result.now in

@@ -12,7 +12,7 @@ use Rattle.rd_world.proofs.GossipCalls.{gossiped, gossip_stands, gossip_tells, f
 use Rattle.rd_world.proofs.world.World.gossip.Goals as goal
 
 pub returns-in-Ok-clause-stands : goal.returns-in-Ok-clause-stands
-returns-in-Ok-clause-stands g c = λ kinds logs first p run through stands.
+returns-in-Ok-clause-stands g c = λ kinds logs members decls p run through stands.
     let digest = entry_digest g.T.SpelledData.byte_of g.T.SpelledData.history_spelled in
     let D = delta_groups g.T.Replica.data_type digest in
     let code = c.args.self.now in
@@ -23,12 +23,12 @@ returns-in-Ok-clause-stands g c = λ kinds logs first p run through stands.
     let within : c.args.at < length nodes.items = omega (arith, nodes.ok.0) in
     let is = c.index_mut.ensures.value ∙ ap (λ j. get_or nodes.items j old) here in
     let row = row_of_member g.T.Replica.kind_of g.T.Replica.IsDataOf kinds logs g.T.Replica code p.world stands c.args.at within in
-    let run_then = played_is_run D first p (ScriptStep.Gossip c.args.at c.args.to ∷ []) (tt, tt) run in
+    let run_then = played_is_run D members decls p (ScriptStep.Gossip c.args.at c.args.to ∷ []) (tt, tt) run in
     gossip_stands g.T.Replica.data_type g.T.Replica.kind_of g.T.Replica.IsDataOf g.T.Replica digest kinds logs code p stands c.args.at c.args.to old within is new c.gossip.new.links c.in-Ok.answered.reply c.in-Ok.answered.sent (c.in-Ok.ensures.room row)
-    (λ node st. c.in-Ok.ensures.stands kinds logs node row st) (λ node st. c.in-Ok.ensures.reply kinds logs node row st) (c.in-Ok.ensures.sends row) first run_then through _ refl (ap (λ j. set nodes.items j new) here) refl
+    (λ node st. c.in-Ok.ensures.stands kinds logs node row st) (λ node st. c.in-Ok.ensures.reply kinds logs node row st) (c.in-Ok.ensures.sends row) members decls run_then through _ refl (ap (λ j. set nodes.items j new) here) refl
 
 pub returns-in-Ok-clause-told : goal.returns-in-Ok-clause-told
-returns-in-Ok-clause-told g c = λ kinds logs first p run through stands.
+returns-in-Ok-clause-told g c = λ kinds logs members decls p run through stands.
     let digest = entry_digest g.T.SpelledData.byte_of g.T.SpelledData.history_spelled in
     let D = delta_groups g.T.Replica.data_type digest in
     let code = c.args.self.now in
@@ -39,14 +39,14 @@ returns-in-Ok-clause-told g c = λ kinds logs first p run through stands.
     let within : c.args.at < length nodes.items = omega (arith, nodes.ok.0) in
     let is = c.index_mut.ensures.value ∙ ap (λ j. get_or nodes.items j old) here in
     let row = row_of_member g.T.Replica.kind_of g.T.Replica.IsDataOf kinds logs g.T.Replica code p.world stands c.args.at within in
-    let run_then = played_is_run D first p (ScriptStep.Gossip c.args.at c.args.to ∷ []) (tt, tt) run in
+    let run_then = played_is_run D members decls p (ScriptStep.Gossip c.args.at c.args.to ∷ []) (tt, tt) run in
     let q = gossiped g.T.Replica.data_type g.T.Replica.kind_of g.T.Replica.IsDataOf g.T.Replica digest kinds logs code p stands c.args.at c.args.to old within is in
     subst (λ (number : ℕ). IsNextLine (record { head = head.Gossip c.args.at number; answer = answer.Reply c.in-Ok.answered.reply; sent = c.in-Ok.answered.sent }) p q) (sym c.number.ensures.value)
     (gossip_tells g.T.Replica.data_type g.T.Replica.kind_of g.T.Replica.IsDataOf g.T.Replica digest kinds logs code p stands c.args.at c.args.to old within is new c.gossip.new.links c.in-Ok.answered.reply c.in-Ok.answered.sent (c.in-Ok.ensures.room row)
-    (λ node st. c.in-Ok.ensures.stands kinds logs node row st) (λ node st. c.in-Ok.ensures.reply kinds logs node row st) (c.in-Ok.ensures.sends row) first run_then through)
+    (λ node st. c.in-Ok.ensures.stands kinds logs node row st) (λ node st. c.in-Ok.ensures.reply kinds logs node row st) (c.in-Ok.ensures.sends row) members decls run_then through)
 
 pub returns-in-Err-HistoryFull-clause-stands : goal.returns-in-Err-HistoryFull-clause-stands
-returns-in-Err-HistoryFull-clause-stands g c = λ kinds logs first p run through stands.
+returns-in-Err-HistoryFull-clause-stands g c = λ kinds logs members decls p run through stands.
     let digest = entry_digest g.T.SpelledData.byte_of g.T.SpelledData.history_spelled in
     let code = c.args.self.now in
     let nodes = code.nodes in
@@ -58,7 +58,7 @@ returns-in-Err-HistoryFull-clause-stands g c = λ kinds logs first p run through
     (same_world g.T.Replica code c.from-index.result old c.gossip.new.node c.gossip.new.links c.index_mut.ensures.value c.in-Err-HistoryFull.ensures.err.0 c.in-Err-HistoryFull.ensures.err.1)
 
 pub returns-in-Err-HistoryFull-clause-told : goal.returns-in-Err-HistoryFull-clause-told
-returns-in-Err-HistoryFull-clause-told g c = λ kinds logs first p run through stands.
+returns-in-Err-HistoryFull-clause-told g c = λ kinds logs members decls p run through stands.
     let digest = entry_digest g.T.SpelledData.byte_of g.T.SpelledData.history_spelled in
     let code = c.args.self.now in
     let nodes = code.nodes in

@@ -20,24 +20,24 @@ returns-in_err-answer-clause-err g c =
     (same_item nodes c.from-index.result c.index_mut.result.now c.update.new.self c.index_mut.ensures.value (no_answer c.update.result c.in_err-answer.field-0.0 _ (sym c.answered.ensures ∙ c.in_err-answer.was) c.update.ensures.err)))
 
 pub returns-clause-stands : goal.returns-clause-stands
-returns-clause-stands g c = λ digest kinds logs first p run through stands.
+returns-clause-stands g c = λ digest kinds logs members decls p run through stands.
     let D = delta_groups g.T.Replica.data_type digest in
     let key = c.args.key.now in
     let op = c.args.op.now in
     let nodes = c.args.self.now.nodes in
-    call_stands g.T.Replica.kind_of g.T.Replica.IsDataOf kinds logs g.T.Replica D c.args.self.now p stands (Head.UpdateHead c.args.at key) c.args.at (Input.Update key op Level.Local) (local_update key op) first
-    (played_is_run D first p (ScriptStep.Update c.args.at key op Level.Local ∷ []) (tt, tt) run) through c.from-index.result c.from-index.ensures c.index_mut.result.now c.update.new.self (omega (arith, nodes.ok.0)) c.index_mut.ensures.value
+    call_stands g.T.Replica.kind_of g.T.Replica.IsDataOf kinds logs g.T.Replica D c.args.self.now p stands (Head.UpdateHead c.args.at key) c.args.at (Input.Update key op Level.Local) (local_update key op) members decls
+    (played_is_run D members decls p (ScriptStep.Update c.args.at key op Level.Local ∷ []) (tt, tt) run) through c.from-index.result c.from-index.ensures c.index_mut.result.now c.update.new.self (omega (arith, nodes.ok.0)) c.index_mut.ensures.value
     c.update.result c.in_ok-answer.answer (sym c.answered.ensures ∙ c.in_ok-answer.was) (record { stands = c.update.ensures.stands digest kinds logs; full = c.update.ensures.full }) c.update.ensures.err _ refl refl refl
 
 pub returns-clause-told : goal.returns-clause-told
-returns-clause-told g c = λ digest kinds logs first p run through stands.
+returns-clause-told g c = λ digest kinds logs members decls p run through stands.
     let D = delta_groups g.T.Replica.data_type digest in
     let key = c.args.key.now in
     let op = c.args.op.now in
     let nodes = c.args.self.now.nodes in
     let q = played D p (ScriptStep.Update c.args.at key op Level.Local) in
     subst (λ (event : Event). IsNextLine event p q) (sym c.line-2.ensures)
-    (call_tells g.T.Replica.kind_of g.T.Replica.IsDataOf kinds logs g.T.Replica D c.args.self.now p stands (Head.UpdateHead c.args.at key) c.args.at (Input.Update key op Level.Local) (local_update key op) first
-    (played_is_run D first p (ScriptStep.Update c.args.at key op Level.Local ∷ []) (tt, tt) run) through c.from-index.result c.from-index.ensures c.index_mut.result.now c.update.new.self (omega (arith, nodes.ok.0)) c.index_mut.ensures.value
+    (call_tells g.T.Replica.kind_of g.T.Replica.IsDataOf kinds logs g.T.Replica D c.args.self.now p stands (Head.UpdateHead c.args.at key) c.args.at (Input.Update key op Level.Local) (local_update key op) members decls
+    (played_is_run D members decls p (ScriptStep.Update c.args.at key op Level.Local ∷ []) (tt, tt) run) through c.from-index.result c.from-index.ensures c.index_mut.result.now c.update.new.self (omega (arith, nodes.ok.0)) c.index_mut.ensures.value
     c.update.result c.in_ok-answer.answer (sym c.answered.ensures ∙ c.in_ok-answer.was) (record { stands = c.update.ensures.stands digest kinds logs; full = c.update.ensures.full })
     (c.update.ensures.reply digest kinds logs) (Update c.args.at c.in_ok-copy.field-0) (ap (Head.UpdateHead c.args.at) (sym c.in_ok-copy.ensures)))
