@@ -1,0 +1,17 @@
+pub mod Lists
+pub mod Turns
+pub mod Counting
+pub mod Operations
+pub mod Moments
+pub mod Calm
+pub mod Phases
+pub mod Openings
+pub mod QuorumTheorem
+pub mod PlayedInputs
+pub mod Rounds
+pub mod Waiting
+pub mod Finishing
+pub mod Opening
+pub mod TwoRounds
+pub mod RoundsOfScripts
+pub mod SmallRuns

@@ -1,0 +1,3 @@
+pub mod Quorum
+pub mod Finishing
+pub mod Borders

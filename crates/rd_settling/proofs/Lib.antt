@@ -1,0 +1,11 @@
+pub mod Merging
+pub mod Exchanging
+pub mod PlayedSteps
+pub mod Exchanges
+pub mod Sweeps
+pub mod SweepFolds
+pub mod Ticks
+pub mod Installs
+pub mod SettleTheorem
+pub mod Settled
+pub mod SharesGrow
