@@ -1,0 +1,16 @@
+//! Where a member keeps its durable entries: what a keeper is, and one in memory.
+#![tactic(auto)]
+
+mod calls;
+mod keeper;
+mod memory;
+mod search;
+mod stored;
+mod table;
+#[cfg(test)]
+mod tests;
+
+pub use keeper::{Keeper, KeeperError};
+pub use memory::MemoryKeeper;
+pub use stored::{Bytes, Stored};
+pub use table::MemoryTable;
