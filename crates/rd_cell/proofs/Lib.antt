@@ -1,0 +1,14 @@
+pub mod Lists
+pub mod Prefixes
+pub mod Places
+pub mod Clients
+pub mod Steps
+pub mod Lending
+pub mod Meetings
+pub mod Accepting
+pub mod Accepted
+pub mod Openings
+pub mod Starts
+pub mod Finishing
+pub mod Counting
+pub mod Taking

@@ -1,0 +1,12 @@
+pub mod Lists
+pub mod Names
+pub mod Entries
+pub mod Views
+pub mod Rule
+pub mod Seats
+pub mod Stamps
+pub mod Values
+pub mod Beginnings
+pub mod Endings
+pub mod Closings
+pub mod Calls

@@ -1,0 +1,3 @@
+pub mod Shelves
+pub mod Tallies
+pub mod Answers
