@@ -26,7 +26,7 @@ use Rattle.rd_runs.proofs.RunViews.{same_some, is_or_isnt}
 use Rattle.rd_history.proofs.PruneLaws.{found}
 use Rattle.rd_runs.proofs.Happening.{all_of}
 use Rattle.rd_settling.specs.Settling.{BlockedStays}
-use Rattle.rd_operations.proofs.Lists.{in_any, map_length}
+use Rattle.rd_operations.proofs.Lists.{in_any, in_filtered, map_length, to_filter}
 use Rattle.rd_operations.proofs.Moments.{safe_at}
 use Rattle.rd_operations.proofs.Calm.{IsCalm}
 use Rattle.rd_settling.proofs.Merging.{MarkAt}
@@ -116,15 +116,12 @@ module _ {Kind Op Shown : Type 0} (D : Replication Kind Op Shown) (members : ℕ
 
     -- A SWEEP
 
-    abbrev pub os : List ℕ
-    os = filter (λ i. not (i == lead)) (identities_of V)
+    abbrev pub others : List ℕ
+    others = filter (λ i. not (i == lead)) (identities_of V)
 
-    pub are_others : AreOthers D members keys V lead lead_member os
-    are_others = all_of (λ i. (i ≢ lead) × (is_member V i ≡ true)) os (λ i h. (not_lead i h, in_any (identities_of V) i (in_filtered i h)))
+    pub are_others : AreOthers D members keys V lead lead_member others
+    are_others = all_of (λ i. (i ≢ lead) × (is_member V i ≡ true)) others (λ i h. (not_lead i h, in_any (identities_of V) i (in_filtered (λ i. not (i == lead)) (identities_of V) i h)))
       where
-        in_filtered : (i : ℕ) → IsIn (filter (λ i. not (i == leader V)) (identities_of V)) i → IsIn (identities_of V) i
-        in_filtered i h = Rattle.rd_operations.proofs.Lists.in_filtered (λ i. not (i == leader V)) (identities_of V) i h
-
         passes : (xs : List ℕ) (i : ℕ) → IsIn (filter (λ i. not (i == leader V)) xs) i → not (i == leader V) ≡ true
         passes [] i h = absurd (cc h.1)
         passes (x ∷ xs) i h = by (not (x == leader V)) refl h.0 h.1 (λ m. passes xs i m)
@@ -145,198 +142,189 @@ module _ {Kind Op Shown : Type 0} (D : Replication Kind Op Shown) (members : ℕ
         by true e m' later = elim (eqb_tells i t) [ inl h ↦ (λ f. all.0.0 (h.1 ∙ f)) | inr h ↦ absurd (let g = sym e ∙ h.0 in cc g) ]
         by false e m' later = later m'
 
-    among : (t : ℕ) → is_member V t ≡ true → t ≢ lead → Among os t
+    among : (t : ℕ) → is_member V t ≡ true → t ≢ lead → Among others t
     among t m other =
         let h = found_at (identities_of V) t m in
-        in_any os t (to_filter (λ i. not (i == lead)) (identities_of V) t h (elim (eqb_tells t lead) [ inl is ↦ absurd (other is.1) | inr isnt ↦ ap not isnt.0 ]))
-      where
-        to_filter : (p : ℕ → Bool) (xs : List ℕ) (x : ℕ) → IsIn xs x → p x ≡ true → IsIn (filter p xs) x
-        to_filter p [] x h e = absurd (cc h.1)
-        to_filter p (y ∷ xs) x (zero, is) e = let same : y ≡ x = cc is in subst (λ (b : Bool). IsIn (if b then y ∷ filter p xs else filter p xs) x) (sym (ap p same ∙ e)) (zero, is)
-        to_filter p (y ∷ xs) x (suc k, is) e = by_test (p y) (to_filter p xs x (k, is) e)
-          where
-            by_test : (b : Bool) → IsIn (filter p xs) x → IsIn (if b then y ∷ filter p xs else filter p xs) x
-            by_test true h = (suc h.0, h.1)
-            by_test false h = h
+        in_any others t (to_filter (λ i. not (i == lead)) (identities_of V) t h (elim (eqb_tells t lead) [ inl is ↦ absurd (other is.1) | inr isnt ↦ ap not isnt.0 ]))
 
-    pub sweep_is : (p : Playing Kind Op Shown) → Calm p.world → sweep D p ≡ fold (exchange D lead) p os
+    pub sweep_is : (p : Playing Kind Op Shown) → Calm p.world → sweep D p ≡ fold (exchange D lead) p others
     sweep_is p calm = ap (λ (view : View). fold (exchange D (leader view)) p (filter (λ i. not (i == leader view)) (identities_of view))) calm.view
 
-    pub few_others : length os + 1 ≤ length V.members
+    pub few_others : length others + 1 ≤ length V.members
     few_others =
         let a = one_fewer (λ i. not (i == lead)) (identities_of V) lead (found_at (identities_of V) lead lead_member) (ap not (eq-eqb lead lead refl)) in
         let b = map_length (λ member. member.identity) V.members in omega arith
 
     -- THE WHOLE SETTLE, FROM THE FIRST SWEEP ON
 
-    module _ (A : Playing Kind Op Shown) (calm_A : Calm A.world) (ran_A : Runs D members keys A) where
-      abbrev pub B1 : Playing Kind Op Shown
-      B1 = fold (exchange D lead) A os
+    module _ (all_installed : Playing Kind Op Shown) (calm_installed : Calm all_installed.world) (ran_installed : Runs D members keys all_installed) where
+      abbrev pub swept_once : Playing Kind Op Shown
+      swept_once = fold (exchange D lead) all_installed others
 
-      abbrev pub B2 : Playing Kind Op Shown
-      B2 = fold (exchange D lead) B1 os
+      abbrev pub swept_twice : Playing Kind Op Shown
+      swept_twice = fold (exchange D lead) swept_once others
 
-      abbrev pub C1 : Playing Kind Op Shown
-      C1 = tick D B2
+      abbrev pub ticked_once : Playing Kind Op Shown
+      ticked_once = tick D swept_twice
 
-      abbrev pub D1 : Playing Kind Op Shown
-      D1 = fold (exchange D lead) C1 os
+      abbrev pub swept_again : Playing Kind Op Shown
+      swept_again = fold (exchange D lead) ticked_once others
 
-      abbrev pub C2 : Playing Kind Op Shown
-      C2 = tick D D1
+      abbrev pub ticked_twice : Playing Kind Op Shown
+      ticked_twice = tick D swept_again
 
-      abbrev pub E1 : Playing Kind Op Shown
-      E1 = fold (exchange D lead) C2 os
+      abbrev pub swept_last : Playing Kind Op Shown
+      swept_last = fold (exchange D lead) ticked_twice others
 
-      module _ (met : has_met_full E1 ≡ false) where
-        met_C2 : has_met_full C2 ≡ false
-        met_C2 = sweep_met D members keys V lead lead_member os C2 met
+      module _ (met : has_met_full swept_last ≡ false) where
+        met_ticked_twice : has_met_full ticked_twice ≡ false
+        met_ticked_twice = sweep_met D members keys V lead lead_member others ticked_twice met
 
-        met_D1 : has_met_full D1 ≡ false
-        met_D1 = tick_met D1 met_C2
+        met_swept_again : has_met_full swept_again ≡ false
+        met_swept_again = tick_met swept_again met_ticked_twice
 
-        met_C1 : has_met_full C1 ≡ false
-        met_C1 = sweep_met D members keys V lead lead_member os C1 met_D1
+        met_ticked_once : has_met_full ticked_once ≡ false
+        met_ticked_once = sweep_met D members keys V lead lead_member others ticked_once met_swept_again
 
-        met_B2 : has_met_full B2 ≡ false
-        met_B2 = tick_met B2 met_C1
+        met_swept_twice : has_met_full swept_twice ≡ false
+        met_swept_twice = tick_met swept_twice met_ticked_once
 
-        met_B1 : has_met_full B1 ≡ false
-        met_B1 = sweep_met D members keys V lead lead_member os B1 met_B2
+        met_swept_once : has_met_full swept_once ≡ false
+        met_swept_once = sweep_met D members keys V lead lead_member others swept_once met_swept_twice
 
-        s1 : Swept D members keys V lead lead_member os A B1
-        s1 = sweep_does D members keys V lead lead_member os are_others A calm_A met_B1
+        first_sweep : Swept D members keys V lead lead_member others all_installed swept_once
+        first_sweep = sweep_does D members keys V lead lead_member others are_others all_installed calm_installed met_swept_once
 
-        s2 : Swept D members keys V lead lead_member os B1 B2
-        s2 = sweep_does D members keys V lead lead_member os are_others B1 s1.calm_after met_B2
+        second_sweep : Swept D members keys V lead lead_member others swept_once swept_twice
+        second_sweep = sweep_does D members keys V lead lead_member others are_others swept_once first_sweep.calm_after met_swept_twice
 
-        abbrev b2 : Node Kind Op Shown
-        b2 = (runs_of D members keys V lead lead_member B2.world s2.calm_after lead lead_member).0
+        abbrev first_ticking : Node Kind Op Shown
+        first_ticking = (runs_of D members keys V lead lead_member swept_twice.world second_sweep.calm_after lead lead_member).0
 
-        runs_b2 : B2.world.nodes lead ≡ Some b2
-        runs_b2 = (runs_of D members keys V lead lead_member B2.world s2.calm_after lead lead_member).1
+        runs_first_ticking : swept_twice.world.nodes lead ≡ Some first_ticking
+        runs_first_ticking = (runs_of D members keys V lead lead_member swept_twice.world second_sweep.calm_after lead lead_member).1
 
-        t1 : TickDone B2 C1 b2
-        t1 = tick_done B2 s2.calm_after b2 runs_b2 met_C1
+        first_tick : TickDone swept_twice ticked_once first_ticking
+        first_tick = tick_done swept_twice second_sweep.calm_after first_ticking runs_first_ticking met_ticked_once
 
-        pub s3 : Swept D members keys V lead lead_member os C1 D1
-        s3 = sweep_does D members keys V lead lead_member os are_others C1 t1.calm_after met_D1
+        pub third_sweep : Swept D members keys V lead lead_member others ticked_once swept_again
+        third_sweep = sweep_does D members keys V lead lead_member others are_others ticked_once first_tick.calm_after met_swept_again
 
-        abbrev pub d1 : Node Kind Op Shown
-        d1 = (runs_of D members keys V lead lead_member D1.world s3.calm_after lead lead_member).0
+        abbrev pub last_ticking : Node Kind Op Shown
+        last_ticking = (runs_of D members keys V lead lead_member swept_again.world third_sweep.calm_after lead lead_member).0
 
-        pub runs_d1 : D1.world.nodes lead ≡ Some d1
-        runs_d1 = (runs_of D members keys V lead lead_member D1.world s3.calm_after lead lead_member).1
+        pub runs_last_ticking : swept_again.world.nodes lead ≡ Some last_ticking
+        runs_last_ticking = (runs_of D members keys V lead lead_member swept_again.world third_sweep.calm_after lead lead_member).1
 
-        pub t2 : TickDone D1 C2 d1
-        t2 = tick_done D1 s3.calm_after d1 runs_d1 met_C2
+        pub last_tick : TickDone swept_again ticked_twice last_ticking
+        last_tick = tick_done swept_again third_sweep.calm_after last_ticking runs_last_ticking met_ticked_twice
 
-        pub s4 : Swept D members keys V lead lead_member os C2 E1
-        s4 = sweep_does D members keys V lead lead_member os are_others C2 t2.calm_after met
+        pub last_sweep : Swept D members keys V lead lead_member others ticked_twice swept_last
+        last_sweep = sweep_does D members keys V lead lead_member others are_others ticked_twice last_tick.calm_after met
 
         -- EVENTS
 
-        ran_B1 : Runs D members keys B1
-        ran_B1 = s1.ran ran_A
+        ran_swept_once : Runs D members keys swept_once
+        ran_swept_once = first_sweep.ran ran_installed
 
-        ran_B2 : Runs D members keys B2
-        ran_B2 = s2.ran ran_B1
+        ran_swept_twice : Runs D members keys swept_twice
+        ran_swept_twice = second_sweep.ran ran_swept_once
 
-        ran_C1 : Runs D members keys C1
-        ran_C1 = did_runs D members keys B2 C1 lead (step D b2 Input.PruneTick t1.fate) t1.did ran_B2
+        ran_ticked_once : Runs D members keys ticked_once
+        ran_ticked_once = did_runs D members keys swept_twice ticked_once lead (step D first_ticking Input.PruneTick first_tick.fate) first_tick.did ran_swept_twice
 
-        ran_D1 : Runs D members keys D1
-        ran_D1 = s3.ran ran_C1
+        ran_swept_again : Runs D members keys swept_again
+        ran_swept_again = third_sweep.ran ran_ticked_once
 
-        ran_C2 : Runs D members keys C2
-        ran_C2 = did_runs D members keys D1 C2 lead (step D d1 Input.PruneTick t2.fate) t2.did ran_D1
+        ran_ticked_twice : Runs D members keys ticked_twice
+        ran_ticked_twice = did_runs D members keys swept_again ticked_twice lead (step D last_ticking Input.PruneTick last_tick.fate) last_tick.did ran_swept_again
 
         abbrev After : Playing Kind Op Shown → Type 0
-        After x = (more : List (Event Op)) × (E1.events ≡ x.events ++ more)
+        After x = (more : List (Event Op)) × (swept_last.events ≡ x.events ++ more)
 
         longer : (x y : Playing Kind Op Shown) (more : List (Event Op)) → y.events ≡ x.events ++ more → After y → After x
         longer x y more e h = (more ++ h.0, h.1 ∙ ap (λ es. es ++ h.0) e ∙ append_assoc x.events more h.0)
 
-        end_E1 : After E1
-        end_E1 = ([], sym (append_nothing E1.events))
+        end_swept_last : After swept_last
+        end_swept_last = ([], sym (append_nothing swept_last.events))
 
-        end_C2 : After C2
-        end_C2 = longer C2 E1 s4.more s4.events end_E1
+        end_ticked_twice : After ticked_twice
+        end_ticked_twice = longer ticked_twice swept_last last_sweep.more last_sweep.events end_swept_last
 
-        end_D1 : After D1
-        end_D1 = longer D1 C2 (t2.did.event ∷ []) t2.did.events end_C2
+        end_swept_again : After swept_again
+        end_swept_again = longer swept_again ticked_twice (last_tick.did.event ∷ []) last_tick.did.events end_ticked_twice
 
-        end_C1 : After C1
-        end_C1 = longer C1 D1 s3.more s3.events end_D1
+        end_ticked_once : After ticked_once
+        end_ticked_once = longer ticked_once swept_again third_sweep.more third_sweep.events end_swept_again
 
-        end_B2 : After B2
-        end_B2 = longer B2 C1 (t1.did.event ∷ []) t1.did.events end_C1
+        end_swept_twice : After swept_twice
+        end_swept_twice = longer swept_twice ticked_once (first_tick.did.event ∷ []) first_tick.did.events end_ticked_once
 
-        end_B1 : After B1
-        end_B1 = longer B1 B2 s2.more s2.events end_B2
+        end_swept_once : After swept_once
+        end_swept_once = longer swept_once swept_twice second_sweep.more second_sweep.events end_swept_twice
 
         -- HOW MANY MESSAGES
 
-        pub few_sent : posted E1 ≤ posted A + 12 * length os
-        few_sent = let a = s1.sent_few in let b = s2.sent_few in let c = t1.silent in let d = s3.sent_few in let e = t2.silent in let f = s4.sent_few in omega arith
+        pub few_sent : posted swept_last ≤ posted all_installed + 12 * length others
+        few_sent = let a = first_sweep.sent_few in let b = second_sweep.sent_few in let c = first_tick.silent in let d = third_sweep.sent_few in let e = last_tick.silent in let f = last_sweep.sent_few in omega arith
 
         -- ONE KEY
 
-        module _ (tells : TellsUntil D members keys V lead lead_member E1.events) (key : Text) (decl : KeyDecl Kind) (declared : find (λ (d : KeyDecl Kind). bytes_eq d.name key) keys ≡ Some decl) where
+        module _ (tells : TellsUntil D members keys V lead lead_member swept_last.events) (key : Text) (decl : KeyDecl Kind) (declared : find (λ (d : KeyDecl Kind). bytes_eq d.name key) keys ≡ Some decl) where
           abbrev n : Playing Kind Op Shown → ℕ → ℕ → ℕ
-          n p t o = N D members keys V lead lead_member E1.events tells key decl declared p t o
+          n p t o = N D members keys V lead lead_member swept_last.events tells key decl declared p t o
 
-          abbrev Cs : Playing Kind Op Shown → Playing Kind Op Shown → Type 0
-          Cs p q = Counts D members keys V lead lead_member E1.events tells key decl declared os p q
+          abbrev CountsBetween : Playing Kind Op Shown → Playing Kind Op Shown → Type 0
+          CountsBetween p q = Counts D members keys V lead lead_member swept_last.events tells key decl declared others p q
 
-          c1 : Cs A B1
-          c1 = sweep_counts D members keys V lead lead_member E1.events tells key decl declared os are_others A calm_A ran_A met_B1 end_B1.0 end_B1.1
+          first_counts : CountsBetween all_installed swept_once
+          first_counts = sweep_counts D members keys V lead lead_member swept_last.events tells key decl declared others are_others all_installed calm_installed ran_installed met_swept_once end_swept_once.0 end_swept_once.1
 
-          c2 : Cs B1 B2
-          c2 = sweep_counts D members keys V lead lead_member E1.events tells key decl declared os are_others B1 s1.calm_after ran_B1 met_B2 end_B2.0 end_B2.1
+          second_counts : CountsBetween swept_once swept_twice
+          second_counts = sweep_counts D members keys V lead lead_member swept_last.events tells key decl declared others are_others swept_once first_sweep.calm_after ran_swept_once met_swept_twice end_swept_twice.0 end_swept_twice.1
 
-          full2 : ((o : ℕ) → n B2 lead o ≡ n B1 lead o) × ((t : ℕ) → Among os t → (o : ℕ) → n B2 t o ≡ n B2 lead o)
-          full2 = c2.full c1.covered
+          full_swept_twice : ((o : ℕ) → n swept_twice lead o ≡ n swept_once lead o) × ((t : ℕ) → Among others t → (o : ℕ) → n swept_twice t o ≡ n swept_twice lead o)
+          full_swept_twice = second_counts.full first_counts.covered
 
-          not_lead_of : (t : ℕ) → Among os t → t ≢ lead
-          not_lead_of t m = not_lead_in os are_others t m
+          not_lead_of : (t : ℕ) → Among others t → t ≢ lead
+          not_lead_of t m = not_lead_in others are_others t m
 
           -- a tick leaves the others
-          tick_others : (p q : Playing Kind Op Shown) (b : Node Kind Op Shown) → TickDone p q b → (t : ℕ) → Among os t → (o : ℕ) → n q t o ≡ n p t o
+          tick_others : (p q : Playing Kind Op Shown) (b : Node Kind Op Shown) → TickDone p q b → (t : ℕ) → Among others t → (o : ℕ) → n q t o ≡ n p t o
           tick_others p q b t m mt o = ap (λ x. counted D members keys V x key o) (did_other D members keys p q lead (step D b Input.PruneTick t.fate) t.did m (not_lead_of m mt))
 
           tick_lead : (p q : Playing Kind Op Shown) (b : Node Kind Op Shown) → p.world.nodes lead ≡ Some b → TickDone p q b → (o : ℕ) → n p lead o ≤ n q lead o
           tick_lead p q b runs t o =
               let a = step_no_fewer D b Input.PruneTick t.fate key o in
-              let c = N_is D members keys V lead lead_member E1.events tells key decl declared p lead b o runs in
-              let d = N_is D members keys V lead lead_member E1.events tells key decl declared q lead (step D b Input.PruneTick t.fate).node o (did_here D members keys p q lead (step D b Input.PruneTick t.fate) t.did) in
+              let c = N_is D members keys V lead lead_member swept_last.events tells key decl declared p lead b o runs in
+              let d = N_is D members keys V lead lead_member swept_last.events tells key decl declared q lead (step D b Input.PruneTick t.fate).node o (did_here D members keys p q lead (step D b Input.PruneTick t.fate) t.did) in
               omega arith
 
-          covered3 : (t : ℕ) → Among os t → (o : ℕ) → n C1 t o ≤ n C1 lead o
-          covered3 t m o = let a = tick_others B2 C1 b2 t1 t m o in let b = full2.1 t m o in let c = tick_lead B2 C1 b2 runs_b2 t1 o in omega arith
+          covered_ticked_once : (t : ℕ) → Among others t → (o : ℕ) → n ticked_once t o ≤ n ticked_once lead o
+          covered_ticked_once t m o = let a = tick_others swept_twice ticked_once first_ticking first_tick t m o in let b = full_swept_twice.1 t m o in let c = tick_lead swept_twice ticked_once first_ticking runs_first_ticking first_tick o in omega arith
 
-          c3 : Cs C1 D1
-          c3 = sweep_counts D members keys V lead lead_member E1.events tells key decl declared os are_others C1 t1.calm_after ran_C1 met_D1 end_D1.0 end_D1.1
+          third_counts : CountsBetween ticked_once swept_again
+          third_counts = sweep_counts D members keys V lead lead_member swept_last.events tells key decl declared others are_others ticked_once first_tick.calm_after ran_ticked_once met_swept_again end_swept_again.0 end_swept_again.1
 
-          full3 : ((o : ℕ) → n D1 lead o ≡ n C1 lead o) × ((t : ℕ) → Among os t → (o : ℕ) → n D1 t o ≡ n D1 lead o)
-          full3 = c3.full covered3
+          full_swept_again : ((o : ℕ) → n swept_again lead o ≡ n ticked_once lead o) × ((t : ℕ) → Among others t → (o : ℕ) → n swept_again t o ≡ n swept_again lead o)
+          full_swept_again = third_counts.full covered_ticked_once
 
-          covered4 : (t : ℕ) → Among os t → (o : ℕ) → n C2 t o ≤ n C2 lead o
-          covered4 t m o = let a = tick_others D1 C2 d1 t2 t m o in let b = full3.1 t m o in let c = tick_lead D1 C2 d1 runs_d1 t2 o in omega arith
+          covered_ticked_twice : (t : ℕ) → Among others t → (o : ℕ) → n ticked_twice t o ≤ n ticked_twice lead o
+          covered_ticked_twice t m o = let a = tick_others swept_again ticked_twice last_ticking last_tick t m o in let b = full_swept_again.1 t m o in let c = tick_lead swept_again ticked_twice last_ticking runs_last_ticking last_tick o in omega arith
 
-          c4 : Cs C2 E1
-          c4 = sweep_counts D members keys V lead lead_member E1.events tells key decl declared os are_others C2 t2.calm_after ran_C2 met end_E1.0 end_E1.1
+          last_counts : CountsBetween ticked_twice swept_last
+          last_counts = sweep_counts D members keys V lead lead_member swept_last.events tells key decl declared others are_others ticked_twice last_tick.calm_after ran_ticked_twice met end_swept_last.0 end_swept_last.1
 
-          full4 : ((o : ℕ) → n E1 lead o ≡ n C2 lead o) × ((t : ℕ) → Among os t → (o : ℕ) → n E1 t o ≡ n E1 lead o)
-          full4 = c4.full covered4
+          full_swept_last : ((o : ℕ) → n swept_last lead o ≡ n ticked_twice lead o) × ((t : ℕ) → Among others t → (o : ℕ) → n swept_last t o ≡ n swept_last lead o)
+          full_swept_last = last_counts.full covered_ticked_twice
 
           -- all have the leader's history
-          pub all_same : (t : ℕ) (a e : Node Kind Op Shown) → is_member V t ≡ true → E1.world.nodes t ≡ Some a → E1.world.nodes lead ≡ Some e → (a.entries key).history ≡ (e.entries key).history
+          pub all_same : (t : ℕ) (a e : Node Kind Op Shown) → is_member V t ≡ true → swept_last.world.nodes t ≡ Some a → swept_last.world.nodes lead ≡ Some e → (a.entries key).history ≡ (e.entries key).history
           all_same t a e m ra re = elim (eqb_tells t lead) [
-            | inl is ↦ let same : a ≡ e = same_some (E1.world.nodes lead) a e (ap E1.world.nodes (sym is.1) ∙ ra) re in ap (λ (x : Node Kind Op Shown). (x.entries key).history) same
+            | inl is ↦ let same : a ≡ e = same_some (swept_last.world.nodes lead) a e (ap swept_last.world.nodes (sym is.1) ∙ ra) re in ap (λ (x : Node Kind Op Shown). (x.entries key).history) same
             | inr isnt ↦
-                same_histories D members keys V E1.world s4.calm_after t lead a e key ra re
-                (λ o. sym (N_is D members keys V lead lead_member E1.events tells key decl declared E1 t a o ra) ∙ full4.1 t (among t m isnt.1) o ∙ N_is D members keys V lead lead_member E1.events tells key decl declared E1 lead e o re)
+                same_histories D members keys V swept_last.world last_sweep.calm_after t lead a e key ra re
+                (λ o. sym (N_is D members keys V lead lead_member swept_last.events tells key decl declared swept_last t a o ra) ∙ full_swept_last.1 t (among t m isnt.1) o ∙ N_is D members keys V lead lead_member swept_last.events tells key decl declared swept_last lead e o re)
           ]
 
           -- A REMOVED IDENTITY
@@ -346,7 +334,7 @@ module _ {Kind Op Shown : Type 0} (D : Replication Kind Op Shown) (members : ℕ
             not_the_lead e = both_ways (is_member V r) (ap (is_member V) e ∙ lead_member) removed
 
             small_r : r < identity_limit
-            small_r = let a = (safe_at D members keys A.world calm_A.stands).logs.few in let b : A.world.view.given ≡ V.given = ap (λ (v : View). v.given) calm_A.view in omega arith
+            small_r = let a = (safe_at D members keys all_installed.world calm_installed.stands).logs.few in let b : all_installed.world.view.given ≡ V.given = ap (λ (v : View). v.given) calm_installed.view in omega arith
 
             -- what is known of a leader that ticks
             module _ (p : Playing Kind Op Shown) (calm : Calm p.world) (b : Node Kind Op Shown) (runs : p.world.nodes lead ≡ Some b) (fate : Fate) where
@@ -400,46 +388,46 @@ module _ {Kind Op Shown : Type 0} (D : Replication Kind Op Shown) (members : ℕ
                   (subst (λ w. (is_pruned (tick_key D (one_step_later b) the_state).entry.history r ≡ true) ⊎ IsSome (D.data_type.blocked decl.kind w r (tick_key D (one_step_later b) the_state).entry.history)) identity_b
                   (tick_settles D (one_step_later b) the_state small_b r other_b blocked_stays (removed_of b.view) in_ticks begun seen_b more))
 
-            abbrev c1_node : Node Kind Op Shown
-            c1_node = (step D b2 Input.PruneTick t1.fate).node
+            abbrev first_ticked : Node Kind Op Shown
+            first_ticked = (step D first_ticking Input.PruneTick first_tick.fate).node
 
-            runs_c1 : C1.world.nodes lead ≡ Some c1_node
-            runs_c1 = did_here D members keys B2 C1 lead (step D b2 Input.PruneTick t1.fate) t1.did
+            runs_first_ticked : ticked_once.world.nodes lead ≡ Some first_ticked
+            runs_first_ticked = did_here D members keys swept_twice ticked_once lead (step D first_ticking Input.PruneTick first_tick.fate) first_tick.did
 
-            abbrev c2_node : Node Kind Op Shown
-            c2_node = (step D d1 Input.PruneTick t2.fate).node
+            abbrev last_ticked : Node Kind Op Shown
+            last_ticked = (step D last_ticking Input.PruneTick last_tick.fate).node
 
-            runs_c2 : C2.world.nodes lead ≡ Some c2_node
-            runs_c2 = did_here D members keys D1 C2 lead (step D d1 Input.PruneTick t2.fate) t2.did
+            runs_last_ticked : ticked_twice.world.nodes lead ≡ Some last_ticked
+            runs_last_ticked = did_here D members keys swept_again ticked_twice lead (step D last_ticking Input.PruneTick last_tick.fate) last_tick.did
 
             is_n : (p : Playing Kind Op Shown) (t : ℕ) (b : Node Kind Op Shown) (o : ℕ) → p.world.nodes t ≡ Some b → n p t o ≡ at (b.entries key).history o
-            is_n p t b o e = N_is D members keys V lead lead_member E1.events tells key decl declared p t b o e
+            is_n p t b o e = N_is D members keys V lead lead_member swept_last.events tells key decl declared p t b o e
 
             -- after the third sweep all members stand in the leader's mark, or r is pruned
-            all_stand : 0 < at (d1.entries key).history r → (is_pruned (d1.entries key).history r ≡ true) ⊎ MarkAt r V.number (λ t. is_member V t ≡ true) (d1.entries key)
+            all_stand : 0 < at (last_ticking.entries key).history r → (is_pruned (last_ticking.entries key).history r ≡ true) ⊎ MarkAt r V.number (λ t. is_member V t ≡ true) (last_ticking.entries key)
             all_stand more =
-                let same_b2 : at (c1_node.entries key).history r ≡ at (b2.entries key).history r = same_count B2 s2.calm_after b2 runs_b2 t1.fate in
-                let n1 = is_n D1 lead d1 r runs_d1 in let n2 = is_n C1 lead c1_node r runs_c1 in let n3 = full3.0 r in
-                by (marked_or_pruned B2 s2.calm_after b2 runs_b2 t1.fate (omega arith))
+                let same_first_ticking : at (first_ticked.entries key).history r ≡ at (first_ticking.entries key).history r = same_count swept_twice second_sweep.calm_after first_ticking runs_first_ticking first_tick.fate in
+                let n1 = is_n swept_again lead last_ticking r runs_last_ticking in let n2 = is_n ticked_once lead first_ticked r runs_first_ticked in let n3 = full_swept_again.0 r in
+                by (marked_or_pruned swept_twice second_sweep.calm_after first_ticking runs_first_ticking first_tick.fate (omega arith))
               where
-                same_lead : (is_pruned (c1_node.entries key).history r ≡ true) → is_pruned (d1.entries key).history r ≡ true
+                same_lead : (is_pruned (first_ticked.entries key).history r ≡ true) → is_pruned (last_ticking.entries key).history r ≡ true
                 same_lead p =
-                    let s = sweep_same D members keys V lead lead_member E1.events tells key decl declared os are_others C1 t1.calm_after ran_C1 met_D1 end_D1.0 end_D1.1 c1_node runs_c1 covered3 in
-                    let same : s.e ≡ d1 = same_some (D1.world.nodes lead) s.e d1 s.runs_e runs_d1 in
+                    let s = sweep_same D members keys V lead lead_member swept_last.events tells key decl declared others are_others ticked_once first_tick.calm_after ran_ticked_once met_swept_again end_swept_again.0 end_swept_again.1 first_ticked runs_first_ticked covered_ticked_once in
+                    let same : s.e ≡ last_ticking = same_some (swept_again.world.nodes lead) s.e last_ticking s.runs_e runs_last_ticking in
                     subst (λ (x : Node Kind Op Shown). is_pruned (x.entries key).history r ≡ true) same (ap (λ (H : History Op). is_pruned H r) s.same ∙ p)
 
-                each_has : (t : ℕ) → Among os t → 0 < n C1 t r
+                each_has : (t : ℕ) → Among others t → 0 < n ticked_once t r
                 each_has t m =
-                    let a = tick_others B2 C1 b2 t1 t m r in let b = full2.1 t m r in let c = is_n B2 lead b2 r runs_b2 in
-                    let same_b2 : at (c1_node.entries key).history r ≡ at (b2.entries key).history r = same_count B2 s2.calm_after b2 runs_b2 t1.fate in
-                    let n1 = is_n D1 lead d1 r runs_d1 in let n2 = is_n C1 lead c1_node r runs_c1 in let n3 = full3.0 r in
+                    let a = tick_others swept_twice ticked_once first_ticking first_tick t m r in let b = full_swept_twice.1 t m r in let c = is_n swept_twice lead first_ticking r runs_first_ticking in
+                    let same_first_ticking : at (first_ticked.entries key).history r ≡ at (first_ticking.entries key).history r = same_count swept_twice second_sweep.calm_after first_ticking runs_first_ticking first_tick.fate in
+                    let n1 = is_n swept_again lead last_ticking r runs_last_ticking in let n2 = is_n ticked_once lead first_ticked r runs_first_ticked in let n3 = full_swept_again.0 r in
                     let h = more in omega arith
 
-                with_mark : MarkAt r V.number (λ t. ⊥) (c1_node.entries key) → is_pruned (c1_node.entries key).history r ≡ false → MarkAt r V.number (λ t. is_member V t ≡ true) (d1.entries key)
+                with_mark : MarkAt r V.number (λ t. ⊥) (first_ticked.entries key) → is_pruned (first_ticked.entries key).history r ≡ false → MarkAt r V.number (λ t. is_member V t ≡ true) (last_ticking.entries key)
                 with_mark m unpruned =
-                    let s = sweep_marks D members keys V lead lead_member E1.events tells key decl declared os are_others C1 t1.calm_after ran_C1 met_D1 end_D1.0 end_D1.1 r (λ t. ⊥) small_r c1_node runs_c1 covered3 each_has unpruned m in
-                    let same : s.e ≡ d1 = same_some (D1.world.nodes lead) s.e d1 s.runs_e runs_d1 in
-                    let own = sees_own D members keys V D1.world s3.calm_after lead s.e s.runs_e key r s.marked.mark s.marked.is (let z = s.marked.now in omega arith) in
+                    let s = sweep_marks D members keys V lead lead_member swept_last.events tells key decl declared others are_others ticked_once first_tick.calm_after ran_ticked_once met_swept_again end_swept_again.0 end_swept_again.1 r (λ t. ⊥) small_r first_ticked runs_first_ticked covered_ticked_once each_has unpruned m in
+                    let same : s.e ≡ last_ticking = same_some (swept_again.world.nodes lead) s.e last_ticking s.runs_e runs_last_ticking in
+                    let own = sees_own D members keys V swept_again.world third_sweep.calm_after lead s.e s.runs_e key r s.marked.mark s.marked.is (let z = s.marked.now in omega arith) in
                     subst (λ (x : Node Kind Op Shown). MarkAt r V.number (λ t. is_member V t ≡ true) (x.entries key)) same
                     (record {
                       mark = s.marked.mark;
@@ -448,21 +436,21 @@ module _ {Kind Op Shown : Type 0} (D : Replication Kind Op Shown) (members : ℕ
                       seen = λ t member. elim (eqb_tells t lead) [ inl is ↦ ap s.marked.mark.seen is.1 ∙ own | inr isnt ↦ s.marked.seen t (inl (among t member isnt.1)) ];
                     })
 
-                by : (is_pruned (c1_node.entries key).history r ≡ true) ⊎ MarkAt r V.number (λ t. ⊥) (c1_node.entries key) → (is_pruned (d1.entries key).history r ≡ true) ⊎ MarkAt r V.number (λ t. is_member V t ≡ true) (d1.entries key)
+                by : (is_pruned (first_ticked.entries key).history r ≡ true) ⊎ MarkAt r V.number (λ t. ⊥) (first_ticked.entries key) → (is_pruned (last_ticking.entries key).history r ≡ true) ⊎ MarkAt r V.number (λ t. is_member V t ≡ true) (last_ticking.entries key)
                 by (inl p) = inl (same_lead p)
-                by (inr m) = is_or_isnt (is_pruned (c1_node.entries key).history r) ((is_pruned (d1.entries key).history r ≡ true) ⊎ MarkAt r V.number (λ t. is_member V t ≡ true) (d1.entries key)) (λ p. inl (same_lead p)) (λ u. inr (with_mark m u))
+                by (inr m) = is_or_isnt (is_pruned (first_ticked.entries key).history r) ((is_pruned (last_ticking.entries key).history r ≡ true) ⊎ MarkAt r V.number (λ t. is_member V t ≡ true) (last_ticking.entries key)) (λ p. inl (same_lead p)) (λ u. inr (with_mark m u))
 
             -- at the end it is pruned or blocked
-            pub all_blocked : (e : Node Kind Op Shown) → E1.world.nodes lead ≡ Some e → 0 < at (e.entries key).history r → is_pruned (e.entries key).history r ≡ false → IsSome (D.data_type.blocked decl.kind lead r (e.entries key).history)
+            pub all_blocked : (e : Node Kind Op Shown) → swept_last.world.nodes lead ≡ Some e → 0 < at (e.entries key).history r → is_pruned (e.entries key).history r ≡ false → IsSome (D.data_type.blocked decl.kind lead r (e.entries key).history)
             all_blocked e runs more unpruned =
-                let s = sweep_same D members keys V lead lead_member E1.events tells key decl declared os are_others C2 t2.calm_after ran_C2 met end_E1.0 end_E1.1 c2_node runs_c2 covered4 in
-                let same : s.e ≡ e = same_some (E1.world.nodes lead) s.e e s.runs_e runs in
-                let history : (e.entries key).history ≡ (c2_node.entries key).history = ap (λ (x : Node Kind Op Shown). (x.entries key).history) (sym same) ∙ s.same in
-                let count : at (e.entries key).history r ≡ at (d1.entries key).history r = ap (λ (H : History Op). at H r) history ∙ same_count D1 s3.calm_after d1 runs_d1 t2.fate in
-                let more_d1 : 0 < at (d1.entries key).history r = omega arith in
+                let s = sweep_same D members keys V lead lead_member swept_last.events tells key decl declared others are_others ticked_twice last_tick.calm_after ran_ticked_twice met end_swept_last.0 end_swept_last.1 last_ticked runs_last_ticked covered_ticked_twice in
+                let same : s.e ≡ e = same_some (swept_last.world.nodes lead) s.e e s.runs_e runs in
+                let history : (e.entries key).history ≡ (last_ticked.entries key).history = ap (λ (x : Node Kind Op Shown). (x.entries key).history) (sym same) ∙ s.same in
+                let count : at (e.entries key).history r ≡ at (last_ticking.entries key).history r = ap (λ (H : History Op). at H r) history ∙ same_count swept_again third_sweep.calm_after last_ticking runs_last_ticking last_tick.fate in
+                let more_last_ticking : 0 < at (last_ticking.entries key).history r = omega arith in
                 subst (λ (H : History Op). IsSome (D.data_type.blocked decl.kind lead r H)) (sym history)
-                (by (blocked_or_pruned D1 s3.calm_after d1 runs_d1 t2.fate (all_stand more_d1) more_d1) (ap (λ (H : History Op). is_pruned H r) (sym history) ∙ unpruned))
+                (by (blocked_or_pruned swept_again third_sweep.calm_after last_ticking runs_last_ticking last_tick.fate (all_stand more_last_ticking) more_last_ticking) (ap (λ (H : History Op). is_pruned H r) (sym history) ∙ unpruned))
               where
-                by : (is_pruned (c2_node.entries key).history r ≡ true) ⊎ IsSome (D.data_type.blocked decl.kind lead r (c2_node.entries key).history) → is_pruned (c2_node.entries key).history r ≡ false → IsSome (D.data_type.blocked decl.kind lead r (c2_node.entries key).history)
-                by (inl p) u = absurd (both_ways (is_pruned (c2_node.entries key).history r) p u)
+                by : (is_pruned (last_ticked.entries key).history r ≡ true) ⊎ IsSome (D.data_type.blocked decl.kind lead r (last_ticked.entries key).history) → is_pruned (last_ticked.entries key).history r ≡ false → IsSome (D.data_type.blocked decl.kind lead r (last_ticked.entries key).history)
+                by (inl p) u = absurd (both_ways (is_pruned (last_ticked.entries key).history r) p u)
                 by (inr b) u = b

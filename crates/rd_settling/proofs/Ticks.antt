@@ -23,7 +23,7 @@ use Rattle.rd_model.specs.Entry.Outcome.{Newer}
 use Rattle.rd_model.proofs.Cases.{ticked_mark, ticked_seen, performed_unless, with_tick, entry_after_tick_of}
 use Rattle.rd_runs.proofs.Growth.{part_with_record}
 use Rattle.rd_settling.specs.Settling.{BlockedStays}
-use Rattle.rd_operations.proofs.Lists.{find_in, in_any, same_number}
+use Rattle.rd_operations.proofs.Lists.{find_in, in_any, same_number, to_filter}
 use Rattle.rd_settling.proofs.Merging.{MarkAt, UpTo}
 
 pub pruned_grows : {Op : Type 0} (H J : History Op) (r : ℕ) → IsPartOf H J → is_pruned H r ≡ true → is_pruned J r ≡ true
@@ -260,12 +260,3 @@ pub in_removed : (view : View) (r : ℕ) → r < view.given → is_member view r
 in_removed view r given stranger =
     let plain : 0 + r ≡ r = omega arith in
     to_filter (λ i. not (is_member view i)) (range_with_len 0 view.given) r (r, range_at 0 view.given r given ∙ ap Some plain) (ap not stranger)
-  where
-    to_filter : (p : ℕ → Bool) (xs : List ℕ) (x : ℕ) → IsIn xs x → p x ≡ true → IsIn (filter p xs) x
-    to_filter p [] x h e = absurd (cc h.1)
-    to_filter p (y ∷ xs) x (zero, is) e = let same : y ≡ x = cc is in subst (λ (b : Bool). IsIn (if b then y ∷ filter p xs else filter p xs) x) (sym (ap p same ∙ e)) (zero, is)
-    to_filter p (y ∷ xs) x (suc k, is) e = by_test (p y) (to_filter p xs x (k, is) e)
-      where
-        by_test : (b : Bool) → IsIn (filter p xs) x → IsIn (if b then y ∷ filter p xs else filter p xs) x
-        by_test true h = (suc h.0, h.1)
-        by_test false h = h
