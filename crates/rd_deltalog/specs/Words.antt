@@ -1,7 +1,10 @@
 -- What was answered, which clauses speak of.
+use Rattle.std.specs.Prelude.{◌≡◌, length, IsSome}
 use Rattle.rd_envelope.specs.declared.group.Group.{Group}
 use Rattle.rd_lattice.specs.declared.replica.Replica.{Ghosts}
 use Rattle.rd_deltalog.specs.Answers.{Answer}
+use Rattle.rd_deltalog.specs.Contents.{LogParts}
+use Rattle.rd_deltalog.specs.declared.delta_log.NextRecord.{NextRecord}
 use Rattle.rd_deltalog.specs.declared.grouped.Grouped.{Grouped}
 use Rattle.rd_deltalog.specs.declared.grouped.Grouped.TheVariants as variant
 
@@ -17,3 +20,7 @@ module _ {T Kind Op Delta : Type 0} {ghosts : Ghosts T Kind Op Delta} where
   abbrev pub IfGroup : Grouped T Kind Op Delta ghosts → (Group T Kind Op Delta ghosts → Type 0) → Type 0
   IfGroup (variant.Group group) P = P group
   IfGroup _ P = Unit {0}
+
+-- the first record of a log brings room for all
+abbrev pub HasRoom : {Kind Delta : Type 0} → LogParts Kind Delta → NextRecord Delta → Type 0
+HasRoom parts next = length parts.records ≡ 0 → IsSome next.room.spare

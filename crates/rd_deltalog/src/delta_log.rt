@@ -1,6 +1,6 @@
 use crate::combining::combined;
 use crate::grouped::Grouped;
-use crate::recent::Recent;
+use crate::recent::{Recent, Room};
 use rd_envelope::Group;
 use rd_lattice::Replica;
 use rd_vectors::{Id, Memory, Seq, VersionVector};
@@ -35,6 +35,13 @@ impl<D> OwnRecord<D> {
     }
 }
 
+/// An own record on its way into a log, with the room that it needs.
+#[derive(Drop)]
+pub struct NextRecord<D> {
+    record: OwnRecord<D>,
+    room: Room<OwnRecord<D>>,
+}
+
 /// The last 50 of a member's own records of one key. Contracts see its parts.
 #[derive(Drop)]
 pub struct DeltaLog<T: Replica> {
@@ -60,7 +67,7 @@ impl<T: Replica> Model for DeltaLog<T> {
 }
 
 impl<T: Replica> DeltaLog<T> {
-    ghost use Rattle.std.specs.Prelude.{◌≡◌, ◌≤◌, ◌^◌, ℕ, ◌+◌, ◌↔◌, [], true, Some, None, IfOk, OnOk, OnErr};
+    ghost use Rattle.std.specs.Prelude.{◌≡◌, ◌<◌, ◌≤◌, ◌^◌, ℕ, ◌+◌, ◌↔◌, [], true, Some, None, IfOk};
     ghost use Rattle.rd_history.specs.History.{History, IsHistory, at};
     ghost use Rattle.rd_history.specs.History.Action.{Operation};
     ghost use Rattle.rd_history.specs.Log.{IsTakenFrom};
@@ -75,7 +82,7 @@ impl<T: Replica> DeltaLog<T> {
     ghost use Rattle.rd_deltalog.specs.Contents.{appended, answer_by, IsMadeOf, IsDeltaFor};
     ghost use Rattle.rd_deltalog.specs.Answers.{answer_for};
     ghost use Rattle.rd_deltalog.specs.Answers.Answer.{AsGroup};
-    ghost use Rattle.rd_deltalog.specs.Words.{answer_in, IfGroup};
+    ghost use Rattle.rd_deltalog.specs.Words.{answer_in, IfGroup, HasRoom};
     ghost use Rattle.rd_deltalog.specs.Images.{StandsForLog};
 
     /// A log without records of an origin, for a key of this kind. Its last number is 0.
@@ -91,30 +98,36 @@ impl<T: Replica> DeltaLog<T> {
         }
     }
 
-    /// Adds the origin's next record: its number, the records that the member had before it, and its delta, or nothing
-    /// for a prune. The oldest goes where more than 50 would be kept.
-    pub fn append(
-        &mut self,
-        seq: Seq,
+    /// The origin's next record: the records that the member had before it, and its delta, or nothing for a prune.
+    pub fn prepare(
+        &self,
         before: VersionVector,
         delta: Option<T::Delta>,
-    ) -> Result<(), Memory>
-        requires next { seq ≡ self.old.last + 1 }
-        requires small { seq ≤ 2 ^ 62 }
-        requires fits { IsDeltaFor T.IsOfOrigin T.delta_fits_kind self.old.kind self.old.origin delta }
-        ensures value { OnOk result (self.new ≡ appended self.old before delta) }
-        ensures operation { (log : History T.Op) (entry : Entry T.Op) (op : T.Op) (made : T.Delta) → StandsForLog T.IsDeltaOf self.old log entry
-            → IsTakenFrom log (with_action entry self.old.origin (Operation op)).history → ((i : ℕ) → number_at before i ≡ at entry.history i)
-            → delta ≡ Some made → T.IsDeltaOf made log self.old.origin (at entry.history self.old.origin) (at entry.history self.old.origin + 1)
-            → OnOk result (StandsForLog T.IsDeltaOf self.new log (with_action entry self.old.origin (Operation op))) }
-        ensures prune { (log : History T.Op) (entry : Entry T.Op) (removed : ℕ) → StandsForLog T.IsDeltaOf self.old log entry
-            → IsTakenFrom log (with_prune entry self.old.origin removed).history → ((i : ℕ) → number_at before i ≡ at entry.history i) → delta ≡ None
-            → OnOk result (StandsForLog T.IsDeltaOf self.new log (with_prune entry self.old.origin removed)) }
-        ensures err { OnErr result (self.new ≡ self.old) }
+    ) -> Result<NextRecord<T::Delta>, Memory>
+        ensures record { IfOk result (λ next. next.record ≡ record { before = before; delta = delta }) }
+        ensures room { IfOk result (HasRoom self.now) }
     {
-        self.records.push(OwnRecord { before, delta })?;
-        self.last = seq;
-        Ok(())
+        let room = self.records.room()?;
+        let record = OwnRecord { before, delta };
+        Ok(NextRecord { record, room })
+    }
+
+    /// Adds the origin's next record, which takes no memory. The oldest goes where more than 50 would be kept.
+    pub fn add(&mut self, next: NextRecord<T::Delta>)
+        requires small { self.old.last < 2 ^ 62 }
+        requires fits { IsDeltaFor T.IsOfOrigin T.delta_fits_kind self.old.kind self.old.origin next.record.delta }
+        requires room { HasRoom self.old next }
+        ensures value { self.new ≡ appended self.old next.record.before next.record.delta }
+        ensures operation { (log : History T.Op) (entry : Entry T.Op) (op : T.Op) (made : T.Delta) → StandsForLog T.IsDeltaOf self.old log entry
+            → IsTakenFrom log (with_action entry self.old.origin (Operation op)).history → ((i : ℕ) → number_at next.record.before i ≡ at entry.history i)
+            → next.record.delta ≡ Some made → T.IsDeltaOf made log self.old.origin (at entry.history self.old.origin) (at entry.history self.old.origin + 1)
+            → StandsForLog T.IsDeltaOf self.new log (with_action entry self.old.origin (Operation op)) }
+        ensures prune { (log : History T.Op) (entry : Entry T.Op) (removed : ℕ) → StandsForLog T.IsDeltaOf self.old log entry
+            → IsTakenFrom log (with_prune entry self.old.origin removed).history → ((i : ℕ) → number_at next.record.before i ≡ at entry.history i) → next.record.delta ≡ None
+            → StandsForLog T.IsDeltaOf self.new log (with_prune entry self.old.origin removed) }
+    {
+        self.records.push(next.record, next.room);
+        self.last += 1;
     }
 
     /// The records after a number, up to the last, as one group.

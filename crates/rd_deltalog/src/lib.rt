@@ -8,6 +8,6 @@ mod recent;
 #[cfg(test)]
 mod tests;
 
-pub use delta_log::{DeltaLog, OwnRecord};
+pub use delta_log::{DeltaLog, NextRecord, OwnRecord};
 pub use grouped::Grouped;
 pub use recent::MOST_KEPT;

@@ -6,8 +6,6 @@ mod flag;
 mod register;
 mod set;
 mod spelling;
-#[cfg(test)]
-mod tests;
 mod timestamp;
 
 pub use flag::{Flag, SwitchedOn};

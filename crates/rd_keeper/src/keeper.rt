@@ -1,4 +1,4 @@
-ghost use Rattle.std.specs.Prelude.{◌≡◌, ℕ, Bool, List, [], IfOk};
+ghost use Rattle.std.specs.Prelude.{◌≡◌, ℕ, Bool, List, [], IfOk, is_some};
 ghost use Rattle.std.specs.declared.option.Option.{Option};
 ghost use Rattle.rd_keeper.specs.Tables.{Table, put_all};
 ghost use Rattle.rd_keeper.specs.Calls.{Becomes, Changes, Joins, IsCaused, Gives};
@@ -59,4 +59,7 @@ pub trait Keeper {
         ensures table { Changes (table self.old) (table self.new) (λ _. []) result }
         ensures answers { Joins (answers self.old) (answers self.new) result }
         ensures cause { IsCaused (faults self.old) (faults self.new) result };
+
+    // Each keeper of a type tells its table, or none does: what is not told before a call is not told after it.
+    ghost tells_alike: { (a b : Self) → is_some (table a) ≡ is_some (table b) };
 }

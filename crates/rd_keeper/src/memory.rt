@@ -50,7 +50,7 @@ impl MemoryKeeper {
 }
 
 impl Keeper for MemoryKeeper {
-    ghost use Rattle.std.specs.Prelude.{Some};
+    ghost use Rattle.std.specs.Prelude.{Some, refl};
     ghost use Rattle.rd_keeper.specs.InMemory.{answers_of};
 
     ghost table = { λ k. Some k.table };
@@ -58,6 +58,8 @@ impl Keeper for MemoryKeeper {
     ghost answers = { λ k. Some (answers_of k.calls) };
 
     ghost faults = { λ k. k.calls.faults };
+
+    ghost tells_alike = { λ _ _. refl };
 
     fn store(&mut self, entries: &[Stored]) -> Result<(), KeeperError>
         ensures ok { OnOk result (self.new.table ≡ put_all self.old.table entries.now) }

@@ -38,13 +38,15 @@ impl Broken {
 }
 
 impl Keeper for Broken {
-    ghost use Rattle.std.specs.Prelude.{None};
+    ghost use Rattle.std.specs.Prelude.{None, refl};
 
     ghost table = { λ _. None };
 
     ghost answers = { λ _. None };
 
     ghost faults = { λ k. k.faults };
+
+    ghost tells_alike = { λ _ _. refl };
 
     fn store(&mut self, _entries: &[Stored]) -> Result<(), KeeperError> {
         self.fail()
@@ -67,13 +69,15 @@ struct Late {
 }
 
 impl Keeper for Late {
-    ghost use Rattle.std.specs.Prelude.{None};
+    ghost use Rattle.std.specs.Prelude.{None, refl};
 
     ghost table = { λ _. None };
 
     ghost answers = { λ _. None };
 
     ghost faults = { λ k. k.taken.calls.faults };
+
+    ghost tells_alike = { λ _ _. refl };
 
     fn store(&mut self, entries: &[Stored]) -> Result<(), KeeperError> {
         self.taken.store(entries)

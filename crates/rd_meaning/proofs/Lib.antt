@@ -6,3 +6,4 @@ pub mod TouchesMean
 pub mod TimestampsMean
 pub mod Meanings
 pub mod Spelled
+pub mod Ordered

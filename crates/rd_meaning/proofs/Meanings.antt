@@ -10,12 +10,12 @@ use Rattle.rd_meanings.specs.ObservedRemove.{is_live, live_elements}
 use Rattle.rd_kinds.specs.SixKinds.{added, enables, set_operations}
 use Rattle.rd_kinds.specs.declared.operation.Op.{Op}
 use Rattle.rd_meaning.specs.declared.record.Record.{Record}
-use Rattle.rd_meaning.specs.Records.{action_of, stamped, AreRecordsOf}
+use Rattle.rd_meaning.specs.Records.{action_of, stamped, AreInOrder}
 use Rattle.rd_meaning.specs.Touching.{is_shown}
 use Rattle.rd_meaning.proofs.Walks.{sum_by-map, filter_map-map, list_any-map, filter-same}
 use Rattle.rd_meaning.proofs.TouchesMean.{is_shown_means}
 
-module _ (records : List Record) (H : History Op) (are : AreRecordsOf records H) where
+module _ (records : List Record) (H : History Op) (are : AreInOrder records H) where
   pub total_means : (amount : Op → ℕ) → sum_by (λ (r : Record). amount_of amount (action_of r.action)) records ≡ total amount H
   total_means amount = sym (sum_by-map stamped (λ (x : Stamped Op). amount_of amount x.action) records) ∙ ap (sum_by (λ (x : Stamped Op). amount_of amount x.action)) are.listed
 

@@ -1,6 +1,7 @@
 -- Every history is spelled by a list of records.
-use Rattle.std.proofs.Common.{◌≡◌, ℕ, zero, suc, ◌≤◌, List, [], ◌∷◌, length, map, refl, ap, sym, ◌∙◌, arith, Some, inl, inr}
-use Rattle.std.specs.Prelude.{slice_get}
+use Rattle.std.proofs.Common.{◌≡◌, ℕ, zero, suc, ◌≤◌, List, [], ◌∷◌, length, map, refl, ap, sym, ◌∙◌, subst, arith, Some, inl, inr}
+use Rattle.std.specs.Prelude.{slice_get, IsPermutation}
+use Rattle.std.proofs.lemmas.List.Sorted.{IsPermutation-refl}
 use Rattle.std.proofs.lemmas.Bool.{cases_lt}
 use Rattle.rd_history.specs.Table.{identity_limit}
 use Rattle.rd_history.specs.History.{Action as Meant, Stamped, History, all_records, IsHistory}
@@ -48,4 +49,4 @@ module _ (H : History Op) (history : IsHistory H) where
   same_record x belongs = λ j. record { origin = x.origin; number = x.number; action = same_action x.action j; past = λ i. same_past x belongs i j }
 
   pub spelled : (records : List Record) × AreRecordsOf records H
-  spelled = (map as_record (all_records H), record { history = history; listed = map_back (all_records H) (λ k x at. same_record x (k, at)) })
+  spelled = (map as_record (all_records H), record { history = history; listed = subst (λ xs. IsPermutation (map stamped (map as_record (all_records H))) xs) (map_back (all_records H) (λ k x at. same_record x (k, at))) (IsPermutation-refl (map stamped (map as_record (all_records H)))) })

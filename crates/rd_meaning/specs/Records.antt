@@ -1,5 +1,5 @@
 -- Lists of records, and the histories that they spell.
-use Rattle.std.specs.Prelude.{◌≡◌, List, map}
+use Rattle.std.specs.Prelude.{◌≡◌, List, map, IsPermutation}
 use Rattle.rd_history.specs.History.{Action as Meant, History, Stamped, all_records, IsHistory}
 use Rattle.rd_vectors.specs.Vectors.{number_at}
 use Rattle.rd_kinds.specs.declared.operation.Op.{Op}
@@ -15,7 +15,12 @@ action_of (Prune removed) = Meant.Prune removed
 abbrev pub stamped : Record → Stamped Op
 stamped r = record { origin = r.origin; number = r.number; action = action_of r.action; past = number_at r.past }
 
--- the list is every record of a history, by origin and then by number
+-- the list is each record of a history once, in any order
 pub record AreRecordsOf (records : List Record) (H : History Op) : Type 0 where
+  pub history : IsHistory H
+  pub listed : IsPermutation (map stamped records) (all_records H)
+
+-- the list is each record of a history once, by origin and then by number
+pub record AreInOrder (records : List Record) (H : History Op) : Type 0 where
   pub history : IsHistory H
   pub listed : map stamped records ≡ all_records H

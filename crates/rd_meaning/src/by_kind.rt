@@ -2,7 +2,7 @@ ghost use Rattle.std.specs.Prelude.{◌≡◌, IfOk, pos, neg_ℤ, ◌+ℤ◌};
 ghost use Rattle.rd_history.specs.History.{History};
 ghost use Rattle.rd_kinds.specs.SixKinds as kinds;
 ghost use Rattle.rd_kinds.specs.declared.shown.Shown.TheVariants.{Signed};
-ghost use Rattle.rd_meaning.specs.Records.{AreRecordsOf};
+ghost use Rattle.rd_meaning.specs.Records.{AreRecordsOf, AreInOrder};
 
 use crate::counts::{decrements, increments};
 use crate::elements::{added_elements, live_elements};
@@ -30,9 +30,27 @@ fn difference(added: u128, taken: u128) -> Result<Shown, Memory>
     Ok(Shown::Signed(signed(added)? - signed(taken)?))
 }
 
-/// What a history of a kind shows. The records are those of the history, by origin and then by number.
-pub fn meaning(alloc: Global, kind: Kind, records: &[Record]) -> Result<Shown, Memory>
-    ensures { (H : History Op) → AreRecordsOf records.now H → IfOk result (λ shown. shown ≡ kinds.shown kind H) }
+/// The records by origin and then by number.
+fn in_order(mut records: Vec<Record>) -> Result<Vec<Record>, Memory>
+    ensures { (H : History Op) → AreRecordsOf records.items H → IfOk result (λ sorted. AreInOrder sorted.items H) }
+{
+    match records.sort_by_key(|one| (one.origin.number(), one.number)) {
+        Ok(()) => Ok(records),
+        Err(_) => Err(Memory),
+    }
+}
+
+/// What a history of a kind shows. The records are those of the history, each once, in any order.
+pub fn meaning(alloc: Global, kind: Kind, records: Vec<Record>) -> Result<Shown, Memory>
+    ensures { (H : History Op) → AreRecordsOf records.items H → IfOk result (λ shown. shown ≡ kinds.shown kind H) }
+{
+    let sorted = in_order(records)?;
+    meaning_in_order(alloc, kind, &sorted)
+}
+
+/// What a history shows whose records stand by origin and then by number.
+fn meaning_in_order(alloc: Global, kind: Kind, records: &[Record]) -> Result<Shown, Memory>
+    ensures { (H : History Op) → AreInOrder records.now H → IfOk result (λ shown. shown ≡ kinds.shown kind H) }
 {
     match kind {
         Kind::GCounter => Ok(Shown::Count(increments(records))),

@@ -23,6 +23,7 @@ use Rattle.rd_vectors.specs.Vectors.{number_at}
 use Rattle.rd_markers.specs.Marks.{performed_in}
 use Rattle.rd_kinds.specs.declared.shown.Shown.{Shown}
 use Rattle.rd_lattice.specs.declared.replica.Replica.{Ghosts}
+use Rattle.rd_keeper.specs.declared.keeper.Keeper.{Ghosts as Keeping}
 use Rattle.rd_envelope.specs.Words.{parts_of}
 use Rattle.rd_node.specs.declared.node.Node.{Node}
 use Rattle.rd_node.specs.declared.key.KeyState.{KeyState}
@@ -186,13 +187,13 @@ module _ {Kind Op : Type 0} (D : Replication Kind Op Shown) (node : nodes.Node K
 
 -- MEMBERS
 
-module _ {T Kind Op Delta : Type 0} {ghosts : Ghosts T Kind Op Delta} (kind_of : T → Kind) (IsDataOf : T → History Op → VersionVector → IdentitySet → Type 0) (kinds : Text → Kind) (logs : Text → History Op)
-    (code : Node T Kind Op Delta ghosts) (node : nodes.Node Kind Op Shown) (s : StandsForNode kind_of IsDataOf kinds logs code node) where
-  peers_are : others (one_step_later node).view (one_step_later node).identity ≡ peers_of code.id code.members.items
-  peers_are = λ i. filter (λ j. not (j == s.identity i)) (s.members i)
+module _ {T K Kind Op Delta : Type 0} {ghosts : Ghosts T Kind Op Delta} {keeping : Keeping K} (kind_of : T → Kind) (IsDataOf : T → History Op → VersionVector → IdentitySet → Type 0) (kinds : Text → Kind) (logs : Text → History Op)
+    (code : Node T K Kind Op Delta ghosts keeping) (node : nodes.Node Kind Op Shown) (s : StandsForNode kind_of IsDataOf kinds logs code node) where
+  peers_are : others (one_step_later node).view (one_step_later node).identity ≡ peers_of code.id (identities_of code.view)
+  peers_are = λ i. filter (λ j. not (j == s.identity i)) (identities_of (s.view i))
 
   flushed_is : (state : KeyState T Kind Op Delta) (entry : model.Entry Op) (before : VersionVector) → performed_in (parts_of state.entry).marks code.id ≡ false → StandsForKey kind_of IsDataOf ghosts.IsDeltaOf kinds logs state entry before
-      → (i : ℕ) → flushed_to (own_number code.id state) (peers_of code.id code.members.items) (number_at state.flushed i) i
+      → (i : ℕ) → flushed_to (own_number code.id state) (peers_of code.id (identities_of code.view)) (number_at state.flushed i) i
       ≡ (if list_any (λ j. j == i) (others (one_step_later node).view (one_step_later node).identity) then at entry.history (one_step_later node).identity else before i)
   flushed_is state entry before unpruned stands i =
       let own : own_number code.id state ≡ at entry.history code.id = stands.held.image.holds.numbers code.id ∙ uncleaned (performed_in (parts_of state.entry).marks) (versions entry.history) code.id unpruned in
@@ -200,7 +201,7 @@ module _ {T Kind Op Delta : Type 0} {ghosts : Ghosts T Kind Op Delta} (kind_of :
       ∙ ap (λ id. if list_any (λ j. j == i) (others (one_step_later node).view (one_step_later node).identity) then at entry.history id else before i) (sym s.identity)
 
   pub stands_flushed : (state : KeyState T Kind Op Delta) (change : Change T Kind Op Delta) (entry : model.Entry Op) (before : VersionVector) → performed_in (parts_of state.entry).marks code.id ≡ false
-      → IsFlush code.id code.members.items state change → StandsForKey kind_of IsDataOf ghosts.IsDeltaOf kinds logs state entry before
+      → IsFlush code.id (identities_of code.view) state change → StandsForKey kind_of IsDataOf ghosts.IsDeltaOf kinds logs state entry before
       → StandsForKey kind_of IsDataOf ghosts.IsDeltaOf kinds logs (changed state change) entry (λ i. if list_any (λ j. j == i) (others (one_step_later node).view (one_step_later node).identity) then at entry.history (one_step_later node).identity else before i)
   stands_flushed state Same entry before unpruned flush stands = absurd flush
   stands_flushed state (Entry e) entry before unpruned flush stands = absurd flush
@@ -212,7 +213,7 @@ module _ {T Kind Op Delta : Type 0} {ghosts : Ghosts T Kind Op Delta} (kind_of :
   }
 
 -- what the keys hold when a flush begins
-module _ {T Kind Op Delta : Type 0} {ghosts : Ghosts T Kind Op Delta} (IsDataOf : T → History Op → VersionVector → IdentitySet → Type 0) (kinds : Text → Kind) (logs : Text → History Op) (code : Node T Kind Op Delta ghosts) (node : nodes.Node Kind Op Shown)
+module _ {T K Kind Op Delta : Type 0} {ghosts : Ghosts T Kind Op Delta} {keeping : Keeping K} (IsDataOf : T → History Op → VersionVector → IdentitySet → Type 0) (kinds : Text → Kind) (logs : Text → History Op) (code : Node T K Kind Op Delta ghosts keeping) (node : nodes.Node Kind Op Shown)
     (s : StandsForNode ghosts.kind_of IsDataOf kinds logs code node) where
   pub held_by : All (IsHeldBy ghosts.kind_of IsDataOf ghosts.IsDeltaOf kinds logs code.id (one_step_later node)) code.keys.items
   held_by k d within = record { identity = s.identity; unpruned = code.unpruned k d within; own = code.logged k d within; held = s.entries k d within }

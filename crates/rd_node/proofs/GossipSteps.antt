@@ -1,23 +1,21 @@
 -- Steps of gossip, in the model and at a member.
-use Rattle.std.proofs.Common.{◌≡◌, ℕ, List, refl, sym, ap, ◌∙◌, subst, Bool, true, false, not, ◌&&◌, ◌||◌}
-use Rattle.std.specs.Prelude.{◌==◌, if◌then◌else◌, map, All}
-use Rattle.std.specs.List.{list_any}
+use Rattle.std.proofs.Common.{◌≡◌, ℕ, List, refl, sym, ap, ◌∙◌, Bool, true, false, not, ◌&&◌, ◌||◌}
+use Rattle.std.specs.Prelude.{◌==◌, if◌then◌else◌, All}
 use Rattle.rd_history.specs.Texts.{Text}
 use Rattle.rd_history.specs.Vector.{VersionVector, IdentitySet}
 use Rattle.rd_history.specs.History.{History}
 use Rattle.rd_model.specs.View.{is_member}
 use Rattle.rd_model.specs.DataType.{Replication}
-use Rattle.rd_model.specs.Message.{Message as Sent}
 use Rattle.rd_model.specs.Node as nodes
 use Rattle.rd_model.specs.Node.{Input, Fate, one_step_later}
 use Rattle.rd_model.specs.Node.Reply.{Done, NotAPeer}
 use Rattle.rd_model.specs.Step.{step, answered, sent, answer_to, status_of}
 use Rattle.rd_kinds.specs.declared.shown.Shown.{Shown}
 use Rattle.rd_lattice.specs.declared.replica.Replica.{Ghosts}
+use Rattle.rd_keeper.specs.declared.keeper.Keeper.{Ghosts as Keeping}
 use Rattle.rd_messages.specs.declared.message.Keyed.{Keyed}
 use Rattle.rd_messages.specs.declared.message.Message.{Message}
 use Rattle.rd_messages.specs.declared.message.Message.TheVariants.{Deltas, Nack, Status, Gossip}
-use Rattle.rd_messages.specs.Standing.{digest_told, StandsForMessage}
 use Rattle.rd_node.specs.declared.node.Node.{Node}
 use Rattle.rd_node.specs.declared.key.KeyState.{KeyState}
 use Rattle.rd_node.specs.Answers.{is_status}
@@ -44,12 +42,12 @@ neither a b p is = go a b ∙ sym (ap not is)
     go true b = refl
     go false b = refl
 
-module _ {T Kind Op Delta : Type 0} {ghosts : Ghosts T Kind Op Delta} (kind_of : T → Kind) (IsDataOf : T → History Op → VersionVector → IdentitySet → Type 0) (kinds : Text → Kind) (logs : Text → History Op)
-    (code : Node T Kind Op Delta ghosts) (node : nodes.Node Kind Op Shown) (s : StandsForNode kind_of IsDataOf kinds logs code node) where
+module _ {T K Kind Op Delta : Type 0} {ghosts : Ghosts T Kind Op Delta} {keeping : Keeping K} (kind_of : T → Kind) (IsDataOf : T → History Op → VersionVector → IdentitySet → Type 0) (kinds : Text → Kind) (logs : Text → History Op)
+    (code : Node T K Kind Op Delta ghosts keeping) (node : nodes.Node Kind Op Shown) (s : StandsForNode kind_of IsDataOf kinds logs code node) where
   -- who is no peer
-  pub no_peer_is : (to : ℕ) (p q : Bool) → p ≡ (not (to == code.id) && list_any (λ j. j == to) code.members.items) → p ≡ q → ((to == node.identity) || not (is_member node.view to)) ≡ not q
+  pub no_peer_is : (to : ℕ) (p q : Bool) → p ≡ (not (to == code.id) && is_member code.view to) → p ≡ q → ((to == node.identity) || not (is_member node.view to)) ≡ not q
   no_peer_is to p q is same =
-      (λ i. (to == s.identity i) || not (member_is kind_of IsDataOf kinds logs code node s to i)) ∙ neither (to == code.id) (list_any (λ j. j == to) code.members.items) p is ∙ ap not same
+      (λ i. (to == s.identity i) || not (member_is kind_of IsDataOf kinds logs code node s to i)) ∙ neither (to == code.id) (is_member code.view to) p is ∙ ap not same
 
   pub holds_first : All (HoldsKey kind_of IsDataOf kinds logs (one_step_later node)) code.keys.items
   holds_first = λ k d within. record { kind = (s.entries k d within).kind; held = (s.entries k d within).held }
@@ -59,10 +57,6 @@ module _ {T Kind Op Delta : Type 0} (kind_of : T → Kind) (IsDataOf : T → His
   holds_held held = λ k d within. record { kind = held.of_kinds k d within; held = held.held k d within }
 
 -- MESSAGES
-
-module _ {T Kind Op Delta : Type 0} {ghosts : Ghosts T Kind Op Delta} (kind_of : T → Kind) (IsDataOf : T → History Op → VersionVector → IdentitySet → Type 0) (kinds : Text → Kind) (logs : Text → History Op) where
-  pub status_sent : (message : Message T Kind Op Delta ghosts) (digests : List (Keyed (List ℕ))) (sent : Sent Op) → message ≡ Status digests → StandsForMessage kind_of IsDataOf kinds logs message sent → sent ≡ Sent.Status (map digest_told digests)
-  status_sent message digests sent is stands = subst (λ m. StandsForMessage {ghosts = ghosts} kind_of IsDataOf kinds logs m sent) is stands
 
 pub no_status : {T Kind Op Delta : Type 0} {ghosts : Ghosts T Kind Op Delta} (message : Message T Kind Op Delta ghosts) → ((digests : List (Keyed (List ℕ))) → message ≡ Status digests → ⊥) → is_status message ≡ false
 no_status (Deltas groups entries) other = refl

@@ -1,5 +1,5 @@
 -- Answers of a log that are no group.
-use Rattle.std.proofs.Common.{◌≡◌, refl, Bool, true, false}
+use Rattle.std.proofs.Common.{◌≡◌, refl}
 use Rattle.rd_lattice.specs.declared.replica.Replica.{Ghosts}
 use Rattle.rd_envelope.specs.declared.group.Group.{Group}
 use Rattle.rd_deltalog.specs.Answers.Answer.{AsGroup}

@@ -1,44 +1,51 @@
 -- Members with the same fields are the same, whatever the proofs beside them.
-use Rattle.std.proofs.Common.{◌≡◌, ℕ, ◌≤◌, List, true, ◌==◌}
-use Rattle.std.specs.List.{list_any}
+use Rattle.std.proofs.Common.{◌≡◌, ℕ, ◌≤◌, List}
 use Rattle.std.proofs.Math.Bridge.{le_prop}
 use Rattle.std.proofs.Math.Nat.{ℕ_set}
 use mathlib.Core.HLevel.{is_prop→PathP}
 use mathlib.Core.Bool.{Bool-set}
 use Rattle.rd_lattice.specs.declared.replica.Replica.{Ghosts}
+use Rattle.rd_keeper.specs.declared.keeper.Keeper.{Ghosts as Keeping}
 use Rattle.rd_node.specs.declared.node.Node.{Node}
 use Rattle.rd_node.specs.declared.key.KeyState.{KeyState}
-use Rattle.rd_node.specs.Own.{HasFewOwn, IsUnpruned, AreLogged}
-
-few_once : {T Kind Op Delta : Type 0} (id steps : ℕ) (keys : List (KeyState T Kind Op Delta)) → IsProp (HasFewOwn id steps keys)
-few_once id steps keys = hlevel (le_prop)
-
-unpruned_once : {T Kind Op Delta : Type 0} (id : ℕ) (keys : List (KeyState T Kind Op Delta)) → IsProp (IsUnpruned id keys)
-unpruned_once id keys = hlevel (Bool-set)
-
--- where kinds are a set
-logged_once : {T Kind Op Delta : Type 0} → IsSet Kind → (kind_of : T → Kind) (id : ℕ) (keys : List (KeyState T Kind Op Delta)) → IsProp (AreLogged kind_of id keys)
-logged_once kinds kind_of id keys = hlevel (kinds, ℕ_set)
-
-member_once : (id : ℕ) (members : List ℕ) → IsProp (list_any (λ i. i == id) members ≡ true)
-member_once id members = hlevel (Bool-set)
+use Rattle.rd_node.specs.Own.{HasFewOwn, IsUnpruned, AreLogged, AreOfTheirKinds}
+use Rattle.rd_node.specs.Keys.{AreDistinctKeys}
+use Rattle.rd_node.specs.Steps.{IsOtherwiseSame}
 
 steps_once : (steps : ℕ) → IsProp (steps ≤ 16384)
 steps_once steps = hlevel (le_prop)
 
-module _ {T Kind Op Delta : Type 0} {ghosts : Ghosts T Kind Op Delta} where
-  -- the keys alone may be written another way
-  pub same_node : IsSet Kind → (a b : Node T Kind Op Delta ghosts) → a.alloc ≡ b.alloc → a.id ≡ b.id → a.view ≡ b.view → a.members ≡ b.members → a.keys ≡ b.keys → a.steps ≡ b.steps → a ≡ b
-  same_node kinds a b alloc id view members keys steps = λ i. record {
+module _ {T Kind Op Delta : Type 0} where
+  few_once : (id steps : ℕ) (keys : List (KeyState T Kind Op Delta)) → IsProp (HasFewOwn id steps keys)
+  few_once id steps keys = hlevel (le_prop)
+
+  unpruned_once : (id : ℕ) (keys : List (KeyState T Kind Op Delta)) → IsProp (IsUnpruned id keys)
+  unpruned_once id keys = hlevel (Bool-set)
+
+  distinct_once : (keys : List (KeyState T Kind Op Delta)) → IsProp (AreDistinctKeys keys)
+  distinct_once keys = hlevel (ℕ_set)
+
+  -- where kinds are a set
+  logged_once : IsSet Kind → (kind_of : T → Kind) (id : ℕ) (keys : List (KeyState T Kind Op Delta)) → IsProp (AreLogged kind_of id keys)
+  logged_once kinds kind_of id keys = hlevel (kinds, ℕ_set)
+
+  kinds_once : IsSet Kind → (kind_of : T → Kind) (keys : List (KeyState T Kind Op Delta)) → IsProp (AreOfTheirKinds kind_of keys)
+  kinds_once kinds kind_of keys = hlevel (kinds)
+
+module _ {T K Kind Op Delta : Type 0} {ghosts : Ghosts T Kind Op Delta} {keeping : Keeping K} where
+  -- the keeper alone is another
+  pub same_otherwise : IsSet Kind → (old new : Node T K Kind Op Delta ghosts keeping) → new.alloc ≡ old.alloc → new.id ≡ old.id → new.view ≡ old.view → new.keys ≡ old.keys → new.steps ≡ old.steps → IsOtherwiseSame old new
+  same_otherwise kinds old new alloc id view keys steps = λ i. record {
     alloc = alloc i;
     id = id i;
     view = view i;
-    members = members i;
     keys = keys i;
     steps = steps i;
-    member = is_prop→PathP (λ j. list_any (λ k. k == id j) (members j).items ≡ true) (λ j. member_once (id j) (members j).items) a.member b.member i;
-    few_steps = is_prop→PathP (λ j. steps j ≤ 16384) (λ j. steps_once (steps j)) a.few_steps b.few_steps i;
-    few_own = is_prop→PathP (λ j. HasFewOwn (id j) (steps j) (keys j).items) (λ j. few_once (id j) (steps j) (keys j).items) a.few_own b.few_own i;
-    unpruned = is_prop→PathP (λ j. IsUnpruned (id j) (keys j).items) (λ j. unpruned_once (id j) (keys j).items) a.unpruned b.unpruned i;
-    logged = is_prop→PathP (λ j. AreLogged ghosts.kind_of (id j) (keys j).items) (λ j. logged_once kinds ghosts.kind_of (id j) (keys j).items) a.logged b.logged i;
+    keeper = new.keeper;
+    few_steps = is_prop→PathP (λ j. steps j ≤ 16384) (λ j. steps_once (steps j)) new.few_steps old.few_steps i;
+    few_own = is_prop→PathP (λ j. HasFewOwn (id j) (steps j) (keys j).items) (λ j. few_once (id j) (steps j) (keys j).items) new.few_own old.few_own i;
+    unpruned = is_prop→PathP (λ j. IsUnpruned (id j) (keys j).items) (λ j. unpruned_once (id j) (keys j).items) new.unpruned old.unpruned i;
+    logged = is_prop→PathP (λ j. AreLogged ghosts.kind_of (id j) (keys j).items) (λ j. logged_once kinds ghosts.kind_of (id j) (keys j).items) new.logged old.logged i;
+    of_kinds = is_prop→PathP (λ j. AreOfTheirKinds ghosts.kind_of (keys j).items) (λ j. kinds_once kinds ghosts.kind_of (keys j).items) new.of_kinds old.of_kinds i;
+    distinct = is_prop→PathP (λ j. AreDistinctKeys (keys j).items) (λ j. distinct_once (keys j).items) new.distinct old.distinct i;
   }

@@ -2,7 +2,7 @@
 use Rattle.std.proofs.Common.{max, ◌≡◌, ◌≢◌, ℕ, ◌+◌, ◌<◌, ◌≤◌, refl, sym, ap, ◌∙◌, subst, arith, inl, inr, Bool, true, false}
 use Rattle.std.specs.Prelude.{Result, Ok, Err, OnOk, OnErr, if◌then◌else◌, ◌==◌}
 use Rattle.std.proofs.lemmas.Bool.{cases_eq, cases_lt, eq-eqb}
-use Rattle.std.proofs.lemmas.Bool.Decides.{Decides-eqb, eqb_tells}
+use Rattle.std.proofs.lemmas.Bool.Decides.{eqb_tells}
 use Rattle.rd_history.specs.Table.{identity_limit, with_at}
 use Rattle.rd_vectors.specs.Vectors.{Numbers, number_at, raised, removed, IsNormal}
 use Rattle.rd_vectors.proofs.Laws.{number_at-raised_same, number_at-raised_other, number_at-numbers_of, number_at-numbers_of_above, number_at_above}

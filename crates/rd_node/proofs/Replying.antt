@@ -22,10 +22,12 @@ use Rattle.rd_messages.specs.declared.message.Keyed.{Keyed}
 use Rattle.rd_messages.specs.declared.message.Message.{Message}
 use Rattle.rd_messages.specs.declared.message.Message.TheVariants.{Deltas, Nack, Status, Gossip}
 use Rattle.rd_messages.specs.Sketches.{groups_of, entries_of, names_of}
-use Rattle.rd_messages.specs.Standing.{StandsForKeyed, StandsForKeyedGroup, StandsForMessage, StandsForPost, StandsForPosts}
+use Rattle.rd_messages.specs.Standing.{StandsForKeyed, StandsForPost, StandsForPosts}
 use Rattle.rd_node.specs.Answers.{reply_to, is_status, only_asks, nack_of, gossip_of, answers_of}
 use Rattle.rd_node.specs.declared.key.KeyState.{KeyState}
 use Rattle.rd_node.specs.Keys.{declared_by}
+use Rattle.rd_node.specs.Inputs.{StandsForTaken, TellsGroups, TellsEntries}
+use Rattle.rd_node.specs.Inputs.Tells.{nothing}
 use Rattle.rd_node.specs.Taking.{gap_told}
 use Rattle.rd_node.proofs.Flushes.{any_mapped}
 
@@ -60,23 +62,23 @@ module _ {Kind Op : Type 0} (D : Replication Kind Op Shown) where
     pub ends : stepped.output.ended ≡ None
 
   -- a message of the program
-  pub record Brings {T Delta : Type 0} {ghosts : Ghosts T Kind Op Delta} (kind_of : T → Kind) (IsDataOf : T → History Op → VersionVector → IdentitySet → Type 0) (kinds : Text → Kind) (logs : Text → History Op) (node : nodes.Node Kind Op Shown) (from : ℕ)
+  pub record Brings {T Delta : Type 0} {ghosts : Ghosts T Kind Op Delta} (kinds : Text → Kind) (logs : Text → History Op) (keys : List (KeyState T Kind Op Delta)) (node : nodes.Node Kind Op Shown) (from : ℕ)
       (message : Message T Kind Op Delta ghosts) (sent : Sent Op) : Type 0 where
     pub sent_groups : List (sending.Keyed (model.Group Op))
     pub sent_entries : List (sending.Keyed (model.Entry Op))
-    pub groups_stand : AllZip (StandsForKeyedGroup kinds logs) (groups_of message) sent_groups
-    pub entries_stand : AllZip (StandsForKeyed kind_of IsDataOf kinds logs) (entries_of message) sent_entries
+    pub groups_stand : TellsGroups ghosts kinds logs keys (groups_of message) sent_groups
+    pub entries_stand : TellsEntries ghosts kinds logs keys (entries_of message) sent_entries
     pub takes : Takes node from sent_groups sent_entries (names_of message) (only_asks message) (step_of_take D node from Fate.NoStore sent)
 
-  pub brings : {T Delta : Type 0} {ghosts : Ghosts T Kind Op Delta} (kind_of : T → Kind) (IsDataOf : T → History Op → VersionVector → IdentitySet → Type 0) (kinds : Text → Kind) (logs : Text → History Op) (node : nodes.Node Kind Op Shown) (from : ℕ)
-      (message : Message T Kind Op Delta ghosts) (sent : Sent Op) → StandsForMessage kind_of IsDataOf kinds logs message sent → is_status message ≡ false → Brings kind_of IsDataOf kinds logs node from message sent
-  brings kind_of IsDataOf kinds logs node from (Deltas groups entries) sent s other =
-      let gs = s.sent_groups in
-      let es = s.sent_entries in
+  pub brings : {T Delta : Type 0} {ghosts : Ghosts T Kind Op Delta} (kinds : Text → Kind) (logs : Text → History Op) (keys : List (KeyState T Kind Op Delta)) (node : nodes.Node Kind Op Shown) (from : ℕ)
+      (message : Message T Kind Op Delta ghosts) (sent : Sent Op) → StandsForTaken kinds logs keys message sent → is_status message ≡ false → Brings kinds logs keys node from message sent
+  brings kinds logs keys node from (Deltas groups entries) sent s other =
+      let gs = s.told_groups in
+      let es = s.told_entries in
       let after = after_groups node gs in
       record {
-        sent_groups = s.sent_groups;
-        sent_entries = s.sent_entries;
+        sent_groups = s.told_groups;
+        sent_entries = s.told_entries;
         groups_stand = s.groups_stand;
         entries_stand = s.entries_stand;
         takes = subst (λ m. Takes node from gs es [] false (step_of_take D node from Fate.NoStore m)) (sym s.is) (record {
@@ -86,20 +88,20 @@ module _ {Kind Op : Type 0} (D : Replication Kind Op Shown) where
           posts = sym (ap (λ named. nack_to D from after.gaps ++ gossip_to D from named []) (none_named (after_entries after.node es)) ∙ append-nil (nack_to D from after.gaps));
         });
       }
-  brings kind_of IsDataOf kinds logs node from (Nack keys) sent s other = record {
+  brings kinds logs keys node from (Nack names) sent s other = record {
     sent_groups = [];
     sent_entries = [];
-    groups_stand = tt;
-    entries_stand = tt;
-    takes = subst (λ m. Takes node from [] [] keys true (step_of_take D node from Fate.NoStore m)) (sym s) (record { next = refl; reply = refl; posts = refl; ends = refl });
+    groups_stand = nothing;
+    entries_stand = nothing;
+    takes = subst (λ m. Takes node from [] [] names true (step_of_take D node from Fate.NoStore m)) (sym s) (record { next = refl; reply = refl; posts = refl; ends = refl });
   }
-  brings kind_of IsDataOf kinds logs node from (Status digests) sent s other = absurd (cc other)
-  brings kind_of IsDataOf kinds logs node from (Gossip entries wants) sent s other = record {
+  brings kinds logs keys node from (Status digests) sent s other = absurd (cc other)
+  brings kinds logs keys node from (Gossip entries wants) sent s other = record {
     sent_groups = [];
-    sent_entries = s.sent_entries;
-    groups_stand = tt;
+    sent_entries = s.told_entries;
+    groups_stand = nothing;
     entries_stand = s.entries_stand;
-    takes = subst (λ m. Takes node from [] s.sent_entries wants false (step_of_take D node from Fate.NoStore m)) (sym s.is) (record { next = refl; reply = refl; posts = refl; ends = refl });
+    takes = subst (λ m. Takes node from [] s.told_entries wants false (step_of_take D node from Fate.NoStore m)) (sym s.is) (record { next = refl; reply = refl; posts = refl; ends = refl });
   }
 
   -- THE REPLY

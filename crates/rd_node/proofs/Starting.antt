@@ -1,6 +1,6 @@
 -- A member before its first step.
-use Rattle.std.proofs.Common.{◌≡◌, ℕ, List, [], get_or, refl, sym, ap, ◌∙◌, subst, arith, Option, Some, None}
-use Rattle.std.specs.Prelude.{map, find, option_map, All}
+use Rattle.std.proofs.Common.{◌≡◌, ℕ, List, get_or, refl, sym, ap, ◌∙◌, subst, arith, Bool, true, false, Option, Some, None}
+use Rattle.std.specs.Prelude.{if◌then◌else◌, unwrap_or, map, find, option_map, All}
 use Rattle.std.specs.Str.{bytes_eq}
 use Rattle.std.specs.FinMap.{get-empty}
 use Rattle.std.specs.Ordering.{nat_cmp}
@@ -10,8 +10,8 @@ use Rattle.std.proofs.lemmas.Simd.{map-map}
 use Rattle.rd_history.specs.Texts.{Text}
 use Rattle.rd_history.specs.Vector.{VersionVector, IdentitySet}
 use Rattle.rd_history.specs.History.{History, IsHistory}
-use Rattle.rd_model.specs.View.{View, identities_of}
-use Rattle.rd_model.specs.Entry.{Entry, empty_entry}
+use Rattle.rd_model.specs.View.{View}
+use Rattle.rd_model.specs.Entry.{Entry, empty_entry, seen_by}
 use Rattle.rd_model.specs.Node as nodes
 use Rattle.rd_model.specs.World.{loaded_entry, loaded_node, no_entries}
 use Rattle.rd_vectors.specs.Vectors.{Numbers, number_at}
@@ -19,6 +19,7 @@ use Rattle.rd_vectors.proofs.Laws.{number_at-empty}
 use Rattle.rd_markers.specs.Marks.{Marks, is_performed, performed_in}
 use Rattle.rd_kinds.specs.declared.shown.Shown.{Shown}
 use Rattle.rd_lattice.specs.declared.replica.Replica.{Ghosts}
+use Rattle.rd_keeper.specs.declared.keeper.Keeper.{Ghosts as Keeping}
 use Rattle.rd_envelope.specs.Images.{StandsFor}
 use Rattle.rd_envelope.specs.Words.{parts_of}
 use Rattle.rd_deltalog.specs.Contents.{LogParts}
@@ -26,7 +27,7 @@ use Rattle.rd_deltalog.specs.Images.{StandsForLog}
 use Rattle.rd_node.specs.declared.node.Node.{Node}
 use Rattle.rd_node.specs.declared.key.KeyDecl.{KeyDecl}
 use Rattle.rd_node.specs.declared.key.KeyState.{KeyState}
-use Rattle.rd_node.specs.Own.{HasFewOwn, IsUnpruned, AreLogged}
+use Rattle.rd_node.specs.Own.{HasFewOwn, IsUnpruned, AreLogged, AreOfTheirKinds}
 use Rattle.rd_node.specs.Fresh.{IsFresh}
 use Rattle.rd_node.specs.Keys.{AreDistinct, AreOfKinds, declared, declared_by}
 use Rattle.rd_node.specs.Members.{StandsForNode}
@@ -46,23 +47,37 @@ module _ {T Kind Op Delta : Type 0} (kind_of : T → Kind) (IsDataOf : T → His
     last = ap (λ (parts : LogParts Kind Delta). parts.last) f.log ∙ sym (ap (λ (m : Numbers). number_at m id) f.versions ∙ number_at-empty id);
   }
 
--- no key is durable, so nothing was loaded
+-- the data are of the declared kinds
+pub kinds_fresh : {T Kind Op Delta : Type 0} (kind_of : T → Kind) (IsDataOf : T → History Op → VersionVector → IdentitySet → Type 0) (IsDeltaOf : Delta → History Op → ℕ → ℕ → ℕ → Type 0) (id : ℕ) (states : List (KeyState T Kind Op Delta)) → All (IsFresh kind_of IsDataOf IsDeltaOf id) states → AreOfTheirKinds kind_of states
+kinds_fresh kind_of IsDataOf IsDeltaOf id states fresh k d within = (fresh k d within).kind_is
+
+-- the names are those that were declared
+pub names_fresh : {T Kind Op Delta : Type 0} (states : List (KeyState T Kind Op Delta)) (decls : List (KeyDecl T Kind Op Delta)) → map declared_by states ≡ map declared decls
+    → map (λ (state : KeyState T Kind Op Delta). state.name) states ≡ map (λ (decl : KeyDecl T Kind Op Delta). decl.key) decls
+names_fresh {T} {Kind} {Op} {Delta} states decls same =
+    sym (map-map (λ (decl : nodes.KeyDecl Kind). decl.name) declared_by states) ∙ ap (map (λ (decl : nodes.KeyDecl Kind). decl.name)) same ∙ map-map (λ (decl : nodes.KeyDecl Kind). decl.name) declared decls
+
+-- where nothing is kept, nothing is loaded
 nothing_loaded : {T Kind Op Delta : Type 0} (id : ℕ) (view : View) (decls : List (KeyDecl T Kind Op Delta)) (name : Text) → (loaded_node {Op = Op} {Shown = Shown} (map declared decls) id view no_entries).entries name ≡ empty_entry
 nothing_loaded {T} {Kind} {Op} {Delta} id view decls name =
     ap (loaded_entry {Op = Op} id view no_entries) (find-map (λ (decl : nodes.KeyDecl Kind). bytes_eq decl.name name) declared decls) ∙ go (find (λ (decl : KeyDecl T Kind Op Delta). bytes_eq decl.key name) decls)
   where
     go : (o : Option (KeyDecl T Kind Op Delta)) → loaded_entry {Op = Op} id view no_entries (option_map declared o) ≡ empty_entry
     go None = refl
-    go (Some decl) = refl
+    go (Some decl) = by decl.durable
+      where
+        by : (b : Bool) → (if b then seen_by id view.number (unwrap_or None (empty_entry {Op = Op})) else empty_entry) ≡ empty_entry
+        by true = refl
+        by false = refl
 
-module _ {T Kind Op Delta : Type 0} {ghosts : Ghosts T Kind Op Delta} (kind_of : T → Kind) (IsDataOf : T → History Op → VersionVector → IdentitySet → Type 0) (kinds : Text → Kind) (logs : Text → History Op) where
+module _ {T K Kind Op Delta : Type 0} {ghosts : Ghosts T Kind Op Delta} {keeping : Keeping K} (kind_of : T → Kind) (IsDataOf : T → History Op → VersionVector → IdentitySet → Type 0) (kinds : Text → Kind) (logs : Text → History Op) where
   -- its keys are those that are declared, and fresh
-  pub stands_first : (code : Node T Kind Op Delta ghosts) (decls : List (KeyDecl T Kind Op Delta)) (view : View)
+  pub stands_first : (code : Node T K Kind Op Delta ghosts keeping) (decls : List (KeyDecl T Kind Op Delta)) (view : View)
       → map declared_by code.keys.items ≡ map declared decls → All (IsFresh kind_of IsDataOf ghosts.IsDeltaOf code.id) code.keys.items → AreDistinct (map (λ (decl : KeyDecl T Kind Op Delta). decl.key) decls)
       → ((key : Text) → IsHistory (logs key)) → AreOfKinds kinds decls
-      → view.number ≡ code.view → identities_of view ≡ code.members.items → code.steps ≡ 0
+      → view ≡ code.view → code.steps ≡ 0
       → StandsForNode kind_of IsDataOf kinds logs code (loaded_node (map declared decls) code.id view no_entries)
-  stands_first code decls view same fresh distinct histories of_kinds numbered members steps =
+  stands_first code decls view same fresh distinct histories of_kinds viewed steps =
       let keys = code.keys.items in
       let names : map (λ (state : KeyState T Kind Op Delta). state.name) keys ≡ map (λ (decl : KeyDecl T Kind Op Delta). decl.key) decls =
       sym (map-map (λ (decl : nodes.KeyDecl Kind). decl.name) declared_by keys) ∙ ap (map (λ (decl : nodes.KeyDecl Kind). decl.name)) same ∙ map-map (λ (decl : nodes.KeyDecl Kind). decl.name) declared decls in
@@ -70,8 +85,7 @@ module _ {T Kind Op Delta : Type 0} {ghosts : Ghosts T Kind Op Delta} (kind_of :
       subst (All (λ (decl : nodes.KeyDecl Kind). kinds decl.name ≡ decl.kind)) (sym same) (All-map (λ (decl : nodes.KeyDecl Kind). kinds decl.name ≡ decl.kind) declared decls of_kinds) in
       record {
         identity = refl;
-        view = numbered;
-        members = members;
+        view = viewed;
         keys = sym same;
         distinct = subst AreDistinct (sym names) distinct;
         entries = λ k d within.

@@ -1,28 +1,19 @@
 -- What a member stands for after a step that writes at every key.
-use Rattle.std.proofs.Common.{◌≡◌, ℕ, suc, ◌+◌, ◌<◌, ◌≤◌, List, [], ◌∷◌, length, get_or, refl, sym, ap, ◌∙◌, subst, arith, false}
+use Rattle.std.proofs.Common.{◌≡◌, ℕ, suc, ◌<◌, ◌≤◌, List, [], ◌∷◌, length, get_or, refl, sym, ap, ◌∙◌, subst, arith, false}
 use Rattle.std.specs.Prelude.{map}
 use Rattle.std.specs.Vec.{with_items}
 use Rattle.std.specs.declared.vec.Vec.{Vec}
 use Rattle.std.proofs.lemmas.List.{with_items_is}
-use Rattle.rd_history.specs.Texts.{Text}
-use Rattle.rd_history.specs.Vector.{VersionVector, IdentitySet}
-use Rattle.rd_history.specs.History.{History}
-use Rattle.rd_model.specs.View.{identities_of}
-use Rattle.rd_model.specs.Node as nodes
 use Rattle.rd_markers.specs.Marks.{performed_in}
-use Rattle.rd_kinds.specs.declared.shown.Shown.{Shown}
-use Rattle.rd_lattice.specs.declared.replica.Replica.{Ghosts}
 use Rattle.rd_envelope.specs.Words.{parts_of}
 use Rattle.rd_deltalog.specs.Contents.{LogParts}
-use Rattle.rd_node.specs.declared.node.Node.{Node}
 use Rattle.rd_node.specs.declared.key.KeyState.{KeyState}
 use Rattle.rd_node.specs.declared.change.Change.{Change}
 use Rattle.rd_node.specs.declared.change.Change.TheVariants.{Same, Entry, Flushed}
 use Rattle.rd_node.specs.Own.{HasFewOwn, IsUnpruned, IsLogged, AreLogged}
-use Rattle.rd_node.specs.Keys.{AreDistinct, declared_by}
+use Rattle.rd_node.specs.Keys.{declared_by}
 use Rattle.rd_node.specs.Sending.{own_number}
 use Rattle.rd_node.specs.Changes.{changed, AreChanged, AreMade}
-use Rattle.rd_node.specs.Members.{StandsForKey, StandsForNode}
 
 -- lists that f can't tell apart, place by place
 pub map-places : {X Y : Type 0} (f : X → Y) (xs ys : List X) → length ys ≡ length xs → ((k : ℕ) (d : X) → k < length xs → f (get_or ys k d) ≡ f (get_or xs k d)) → map f ys ≡ map f xs
@@ -88,31 +79,3 @@ module _ {T Kind Op Delta : Type 0} where
   unpruned_changed Makes id old new changes stays made after unpruned k d within =
       let inside : k < length old = (let l = after.same_length in omega arith) in
       ap (λ (state : KeyState T Kind Op Delta). performed_in (parts_of state.entry).marks id) (after.each k d Same inside) ∙ stays _ _ (made.made k d Same inside) (unpruned k d inside)
-
-module _ {T Kind Op Delta : Type 0} {ghosts : Ghosts T Kind Op Delta} (kind_of : T → Kind) (IsDataOf : T → History Op → VersionVector → IdentitySet → Type 0) (kinds : Text → Kind) (logs : Text → History Op)
-    (code : Node T Kind Op Delta ghosts) (node : nodes.Node Kind Op Shown) (s : StandsForNode kind_of IsDataOf kinds logs code node) where
-  -- each key stands for what the next state has of it
-  pub stands_changed : (new : Node T Kind Op Delta ghosts) (end next : nodes.Node Kind Op Shown) → end ≡ next → (changes : List (Change T Kind Op Delta))
-      → new.id ≡ code.id → new.view ≡ code.view → new.members.items ≡ code.members.items → new.steps ≡ code.steps + 1
-      → next.identity ≡ node.identity → next.view ≡ node.view → next.keys ≡ node.keys → next.steps ≡ node.steps + 1
-      → AreChanged code.keys.items changes new.keys.items
-      → ((k : ℕ) (d : KeyState T Kind Op Delta) → k < length code.keys.items → StandsForKey kind_of IsDataOf ghosts.IsDeltaOf kinds logs (get_or code.keys.items k d) (node.entries (get_or code.keys.items k d).name) (node.flushed (get_or code.keys.items k d).name)
-      → StandsForKey kind_of IsDataOf ghosts.IsDeltaOf kinds logs (changed (get_or code.keys.items k d) (get_or changes k Same)) (next.entries (get_or code.keys.items k d).name) (next.flushed (get_or code.keys.items k d).name))
-      → StandsForNode kind_of IsDataOf kinds logs new end
-  stands_changed new end next same changes id view members steps identity' view' keys' steps' after each =
-      subst (λ n. StandsForNode kind_of IsDataOf kinds logs new n) (sym same) (record {
-        identity = identity' ∙ s.identity ∙ sym id;
-        view = ap (λ v. v.number) view' ∙ s.view ∙ sym view;
-        members = ap identities_of view' ∙ s.members ∙ sym members;
-        keys = keys' ∙ s.keys ∙ sym (map-places declared_by code.keys.items new.keys.items after.same_length (λ k d within. ap declared_by (after.each k d Same within) ∙ same_declared _ _));
-        distinct = subst AreDistinct (sym (map-places (λ (state : KeyState T Kind Op Delta). state.name) code.keys.items new.keys.items after.same_length
-            (λ k d within. ap (λ (state : KeyState T Kind Op Delta). state.name) (after.each k d Same within) ∙ same_name _ _))) s.distinct;
-        entries = λ k d within.
-            let inside : k < length code.keys.items = (let l = after.same_length in omega arith) in
-            let state = get_or code.keys.items k d in
-            let change = get_or changes k Same in
-            subst (λ (state : KeyState T Kind Op Delta). StandsForKey kind_of IsDataOf ghosts.IsDeltaOf kinds logs state (next.entries state.name) (next.flushed state.name)) (sym (after.each k d Same inside))
-            (subst (λ name. StandsForKey kind_of IsDataOf ghosts.IsDeltaOf kinds logs (changed (get_or code.keys.items k d) (get_or changes k Same)) (next.entries name) (next.flushed name)) (sym (same_name (get_or code.keys.items k d) (get_or changes k Same)))
-            (each k d inside (s.entries k d inside)));
-        steps = steps' ∙ ap (λ n. n + 1) s.steps ∙ sym steps;
-      })

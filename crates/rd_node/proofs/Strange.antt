@@ -1,21 +1,17 @@
 -- Strange entries, and histories without prunes.
-use Rattle.std.proofs.Common.{◌≡◌, ℕ, refl, sym, ap, ◌∙◌, Bool, true, false, inl, inr}
+use Rattle.std.proofs.Common.{◌≡◌, ℕ, sym, ap, ◌∙◌, false, inl, inr}
 use Rattle.std.specs.Prelude.{nat_lt, ◌||◌}
 use Rattle.std.proofs.lemmas.Bool.{cases_Bool}
 use Rattle.rd_history.proofs.CutLaws.{uncleaned}
 use mathlib.Core.Bool.{or-true, or-false}
-use Rattle.rd_history.specs.Texts.{Text}
 use Rattle.rd_history.specs.Vector.{VersionVector, IdentitySet}
-use Rattle.rd_history.specs.History.{History, at, versions, union, is_pruned, IsExactlyPruned}
-use Rattle.rd_history.specs.Log.{IsTakenFrom}
-use Rattle.rd_history.proofs.PartLaws.{in_whole, taken_union}
+use Rattle.rd_history.specs.History.{History, at, versions, is_pruned}
 use Rattle.rd_model.specs.Entry as model
 use Rattle.rd_model.specs.Step.{is_entry_passed_over}
 use Rattle.rd_vectors.specs.Vectors.{number_at}
 use Rattle.rd_markers.specs.Marks.{performed_in}
 use Rattle.rd_envelope.specs.Images.{Parts, StandsFor}
 use Rattle.rd_envelope.proofs.Entries.{pruned_is}
-use Rattle.rd_node.specs.Members.{ArePruneFree}
 
 -- ENTRIES
 
@@ -36,12 +32,3 @@ module _ {State Op : Type 0} (D : State → History Op → VersionVector → Ide
             ∙ (λ i. nat_lt (mine i) (theirs i))
             ∙ sym (ap (λ b. nat_lt (at before.history id) (at other.history id) || b) (sym pruned ∙ stays) ∙ or-false (nat_lt (at before.history id) (at other.history id)))
       ]
-
-  -- histories without prunes, together
-  pub exact_free : (logs : Text → History Op) (key : Text) (H J : History Op) → ArePruneFree logs → IsTakenFrom (logs key) H → IsTakenFrom (logs key) J → IsExactlyPruned (union H J)
-  exact_free logs key H J free h j =
-      let part = (taken_union H J (logs key) h j).part in
-      record {
-        once = λ i k j' m x y r has has' prune prune'. absurd (free key i k x r (in_whole (union H J) (logs key) part i k x has) prune);
-        nothing_more = λ i k x r has prune. absurd (free key i k x r (in_whole (union H J) (logs key) part i k x has) prune);
-      }

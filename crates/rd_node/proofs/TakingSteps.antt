@@ -1,7 +1,5 @@
 -- What a member stands for after it took a message.
-use Rattle.std.proofs.Common.{◌≡◌, ℕ, sym, ap, ◌∙◌, subst, false}
-use Rattle.std.specs.Prelude.{◌==◌}
-use Rattle.std.specs.List.{list_any}
+use Rattle.std.proofs.Common.{◌≡◌, ℕ, sym, ap, ◌∙◌, subst, false, None}
 use Rattle.rd_history.proofs.CutLaws.{uncleaned}
 use Rattle.rd_history.specs.Texts.{Text}
 use Rattle.rd_history.specs.Vector.{VersionVector, IdentitySet}
@@ -13,6 +11,7 @@ use Rattle.rd_model.specs.Node as nodes
 use Rattle.rd_kinds.specs.declared.shown.Shown.{Shown}
 use Rattle.rd_markers.specs.Marks.{performed_in}
 use Rattle.rd_lattice.specs.declared.replica.Replica.{Ghosts}
+use Rattle.rd_keeper.specs.declared.keeper.Keeper.{Ghosts as Keeping}
 use Rattle.rd_envelope.specs.declared.envelope.Envelope.{Envelope}
 use Rattle.rd_envelope.specs.Images.{StandsFor}
 use Rattle.rd_envelope.specs.Words.{parts_of}
@@ -25,13 +24,14 @@ use Rattle.rd_node.specs.declared.change.Change.TheVariants.{Same, Entry, Flushe
 use Rattle.rd_node.specs.Changes.{changed}
 use Rattle.rd_node.specs.Members.{StandsForKey, StandsForNode}
 use Rattle.rd_node.specs.Own.{IsLogged}
+use Rattle.rd_node.specs.Planning.{new_entry}
 use Rattle.rd_node.specs.Taking.{KeepsOwn, IsKept, LeadsTo, AreHeld}
 
-module _ {T Kind Op Delta : Type 0} {ghosts : Ghosts T Kind Op Delta} (kind_of : T → Kind) (IsDataOf : T → History Op → VersionVector → IdentitySet → Type 0) (kinds : Text → Kind) (logs : Text → History Op)
-    (code : Node T Kind Op Delta ghosts) (node : nodes.Node Kind Op Shown) (s : StandsForNode kind_of IsDataOf kinds logs code node) where
+module _ {T K Kind Op Delta : Type 0} {ghosts : Ghosts T Kind Op Delta} {keeping : Keeping K} (kind_of : T → Kind) (IsDataOf : T → History Op → VersionVector → IdentitySet → Type 0) (kinds : Text → Kind) (logs : Text → History Op)
+    (code : Node T K Kind Op Delta ghosts keeping) (node : nodes.Node Kind Op Shown) (s : StandsForNode kind_of IsDataOf kinds logs code node) where
   -- who is a member
-  pub member_is : (from : ℕ) → is_member node.view from ≡ list_any (λ j. j == from) code.members.items
-  member_is from = ap (list_any (λ j. j == from)) s.members
+  pub member_is : (from : ℕ) → is_member node.view from ≡ is_member code.view from
+  member_is from = ap (λ v. is_member v from) s.view
 
   -- what the keys hold when the step begins
   pub held_first : AreHeld kind_of IsDataOf kinds logs code.id code.keys.items node.entries
@@ -62,3 +62,9 @@ module _ {T Kind Op Delta : Type 0} (kind_of : T → Kind) (IsDataOf : T → His
     sent = s.sent;
   }
   stands_after state (Flushed sent) unpruned own kept leads s = absurd leads
+
+  -- a key without another entry has the same in the model
+  pub still_led : (state : KeyState T Kind Op Delta) (change : Change T Kind Op Delta) → LeadsTo IsDataOf logs old new state change → new_entry change ≡ None → new state.name ≡ old state.name
+  still_led state Same leads none = leads
+  still_led state (Entry entry) leads none = absurd (cc none)
+  still_led state (Flushed sent) leads none = absurd leads

@@ -1,5 +1,5 @@
 -- Groups and entries that a member takes, one after another.
-use Rattle.std.proofs.Common.{◌≡◌, ℕ, ◌<◌, List, ◌++◌, length, get_or, sym, ap, ◌∙◌, subst, true, false, Option, None, Some}
+use Rattle.std.proofs.Common.{◌≡◌, ◌≢◌, ℕ, ◌<◌, List, ◌++◌, length, get_or, sym, ap, ◌∙◌, subst, true, false, Option, None, Some}
 use Rattle.std.specs.Prelude.{map, find, option_map, if◌then◌else◌}
 use Rattle.std.specs.Str.{bytes_eq}
 use Rattle.rd_history.specs.Texts.{Text}
@@ -10,7 +10,8 @@ use Rattle.rd_model.specs.Entry.{merged, seen_by}
 use Rattle.rd_model.specs.Message as sending
 use Rattle.rd_model.specs.Node as nodes
 use Rattle.rd_model.specs.Node.{state_of, HasKey}
-use Rattle.rd_model.specs.Step.{AfterGroups, is_entry_passed_over, take_entry, take_group}
+use Rattle.rd_history.specs.Log.{IsTakenFrom}
+use Rattle.rd_model.specs.Step.{AfterGroups, is_entry_passed_over, take_entry, take_group, after_entries}
 use Rattle.rd_model.proofs.Steps.{bytes_eq-same, bytes_eq-tells}
 use Rattle.rd_model.proofs.Taking.{take_entry-only, take_entry-at}
 use Rattle.rd_model.proofs.Cases.{with_taken_entry}
@@ -25,15 +26,17 @@ use Rattle.rd_messages.specs.declared.message.Keyed.{Keyed}
 use Rattle.rd_messages.specs.Standing.{StandsForEntry, StandsForKeyed, StandsForKeyedGroup}
 use Rattle.rd_node.specs.declared.key.KeyState.{KeyState}
 use Rattle.rd_node.specs.declared.change.Change.{Change}
+use Rattle.rd_node.specs.declared.change.Change.TheVariants.{Same}
 use Rattle.rd_node.specs.declared.groups.GroupTaken.{GroupTaken}
+use Rattle.rd_node.specs.Own.{AreOfTheirKinds}
+use Rattle.rd_node.specs.Inputs.{IsEntryPassedOver, IsGroupPassedOver}
 use Rattle.rd_node.specs.Keys.{declared_by}
 use Rattle.rd_node.specs.Changes.{AreMade}
-use Rattle.rd_node.specs.Members.{ArePruneFree}
-use Rattle.rd_node.specs.Taking.{current_of, put_at, IsKept, StandsAfter, LeadsTo, AreHeld, IsAtWork, judged_for, entry_after, lacking_in, gap_told, gaps_at}
+use Rattle.rd_node.specs.Taking.{current_of, put_at, IsKept, StandsAfter, LeadsTo, AreHeld, AreExactAt, IsAtWork, judged_for, entry_after, lacking_in, gap_told, gaps_at}
 use Rattle.rd_node.proofs.Lookup.{IsFound}
 use Rattle.rd_node.proofs.GroupSteps.{Judges, take_group-judges, take_group-undeclared}
-use Rattle.rd_node.proofs.Strange.{exact_free}
-use Rattle.rd_node.proofs.Working.{name_at, made_at, other_name, declared_at, has_key_at, undeclared_in, stands_current, leads_put}
+use Rattle.rd_node.proofs.Growing.{exact_part, taken_one, grows, has_still}
+use Rattle.rd_node.proofs.Working.{current_kind, name_at, made_at, other_name, declared_at, has_key_at, undeclared_in, stands_current, leads_put}
 
 -- where a key stands, and what is held of it in the course of a step
 record IsPlace {T Kind Op Delta : Type 0} (kind_of : T → Kind) (IsDataOf : T → History Op → VersionVector → IdentitySet → Type 0) (kinds : Text → Kind) (logs : Text → History Op) (id : ℕ) (keys : List (KeyState T Kind Op Delta)) (key : Text)
@@ -124,10 +127,10 @@ module _ {T Kind Op Delta : Type 0} (kind_of : T → Kind) (IsDataOf : T → His
     entry_passed none =
         ap (λ o. with_taken_entry node (option_map (state_of node) o) sent.item) (undeclared_in node keys sent.key work.declares (ap (λ key. find (λ (state : KeyState T Kind Op Delta). bytes_eq state.name key) keys) s.same ∙ none))
 
-    module _ (free : ArePruneFree logs) (index : ℕ) (at : KeyState T Kind Op Delta) (change : Change T Kind Op Delta) (found : IsFound (λ (state : KeyState T Kind Op Delta). bytes_eq state.name keyed.key) keys index) (is : at ≡ get_or keys index at)
+    module _ (exact : AreExactAt keys (take_entry node sent).entries) (index : ℕ) (at : KeyState T Kind Op Delta) (change : Change T Kind Op Delta) (found : IsFound (λ (state : KeyState T Kind Op Delta). bytes_eq state.name keyed.key) keys index) (is : at ≡ get_or keys index at)
         (is' : change ≡ get_or changes index change) (mine : Envelope T Kind Op Delta) (same : mine ≡ current_of at change) (taken : Option (Envelope T Kind Op Delta))
         (image : (log : History Op) (before other : model.Entry Op) → performed_in (parts_of mine).marks id ≡ false → kind_of mine.value ≡ kind_of keyed.item.value → StandsFor IsDataOf (parts_of mine) log before
-        → StandsFor IsDataOf (parts_of keyed.item) log other → IsExactlyPruned (union before.history other.history)
+        → StandsFor IsDataOf (parts_of keyed.item) log other → (is_entry_passed_over id before other ≡ false → IsExactlyPruned (union before.history other.history))
         → StandsAfter IsDataOf log taken before (if is_entry_passed_over id before other then before else seen_by id view (merged before other))) where
       here_is : (take_entry node sent).entries at.name ≡ (if is_entry_passed_over id (node.entries at.name) sent.item then node.entries at.name else seen_by id view (merged (node.entries at.name) sent.item))
       here_is =
@@ -150,7 +153,47 @@ module _ {T Kind Op Delta : Type 0} (kind_of : T → Kind) (IsDataOf : T → His
       entry_taken =
           let p = place node work keyed.key index at change found is is' mine same in
           let theirs : StandsFor IsDataOf (parts_of keyed.item) (logs at.name) sent.item = subst (λ key. StandsFor IsDataOf (parts_of keyed.item) (logs key) sent.item) (sym p.named) s.held.image in
-          let exact = exact_free IsDataOf logs at.name (node.entries at.name).history sent.item.history free p.current.taken theirs.taken in
+          let exact_here : IsExactlyPruned ((take_entry node sent).entries at.name).history = subst (λ (state : KeyState T Kind Op Delta). IsExactlyPruned ((take_entry node sent).entries state.name).history) (sym is) (exact index at found.within) in
+          let merges = λ (not_passed : is_entry_passed_over id (node.entries at.name) sent.item ≡ false). subst (λ (e : model.Entry Op). IsExactlyPruned e.history)
+          (here_is ∙ ap (λ b. if b then node.entries at.name else seen_by id view (merged (node.entries at.name) sent.item)) not_passed) exact_here in
           moved node (take_entry node sent) work (take_entry-only node sent) index at found.within is elsewhere_is taken
           (subst (StandsAfter IsDataOf (logs at.name) taken (node.entries at.name)) (sym here_is)
-          (image (logs at.name) (node.entries at.name) sent.item p.unpruned (p.kind ∙ sym s.held.kind) p.current theirs exact))
+          (image (logs at.name) (node.entries at.name) sent.item p.unpruned (p.kind ∙ sym s.held.kind) p.current theirs merges))
+
+-- WHAT IS PASSED OVER
+
+module _ {T Kind Op Delta : Type 0} (ghosts : Ghosts T Kind Op Delta) (id : ℕ) (keys : List (KeyState T Kind Op Delta)) (changes : List (Change T Kind Op Delta)) (kinds : AreOfTheirKinds ghosts.kind_of keys) (kept : AreMade (IsKept ghosts.kind_of id) keys changes)
+    (key : Text) (index : ℕ) (at : KeyState T Kind Op Delta) (change : Change T Kind Op Delta) (found : IsFound (λ (state : KeyState T Kind Op Delta). bytes_eq state.name key) keys index) (is : at ≡ get_or keys index at) (is' : change ≡ get_or changes index change)
+    (mine : Envelope T Kind Op Delta) (same : mine ≡ current_of at change) where
+  mine_kind : ghosts.kind_of mine.value ≡ at.kind
+  mine_kind = ap (λ (e : Envelope T Kind Op Delta). ghosts.kind_of e.value) same ∙ current_kind ghosts.kind_of id keys changes index at change found.within is is' kept kinds
+
+  named_so : at.name ≡ key
+  named_so = ap (λ (state : KeyState T Kind Op Delta). state.name) is ∙ bytes_eq-tells (name_at keys index at) key (found.passes at)
+
+  -- an entry of another kind
+  pub other_kind : (item : Envelope T Kind Op Delta) → IsEntryPassedOver ghosts keys (record { key = key; item = item }) → ghosts.kind_of mine.value ≢ ghosts.kind_of item.value
+  other_kind item passed equal =
+      subst (λ (state : KeyState T Kind Op Delta). state.name ≡ key → state.kind ≢ ghosts.kind_of item.value) (sym is) (passed index at found.within) named_so (sym mine_kind ∙ equal)
+
+  -- a group of another kind
+  pub other_delta : (item : Group T Kind Op Delta ghosts) → IsGroupPassedOver ghosts keys (record { key = key; item = item }) → ghosts.delta_fits_kind (ghosts.kind_of mine.value) item.delta ≡ false
+  other_delta item passed =
+      ap (λ kind. ghosts.delta_fits_kind kind item.delta) mine_kind
+      ∙ subst (λ (state : KeyState T Kind Op Delta). state.name ≡ key → ghosts.delta_fits_kind state.kind item.delta ≡ false) (sym is) (passed index at found.within) named_so
+
+-- EXACT PRUNES
+
+module _ {T Kind Op Delta : Type 0} (kind_of : T → Kind) (IsDataOf : T → History Op → VersionVector → IdentitySet → Type 0) (kinds : Text → Kind) (logs : Text → History Op) (id : ℕ) (keys : List (KeyState T Kind Op Delta)) (view : ℕ)
+    (base : Text → model.Entry Op) (held : AreHeld kind_of IsDataOf kinds logs id keys base) (changes : List (Change T Kind Op Delta)) (mid : nodes.Node Kind Op Shown) (work : IsAtWork kind_of IsDataOf kinds logs id keys view base changes mid) where
+  -- what is exactly pruned at the end is so after the next entry
+  pub exact_before : (e : sending.Keyed (model.Entry Op)) (rest : List (sending.Keyed (model.Entry Op))) → IsTakenFrom (logs e.key) e.item.history → AreExactAt keys (after_entries (take_entry mid e) rest).entries → AreExactAt keys (take_entry mid e).entries
+  exact_before e rest theirs exact k d within =
+      let name = name_at keys k d in
+      let has = has_key_at mid keys work.declares held.distinct k d within in
+      let state : KeyState T Kind Op Delta = get_or keys k d in
+      let change : Change T Kind Op Delta = get_or changes k Same in
+      let mine = (stands_current IsDataOf logs base mid.entries (get_or keys k d) (get_or changes k Same) (work.leads.made k d Same within) (held.held k d within).image).taken in
+      exact_part (logs (name_at keys k d)) ((take_entry mid e).entries (name_at keys k d)).history ((after_entries (take_entry mid e) rest).entries (name_at keys k d)).history
+      (taken_one mid (name_at keys k d) (get_or keys k d).kind has e logs mine theirs)
+      (grows rest (take_entry mid e) (name_at keys k d) (get_or keys k d).kind (has_still mid (name_at keys k d) (get_or keys k d).kind e has)) (exact k d within)

@@ -24,6 +24,7 @@ use Rattle.rd_node.specs.declared.key.KeyState.{KeyState}
 use Rattle.rd_node.specs.declared.change.Change.{Change}
 use Rattle.rd_node.specs.declared.change.Change.TheVariants.{Same, Entry, Flushed}
 use Rattle.rd_node.specs.Keys.{AreDistinct, declared_by}
+use Rattle.rd_node.specs.Own.{AreOfTheirKinds}
 use Rattle.rd_node.specs.Sending.{own_number}
 use Rattle.rd_node.specs.Changes.{changed, AreMade}
 use Rattle.rd_node.specs.Taking.{current_of, put_at, KeepsOwn, IsKept, StandsAfter, LeadsTo}
@@ -107,6 +108,12 @@ module _ {T Kind Op Delta : Type 0} where
       made_put (IsKept kind_of id) keys changes index at within is (Some envelope)
       (λ other is_other. let e : envelope ≡ other = cc is_other in subst (KeepsOwn kind_of id at.entry) e (kept_further kind_of id at.entry mine envelope now keeps)) kept
 
+  -- an entry is of its key's kind in the course of a step
+  pub current_kind : (kind_of : T → Kind) (id : ℕ) (keys : List (KeyState T Kind Op Delta)) (changes : List (Change T Kind Op Delta)) (index : ℕ) (at : KeyState T Kind Op Delta) (change : Change T Kind Op Delta) → index < length keys → at ≡ get_or keys index at → change ≡ get_or changes index change
+      → AreMade (IsKept kind_of id) keys changes → AreOfTheirKinds kind_of keys → kind_of (current_of at change).value ≡ at.kind
+  current_kind kind_of id keys changes index at change within is is' made kinds =
+      (made_at (IsKept kind_of id) keys changes index at change within is is' made).kind ∙ subst (λ (state : KeyState T Kind Op Delta). kind_of state.entry.value ≡ state.kind) (sym is) (kinds index at within)
+
   -- a slice that was written is the vector's items
   pub items_back : {Z : Type 0} (Makes : KeyState T Kind Op Delta → Change T Kind Op Delta → Type 0) (keys : List (KeyState T Kind Op Delta)) (changes : Vec (Change T Kind Op Delta) Z) (new : List (Change T Kind Op Delta)) → AreMade Makes keys changes.items → AreMade Makes keys new
       → (with_items changes new).items ≡ new
@@ -130,7 +137,7 @@ module _ {T Kind Op Delta : Type 0} where
 
   pub has_key_at : {Op' Shown' : Type 0} (node : nodes.Node Kind Op' Shown') (keys : List (KeyState T Kind Op Delta)) → node.keys ≡ map declared_by keys → AreDistinct (map (λ (state : KeyState T Kind Op Delta). state.name) keys)
       → (k : ℕ) (d : KeyState T Kind Op Delta) → k < length keys → HasKey node (name_at keys k d) (get_or keys k d).kind
-  has_key_at node keys declares distinct k d within = (false, declared_at node keys declares distinct k d within)
+  has_key_at node keys declares distinct k d within = ((get_or keys k d).durable, declared_at node keys declares distinct k d within)
 
   pub undeclared_in : {Op' Shown' : Type 0} (node : nodes.Node Kind Op' Shown') (keys : List (KeyState T Kind Op Delta)) (key : Text) → node.keys ≡ map declared_by keys → find (λ (state : KeyState T Kind Op Delta). bytes_eq state.name key) keys ≡ None
       → find (λ (decl : nodes.KeyDecl Kind). bytes_eq decl.name key) node.keys ≡ None

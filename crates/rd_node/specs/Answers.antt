@@ -1,5 +1,5 @@
 -- What a member answers to a message.
-use Rattle.std.specs.Prelude.{◌≡◌, ℕ, List, [], ◌∷◌, ◌++◌, Bool, true, false, if◌then◌else◌, map}
+use Rattle.std.specs.Prelude.{◌≡◌, ℕ, List, [], ◌∷◌, ◌++◌, None, Bool, true, false, if◌then◌else◌, map}
 use Rattle.rd_history.specs.Texts.{Text}
 use Rattle.rd_history.specs.Vector.{VersionVector, IdentitySet}
 use Rattle.rd_history.specs.History.{History}
@@ -56,4 +56,5 @@ module _ {T Kind Op Delta : Type 0} {ghosts : Ghosts T Kind Op Delta} (kind_of :
     pub only : next.node ≡ record node { entries = next.node.entries }
     pub leads : AreMade (LeadsTo IsDataOf logs node.entries next.node.entries) keys taken.changes.items
     pub reply : meant taken.output.reply ≡ next.output.reply
+    pub ended : next.output.ended ≡ None
     pub posts : StandsForPosts kind_of IsDataOf kinds logs taken.output.posts next.output.posts

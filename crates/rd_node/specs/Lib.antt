@@ -9,3 +9,15 @@ pub mod Changes
 pub mod Taking
 pub mod Answers
 pub mod Gossip
+pub mod Inputs
+pub mod Stores
+pub mod Steps
+pub mod Loading
+pub mod Restoring
+pub mod Planning
+pub mod Storing
+pub mod Updates
+pub mod Preparing
+pub mod Installing
+pub mod Outputs
+pub mod Carrying

@@ -3,15 +3,14 @@
 use Rattle.std.specs.Prelude.{◌≡◌, ℕ, map, All}
 use Rattle.rd_history.specs.Texts.{Text}
 use Rattle.rd_history.specs.Vector.{VersionVector, IdentitySet}
-use Rattle.rd_history.specs.History.{Record, History, HasRecord}
-use Rattle.rd_history.specs.History.Action.{Prune}
+use Rattle.rd_history.specs.History.{History, IsExactlyPruned}
 use Rattle.rd_history.specs.Log.{IsTakenFrom}
-use Rattle.rd_model.specs.View.{identities_of}
 use Rattle.rd_model.specs.Entry.{Entry}
 use Rattle.rd_model.specs.Node as nodes
 use Rattle.rd_kinds.specs.declared.shown.Shown.{Shown}
 use Rattle.rd_vectors.specs.Vectors.{number_at}
 use Rattle.rd_lattice.specs.declared.replica.Replica.{Ghosts}
+use Rattle.rd_keeper.specs.declared.keeper.Keeper.{Ghosts as Keeping}
 use Rattle.rd_messages.specs.Standing.{StandsForEntry}
 use Rattle.rd_deltalog.specs.Images.{StandsForLog}
 use Rattle.rd_node.specs.declared.key.KeyState.{KeyState}
@@ -26,9 +25,10 @@ pub use Rattle.rd_node.specs.Replies.{delta_groups, spelled_groups, meant}
 abbrev pub AreTakenFrom : {Kind Op : Type 0} → (Text → History Op) → nodes.Node Kind Op Shown → Type 0
 AreTakenFrom logs node = (key : Text) → IsTakenFrom (logs key) (node.entries key).history
 
--- no record of a log is a prune
-abbrev pub ArePruneFree : {Op : Type 0} → (Text → History Op) → Type 0
-ArePruneFree {Op} logs = (key : Text) (origin before : ℕ) (r : Record Op) (removed : ℕ) → HasRecord (logs key) origin before r → r.action ≡ Prune removed → ⊥
+-- and each is exactly pruned
+pub record IsSafe {Kind Op : Type 0} (logs : Text → History Op) (node : nodes.Node Kind Op Shown) : Type 0 where
+  pub taken : AreTakenFrom logs node
+  pub exact : (key : Text) → IsExactlyPruned (node.entries key).history
 
 -- what is held of a key: the entry, its last own records, and the own number flushed to each peer
 module _ {T Kind Op Delta : Type 0} (kind_of : T → Kind) (IsDataOf : T → History Op → VersionVector → IdentitySet → Type 0) (IsDeltaOf : Delta → History Op → ℕ → ℕ → ℕ → Type 0) (kinds : Text → Kind) (logs : Text → History Op) where
@@ -41,10 +41,9 @@ module _ {T Kind Op Delta : Type 0} (kind_of : T → Kind) (IsDataOf : T → His
 -- MEMBERS
 
 module _ {T Kind Op Delta : Type 0} (kind_of : T → Kind) (IsDataOf : T → History Op → VersionVector → IdentitySet → Type 0) (kinds : Text → Kind) (logs : Text → History Op) where
-  pub record StandsForNode {ghosts : Ghosts T Kind Op Delta} (code : Node T Kind Op Delta ghosts) (node : nodes.Node Kind Op Shown) : Type 0 where
+  pub record StandsForNode {K : Type 0} {ghosts : Ghosts T Kind Op Delta} {keeping : Keeping K} (code : Node T K Kind Op Delta ghosts keeping) (node : nodes.Node Kind Op Shown) : Type 0 where
     pub identity : node.identity ≡ code.id
-    pub view : node.view.number ≡ code.view
-    pub members : identities_of node.view ≡ code.members.items
+    pub view : node.view ≡ code.view
     pub keys : node.keys ≡ map declared_by code.keys.items
     pub distinct : AreDistinct (map (λ (state : KeyState T Kind Op Delta). state.name) code.keys.items)
     pub entries : All (λ state. StandsForKey kind_of IsDataOf ghosts.IsDeltaOf kinds logs state (node.entries state.name) (node.flushed state.name)) code.keys.items

@@ -23,3 +23,7 @@ module _ {T Kind Op Delta : Type 0} (kind_of : T → Kind) where
 
   abbrev pub AreLogged : ℕ → List (KeyState T Kind Op Delta) → Type 0
   AreLogged id keys = All (IsLogged id) keys
+
+  -- the data of each key are of its kind
+  abbrev pub AreOfTheirKinds : List (KeyState T Kind Op Delta) → Type 0
+  AreOfTheirKinds keys = All (λ state. kind_of state.entry.value ≡ state.kind) keys

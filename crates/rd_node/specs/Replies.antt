@@ -1,15 +1,18 @@
--- What replies of the program mean, and the data type that its members follow.
+-- What replies and fates of the program mean, and the data type that its members follow.
 use Rattle.std.specs.Prelude.{ℕ, List}
 use Rattle.rd_history.specs.History.{History}
 use Rattle.rd_meanings.specs.Refusal.{Refusal}
 use Rattle.rd_model.specs.Entry.{Entry}
 use Rattle.rd_model.specs.DataType.{DataType, Replication}
+use Rattle.rd_model.specs.Node as nodes
 use Rattle.rd_model.specs.Node.{Reply as Meant}
 use Rattle.rd_kinds.specs.declared.shown.Shown.{Shown}
 use Rattle.rd_envelope_codec.specs.Entries.{entry_digest}
 use Rattle.rd_deltalog.specs.Answers.{most_kept}
 use Rattle.rd_node.specs.declared.reply.Reply.{Reply}
 use Rattle.rd_node.specs.declared.reply.Reply.TheVariants as reply
+use Rattle.rd_node.specs.declared.reply.Fate.{Fate}
+use Rattle.rd_node.specs.declared.reply.Fate.TheVariants as fate
 
 -- a data type whose own records go as delta groups, of which a member keeps the last ones
 abbrev pub delta_groups : {Kind Op : Type 0} → DataType Kind Op Shown → (Kind → Entry Op → List ℕ) → Replication Kind Op Shown
@@ -28,8 +31,16 @@ meant reply.WrongKind = Meant.WrongKind
 meant (reply.Overflow share amount) = Meant.Refused (Refusal.Overflow share amount)
 meant reply.ClockSpent = Meant.Refused Refusal.ClockSpent
 meant reply.SetFull = Meant.Refused Refusal.SetFull
+meant reply.StoreFailed = Meant.NotStored
 meant reply.Taken = Meant.Taken
 meant reply.Already = Meant.Already
 meant (reply.Gap i) = Meant.Gap i
 meant reply.NotFromMember = Meant.NotFromMember
+meant reply.Installed = Meant.Installed
+meant reply.OldView = Meant.OldView
 meant reply.NotAPeer = Meant.NotAPeer
+
+abbrev pub meant_fate : Fate → nodes.Fate
+meant_fate fate.NoStore = nodes.Fate.NoStore
+meant_fate fate.Stored = nodes.Fate.Stored
+meant_fate fate.StoreFailed = nodes.Fate.StoreFailed

@@ -2,7 +2,7 @@
 use Rattle.std.specs.Prelude.{◌≡◌, ℕ, List, [], ◌∷◌, false, if◌then◌else◌, Option, None, Some, map, slice_set, All}
 use Rattle.rd_history.specs.Texts.{Text}
 use Rattle.rd_history.specs.Vector.{VersionVector, IdentitySet}
-use Rattle.rd_history.specs.History.{History}
+use Rattle.rd_history.specs.History.{History, IsExactlyPruned}
 use Rattle.rd_model.specs.Entry as model
 use Rattle.rd_model.specs.Entry.{Judgement, judged, with_group}
 use Rattle.rd_model.specs.Entry.Judgement.{Wanted, Stale, Missing}
@@ -84,6 +84,10 @@ module _ {T Kind Op Delta : Type 0} (IsDataOf : T → History Op → VersionVect
   LeadsTo logs old new state Same = new state.name ≡ old state.name
   LeadsTo logs old new state (Entry entry) = StandsFor IsDataOf (parts_of state.entry) (logs state.name) (old state.name) × StandsFor IsDataOf (parts_of entry) (logs state.name) (new state.name)
   LeadsTo logs old new state (Flushed flushed) = ⊥
+
+-- the history of each key is exactly pruned
+abbrev pub AreExactAt : {T Kind Op Delta : Type 0} → List (KeyState T Kind Op Delta) → (Text → model.Entry Op) → Type 0
+AreExactAt keys entries = All (λ (state : KeyState _ _ _ _). IsExactlyPruned (entries state.name).history) keys
 
 -- MEMBERS
 

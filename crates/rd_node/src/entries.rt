@@ -1,5 +1,5 @@
-ghost use Rattle.std.specs.Prelude.{◌≡◌, ℕ, ◌||◌, false, List, not, nat_lt, length, if◌then◌else◌, IfOk, OnOk, IfSome};
-ghost use Rattle.std.specs.List.{AllZip, list_any};
+ghost use Rattle.std.specs.Prelude.{◌≡◌, ◌≢◌, ℕ, ◌||◌, false, None, List, not, nat_lt, length, if◌then◌else◌, IfOk, OnOk, IfSome};
+ghost use Rattle.std.specs.List.{list_any};
 ghost use Rattle.rd_history.specs.Texts.{Text as Name};
 ghost use Rattle.rd_history.specs.History.{History, union, IsExactlyPruned};
 ghost use Rattle.rd_model.specs.Entry as model;
@@ -14,8 +14,9 @@ ghost use Rattle.rd_envelope.specs.Images.{StandsFor};
 ghost use Rattle.rd_envelope.specs.Words.{parts_of};
 ghost use Rattle.rd_messages.specs.Standing.{StandsForKeyed};
 ghost use Rattle.rd_node.specs.Changes.{AreMade};
-ghost use Rattle.rd_node.specs.Members.{ArePruneFree};
-ghost use Rattle.rd_node.specs.Taking.{KeepsOwn, IsKept, StandsAfter, LeadsTo, AreHeld, IsAtWork};
+ghost use Rattle.rd_node.specs.Own.{AreOfTheirKinds};
+ghost use Rattle.rd_node.specs.Inputs.{IsEntryPassedOver, TellsEntries};
+ghost use Rattle.rd_node.specs.Taking.{KeepsOwn, IsKept, StandsAfter, LeadsTo, AreExactAt, AreHeld, IsAtWork};
 
 use crate::change::{Change, current, put};
 use crate::key::{KeyState, index_of};
@@ -42,8 +43,9 @@ fn take_entry<T: Replica>(
     view: u32,
 ) -> Result<Option<Envelope<T>>, Memory>
     ensures kept { IfOk result (λ taken. IfSome taken (KeepsOwn T.kind_of id mine.now)) }
+    ensures passed_over { T.kind_of mine.now.value ≢ T.kind_of theirs.now.value → IfOk result (λ taken. taken ≡ None) }
     ensures image { (log : History T.Op) (before other : model.Entry T.Op) → performed_in (parts_of mine.now).marks id ≡ false → T.kind_of mine.now.value ≡ T.kind_of theirs.now.value
-        → StandsFor T.IsDataOf (parts_of mine.now) log before → StandsFor T.IsDataOf (parts_of theirs.now) log other → IsExactlyPruned (union before.history other.history)
+        → StandsFor T.IsDataOf (parts_of mine.now) log before → StandsFor T.IsDataOf (parts_of theirs.now) log other → (is_entry_passed_over id before other ≡ false → IsExactlyPruned (union before.history other.history))
         → IfOk result (λ taken. StandsAfter T.IsDataOf log taken before (if is_entry_passed_over id before other then before else seen_by id view (merged before other))) }
 {
     if is_strange(mine, theirs, id) || !mine.value().same_kind(theirs.value()) {
@@ -67,9 +69,10 @@ fn take_entry_at<T: Replica>(
     requires { length changes.old ≡ length keys.now }
     ensures kept { AreMade (IsKept T.kind_of id) keys.now changes.old → OnOk result (AreMade (IsKept T.kind_of id) keys.now changes.new) }
     ensures image { (kinds : Name → T.Kind) (logs : Name → History T.Op) (entries : Name → model.Entry T.Op) (node : Member T.Kind T.Op Shown) (sent : sending.Keyed (model.Entry T.Op))
-        → ArePruneFree logs → AreHeld T.kind_of T.IsDataOf kinds logs id keys.now entries → AreMade (IsKept T.kind_of id) keys.now changes.old → StandsForKeyed T.kind_of T.IsDataOf kinds logs keyed.now sent
+        → AreExactAt keys.now (take_entry node sent).entries → AreHeld T.kind_of T.IsDataOf kinds logs id keys.now entries → AreMade (IsKept T.kind_of id) keys.now changes.old → StandsForKeyed T.kind_of T.IsDataOf kinds logs keyed.now sent
         → IsAtWork T.kind_of T.IsDataOf kinds logs id keys.now view entries changes.old node
         → OnOk result (IsAtWork T.kind_of T.IsDataOf kinds logs id keys.now view entries changes.new (take_entry node sent)) }
+    ensures passed_over { AreOfTheirKinds T.kind_of keys.now → AreMade (IsKept T.kind_of id) keys.now changes.old → IsEntryPassedOver T.Replica keys.now keyed.now → OnOk result (changes.new ≡ changes.old) }
 {
     let Some(index) = index_of(keys, &keyed.key) else {
         return Ok(());
@@ -92,7 +95,7 @@ pub(crate) fn take_entries<T: Replica>(
     requires { length changes.old ≡ length keys.now }
     ensures kept { AreMade (IsKept T.kind_of id) keys.now changes.old → OnOk result (AreMade (IsKept T.kind_of id) keys.now changes.new) }
     ensures image { (kinds : Name → T.Kind) (logs : Name → History T.Op) (before : Name → model.Entry T.Op) (node : Member T.Kind T.Op Shown) (sent : List (sending.Keyed (model.Entry T.Op)))
-        → ArePruneFree logs → AreHeld T.kind_of T.IsDataOf kinds logs id keys.now before → AreMade (IsKept T.kind_of id) keys.now changes.old → AllZip (StandsForKeyed T.kind_of T.IsDataOf kinds logs) entries.now sent
+        → AreExactAt keys.now (after_entries node sent).entries → AreOfTheirKinds T.kind_of keys.now → AreHeld T.kind_of T.IsDataOf kinds logs id keys.now before → AreMade (IsKept T.kind_of id) keys.now changes.old → TellsEntries T.Replica kinds logs keys.now entries.now sent
         → IsAtWork T.kind_of T.IsDataOf kinds logs id keys.now view before changes.old node
         → OnOk result (IsAtWork T.kind_of T.IsDataOf kinds logs id keys.now view before changes.new (after_entries node sent)) }
 {

@@ -1,5 +1,4 @@
-ghost use Rattle.std.specs.Prelude.{◌≡◌, ℕ, ◌==◌, ◌||◌, ◌++◌, true, List, length, map, IfOk, OnOk, IfSome};
-ghost use Rattle.std.specs.List.{AllZip};
+ghost use Rattle.std.specs.Prelude.{◌≡◌, ℕ, ◌==◌, ◌||◌, ◌++◌, true, false, None, List, length, map, IfOk, OnOk, IfSome};
 ghost use Rattle.rd_history.specs.Texts.{Text as Name};
 ghost use Rattle.rd_history.specs.History.{History};
 ghost use Rattle.rd_model.specs.Entry as model;
@@ -11,6 +10,8 @@ ghost use Rattle.rd_markers.specs.Marks.{performed_in};
 ghost use Rattle.rd_envelope.specs.Images.{StandsFor, StandsForGroup};
 ghost use Rattle.rd_envelope.specs.Words.{parts_of, group_parts};
 ghost use Rattle.rd_messages.specs.Standing.{StandsForKeyedGroup};
+ghost use Rattle.rd_node.specs.Own.{AreOfTheirKinds};
+ghost use Rattle.rd_node.specs.Inputs.{IsGroupPassedOver, TellsGroups};
 ghost use Rattle.rd_node.specs.Changes.{AreMade};
 ghost use Rattle.rd_node.specs.Taking.{KeepsOwn, IsKept, StandsAfter, AreHeld, IsAtWork, judged_for, entry_after, lacking_in, gap_told, gaps_at};
 
@@ -50,6 +51,7 @@ fn take_group<T: Replica>(
     id: Id,
 ) -> Result<GroupTaken<T>, Memory>
     ensures kept { IfOk result (λ taken. IfSome taken.entry (KeepsOwn T.kind_of id mine.now)) }
+    ensures passed_over { T.delta_fits_kind (T.kind_of mine.now.value) group.now.delta ≡ false → IfOk result (λ taken. taken ≡ record { entry = None; lacking = None }) }
     ensures image { (log : History T.Op) (before : model.Entry T.Op) (theirs : model.Group T.Op) → T.delta_fits_kind (T.kind_of mine.now.value) group.now.delta ≡ true
         → StandsFor T.IsDataOf (parts_of mine.now) log before → StandsForGroup T.IsDeltaOf (group_parts group.now) log theirs
         → IfOk result (λ taken. StandsAfter T.IsDataOf log taken.entry before (entry_after before theirs (judged_for id before theirs)) × (taken.lacking ≡ lacking_in (judged_for id before theirs))) }
@@ -106,6 +108,7 @@ fn take_group_at<T: Replica>(
         → AreHeld T.kind_of T.IsDataOf kinds logs id keys.now entries → AreMade (IsKept T.kind_of id) keys.now changes.old → StandsForKeyedGroup kinds logs keyed.now sent
         → IsAtWork T.kind_of T.IsDataOf kinds logs id keys.now view entries changes.old so_far.node → gaps.old ≡ map gap_told so_far.gaps
         → OnOk result (IsAtWork T.kind_of T.IsDataOf kinds logs id keys.now view entries changes.new (take_group so_far sent).node × (gaps.new ≡ map gap_told (take_group so_far sent).gaps)) }
+    ensures passed_over { AreOfTheirKinds T.kind_of keys.now → AreMade (IsKept T.kind_of id) keys.now changes.old → IsGroupPassedOver T.Replica keys.now keyed.now → OnOk result ((changes.new ≡ changes.old) × (gaps.new ≡ gaps.old)) }
 {
     let Some(index) = index_of(keys, &keyed.key) else {
         return Ok(());
@@ -129,11 +132,11 @@ pub(crate) fn take_groups<T: Replica>(
     requires { length changes.old ≡ length keys.now }
     ensures kept { AreMade (IsKept T.kind_of id) keys.now changes.old → OnOk result (AreMade (IsKept T.kind_of id) keys.now changes.new) }
     ensures image { (kinds : Name → T.Kind) (logs : Name → History T.Op) (view : ℕ) (entries : Name → model.Entry T.Op) (node : Member T.Kind T.Op Shown) (sent : List (sending.Keyed (model.Group T.Op)))
-        → AreHeld T.kind_of T.IsDataOf kinds logs id keys.now entries → AreMade (IsKept T.kind_of id) keys.now changes.old → AllZip (StandsForKeyedGroup kinds logs) groups.now sent
+        → AreOfTheirKinds T.kind_of keys.now → AreHeld T.kind_of T.IsDataOf kinds logs id keys.now entries → AreMade (IsKept T.kind_of id) keys.now changes.old → TellsGroups T.Replica kinds logs keys.now groups.now sent
         → IsAtWork T.kind_of T.IsDataOf kinds logs id keys.now view entries changes.old node
         → OnOk result (IsAtWork T.kind_of T.IsDataOf kinds logs id keys.now view entries changes.new (after_groups node sent).node) }
     ensures gaps { (kinds : Name → T.Kind) (logs : Name → History T.Op) (view : ℕ) (entries : Name → model.Entry T.Op) (node : Member T.Kind T.Op Shown) (sent : List (sending.Keyed (model.Group T.Op)))
-        → AreHeld T.kind_of T.IsDataOf kinds logs id keys.now entries → AreMade (IsKept T.kind_of id) keys.now changes.old → AllZip (StandsForKeyedGroup kinds logs) groups.now sent
+        → AreOfTheirKinds T.kind_of keys.now → AreHeld T.kind_of T.IsDataOf kinds logs id keys.now entries → AreMade (IsKept T.kind_of id) keys.now changes.old → TellsGroups T.Replica kinds logs keys.now groups.now sent
         → IsAtWork T.kind_of T.IsDataOf kinds logs id keys.now view entries changes.old node
         → IfOk result (λ gaps. gaps ≡ map gap_told (after_groups node sent).gaps) }
 {

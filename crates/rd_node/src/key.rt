@@ -4,17 +4,18 @@ ghost use Rattle.std.specs.Str.{bytes_eq};
 use crate::recording::{Recorded, next_record};
 use crate::reply::Reply;
 use rd_bytes::{Items, Memory, Text};
-use rd_deltalog::DeltaLog;
+use rd_deltalog::{DeltaLog, NextRecord};
 use rd_envelope::Envelope;
 use rd_lattice::{ApplyError, Replica};
 use rd_vectors::{Id, VersionVector};
 use std::alloc::Global;
 
-/// A declared key.
+/// A declared key. What is held of a durable one is kept.
 #[derive(Drop)]
 pub struct KeyDecl<T: Replica> {
     pub key: Text,
     pub kind: T::Kind,
+    pub durable: bool,
 }
 
 /// What a member holds of a key: its entry, its last own records, and for each peer the last own record that was flushed to
@@ -23,17 +24,17 @@ pub struct KeyDecl<T: Replica> {
 pub struct KeyState<T: Replica> {
     pub(crate) name: Text,
     pub(crate) kind: T::Kind,
+    pub(crate) durable: bool,
     pub(crate) entry: Envelope<T>,
     pub(crate) log: DeltaLog<T>,
     pub(crate) flushed: VersionVector,
 }
 
 impl<T: Replica> KeyState<T> {
-    ghost use Rattle.std.specs.Prelude.{◌≡◌, ℕ, ◌+◌, ◌<◌, ◌≤◌, ◌^◌, List, length, false, IfOk, OnOk, OnErr, map, All};
+    ghost use Rattle.std.specs.Prelude.{ℕ, ◌<◌, ◌^◌, List, length, false, IfOk, map, All};
     ghost use Rattle.rd_history.specs.History.{History};
     ghost use Rattle.rd_history.specs.Log.{IsTakenFrom};
-    ghost use Rattle.rd_history.specs.History.Action.{Operation};
-    ghost use Rattle.rd_model.specs.Entry.{Entry, with_action};
+    ghost use Rattle.rd_model.specs.Entry.{Entry};
     ghost use Rattle.rd_model.specs.Node.{Node as Member, HasKey, Input, Fate, Level};
     ghost use Rattle.rd_model.specs.Step.{step};
     ghost use Rattle.rd_kinds.specs.declared.shown.Shown.{Shown};
@@ -43,10 +44,10 @@ impl<T: Replica> KeyState<T> {
     ghost use Rattle.rd_envelope.specs.Words.{parts_of};
     ghost use Rattle.rd_deltalog.specs.Images.{StandsForLog};
     ghost use Rattle.rd_node.specs.Own.{IsLogged};
-    ghost use Rattle.rd_node.specs.Recording.{IsRecorded, StandsForRecorded};
     ghost use Rattle.rd_node.specs.Keys.{declared, declared_by};
     ghost use Rattle.rd_node.specs.Fresh.{IsFresh};
     ghost use Rattle.rd_node.specs.Replies.{delta_groups, meant};
+    ghost use Rattle.rd_node.specs.Updates.{IsOwn, IsUpdate};
 
     /// A key without records.
     pub(crate) fn new(alloc: Global, id: Id, decl: &KeyDecl<T>) -> Result<KeyState<T>, Memory>
@@ -58,6 +59,7 @@ impl<T: Replica> KeyState<T> {
         Ok(KeyState {
             name,
             kind: decl.kind,
+            durable: decl.durable,
             entry: Envelope::new(alloc, value),
             log: DeltaLog::new(alloc, id, decl.kind),
             flushed: VersionVector::new(alloc),
@@ -87,6 +89,13 @@ impl<T: Replica> KeyState<T> {
         &self.name
     }
 
+    /// Whether what is held of the key is kept.
+    pub fn durable(&self) -> bool
+        ensures { result ≡ self.now.durable }
+    {
+        self.durable
+    }
+
     /// What the member holds of the key.
     pub fn entry(&self) -> &Envelope<T>
         ensures { result.now ≡ self.now.entry }
@@ -95,64 +104,36 @@ impl<T: Replica> KeyState<T> {
     }
 
     /// The member's own operation.
-    pub(crate) fn update(&mut self, alloc: Global, id: Id, op: &T::Op) -> Result<Reply, Memory>
-        requires member { performed_in (parts_of self.old.entry).marks id ≡ false }
-        requires room { number_at (parts_of self.old.entry).versions id < 2 ^ 62 }
-        requires logged { IsLogged T.kind_of id self.old }
-        ensures image { (digest : T.Kind → Entry T.Op → List ℕ) (node : Member T.Kind T.Op Shown) (log : History T.Op) → HasKey node self.old.name (T.kind_of self.old.entry.value) → node.identity ≡ id → 0 < length node.view.members
-            → let next = step (delta_groups T.data_type digest) node (Input.Update self.old.name op.now Level.Local) Fate.NoStore in
-            StandsFor T.IsDataOf (parts_of self.old.entry) log (node.entries self.old.name) → IsTakenFrom log (next.node.entries self.old.name).history
-            → OnOk result (StandsFor T.IsDataOf (parts_of self.new.entry) log (next.node.entries self.old.name)) }
-        ensures log_image { (digest : T.Kind → Entry T.Op → List ℕ) (node : Member T.Kind T.Op Shown) (log : History T.Op) → HasKey node self.old.name (T.kind_of self.old.entry.value) → node.identity ≡ id → 0 < length node.view.members
-            → let next = step (delta_groups T.data_type digest) node (Input.Update self.old.name op.now Level.Local) Fate.NoStore in
-            StandsFor T.IsDataOf (parts_of self.old.entry) log (node.entries self.old.name) → StandsForLog T.IsDeltaOf self.old.log log (node.entries self.old.name) → IsTakenFrom log (next.node.entries self.old.name).history
-            → OnOk result (StandsForLog T.IsDeltaOf self.new.log log (next.node.entries self.old.name)) }
-        ensures reply { (digest : T.Kind → Entry T.Op → List ℕ) (node : Member T.Kind T.Op Shown) (log : History T.Op) → HasKey node self.old.name (T.kind_of self.old.entry.value) → node.identity ≡ id → 0 < length node.view.members
-            → let next = step (delta_groups T.data_type digest) node (Input.Update self.old.name op.now Level.Local) Fate.NoStore in
-            StandsFor T.IsDataOf (parts_of self.old.entry) log (node.entries self.old.name) → IfOk result (λ reply. meant reply ≡ next.output.reply) }
-        ensures value { T.kind_of self.new.entry.value ≡ T.kind_of self.old.entry.value }
-        ensures marks { (parts_of self.new.entry).marks ≡ (parts_of self.old.entry).marks }
-        ensures versions { number_at (parts_of self.new.entry).versions id ≤ number_at (parts_of self.old.entry).versions id + 1 }
-        ensures logged { IsLogged T.kind_of id self.new }
-        ensures rest { self.new ≡ record self.old { entry = self.new.entry; log = self.new.log } }
-        ensures err { OnErr result (self.new ≡ self.old) }
+    pub(crate) fn update(&self, alloc: Global, id: Id, op: &T::Op) -> Result<Updated<T>, Memory>
+        requires member { performed_in (parts_of self.now.entry).marks id ≡ false }
+        requires room { number_at (parts_of self.now.entry).versions id < 2 ^ 62 }
+        requires logged { IsLogged T.kind_of id self.now }
+        ensures owned { IfOk result (IsOwn T.Replica id self.now) }
+        ensures image { (digest : T.Kind → Entry T.Op → List ℕ) (node : Member T.Kind T.Op Shown) (log : History T.Op) → HasKey node self.now.name (T.kind_of self.now.entry.value) → node.identity ≡ id → 0 < length node.view.members
+            → StandsFor T.IsDataOf (parts_of self.now.entry) log (node.entries self.now.name) → StandsForLog T.IsDeltaOf self.now.log log (node.entries self.now.name)
+            → let next = step (delta_groups T.data_type digest) node (Input.Update self.now.name op.now Level.Local) Fate.NoStore in
+            IsTakenFrom log (next.node.entries self.now.name).history → IfOk result (IsUpdate T.Replica self.now log node next) }
     {
         if !self.entry.value().fits(op) {
-            return Ok(Reply::WrongKind);
+            return Ok(Updated::Refused(Reply::WrongKind));
         }
         match next_record(alloc, &self.entry, op, id) {
-            Ok(next) => {
-                self.write(id, next)?;
-                Ok(Reply::Done)
+            Ok(made) => {
+                let Recorded {
+                    entry,
+                    before,
+                    delta,
+                } = made;
+                let next = self.log.prepare(before, Some(delta))?;
+                Ok(Updated::Recorded { entry, next })
             }
             Err(ApplyError::Memory) => Err(Memory),
-            Err(ApplyError::Overflow { share, amount }) => Ok(Reply::Overflow { share, amount }),
-            Err(ApplyError::ClockSpent) => Ok(Reply::ClockSpent),
-            Err(ApplyError::SetFull) => Ok(Reply::SetFull),
+            Err(ApplyError::Overflow { share, amount }) => {
+                Ok(Updated::Refused(Reply::Overflow { share, amount }))
+            }
+            Err(ApplyError::ClockSpent) => Ok(Updated::Refused(Reply::ClockSpent)),
+            Err(ApplyError::SetFull) => Ok(Updated::Refused(Reply::SetFull)),
         }
-    }
-
-    /// Writes and logs the member's next record.
-    fn write(&mut self, id: Id, next: Recorded<T>) -> Result<(), Memory>
-        requires logged { IsLogged T.kind_of id self.old }
-        requires room { number_at (parts_of self.old.entry).versions id < 2 ^ 62 }
-        requires recorded { IsRecorded T.kind_of T.IsOfOrigin T.delta_fits_kind id self.old.entry next }
-        ensures entry { OnOk result (self.new.entry ≡ next.entry) }
-        ensures log { (log : History T.Op) (entry : Entry T.Op) (op : T.Op) → StandsForLog T.IsDeltaOf self.old.log log entry → IsTakenFrom log (with_action entry id (Operation op)).history
-            → StandsForRecorded T.IsDataOf T.IsDeltaOf log id op entry next → OnOk result (StandsForLog T.IsDeltaOf self.new.log log (with_action entry id (Operation op))) }
-        ensures logged { IsLogged T.kind_of id self.new }
-        ensures rest { self.new ≡ record self.old { entry = self.new.entry; log = self.new.log } }
-        ensures err { OnErr result (self.new ≡ self.old) }
-    {
-        let Recorded {
-            entry,
-            before,
-            delta,
-        } = next;
-        let seq = entry.versions().at(id);
-        self.log.append(seq, before, Some(delta))?;
-        self.entry = entry;
-        Ok(())
     }
 
     /// The value as it is shown, or that there is none.
@@ -167,6 +148,18 @@ impl<T: Replica> KeyState<T> {
         let shown = self.entry.show(alloc)?;
         Ok(Reply::Value(shown))
     }
+}
+
+/// What an own operation comes to.
+#[derive(Drop)]
+pub(crate) enum Updated<T: Replica> {
+    /// A reply, and nothing changes.
+    Refused(Reply),
+    /// Another entry, and a record for the log.
+    Recorded {
+        entry: Envelope<T>,
+        next: NextRecord<T::Delta>,
+    },
 }
 
 /// Where a key stands.

@@ -1,5 +1,5 @@
 //! A member: what it does with its own inputs and with the messages of its peers.
-//! Each step is one of the model, which `specs/Members.antt` ties to the fields.
+//! Each step is one of the model, as `specs/Steps.antt` says.
 #![tactic(auto)]
 
 mod answering;
@@ -7,14 +7,25 @@ mod change;
 mod entries;
 mod gossip;
 mod groups;
+mod input;
 mod key;
+mod loading;
 mod node;
+mod plan;
+mod preparing;
 mod recording;
 mod reply;
+mod restoring;
 mod sending;
+mod shown;
+mod storing;
 mod taking;
+#[cfg(test)]
+mod tests;
 
+pub use input::Input;
 pub use key::{KeyDecl, KeyState};
+pub use loading::LoadError;
 pub use node::{MOST_STEPS, Node};
 pub use rd_messages::{Entries, Groups, Keyed, Message, MessageKind, Post, Posts, Sketch, Texts};
-pub use reply::{Output, Reply, StepError};
+pub use reply::{Fate, Output, Reply, StepError};

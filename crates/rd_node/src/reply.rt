@@ -1,7 +1,8 @@
+use crate::shown::copy_shown;
 use rd_bytes::{Items, Memory};
 use rd_kinds::Shown;
 use rd_lattice::Replica;
-use rd_messages::Posts;
+use rd_messages::{Post, Posts};
 use rd_vectors::Id;
 use std::alloc::Global;
 
@@ -24,6 +25,8 @@ pub enum Reply {
     ClockSpent,
     /// The set shows 256 elements or more, and the added one is none of them; nothing changed.
     SetFull,
+    /// The keeper failed. The step was made, and what it changed was not kept.
+    StoreFailed,
     /// The message changed an entry, or was a nack or a status.
     Taken,
     /// Any other message that changed no entry. It may have been answered.
@@ -32,14 +35,45 @@ pub enum Reply {
     Gap(Id),
     /// The sender is no member.
     NotFromMember,
+    /// The view is the member's own now.
+    Installed,
+    /// The number of the view is not greater than that of the member's own.
+    OldView,
     /// The receiver is no other member.
     NotAPeer,
 }
 
 impl Reply {
-    ghost use Rattle.std.specs.Prelude.{◌≡◌, if◌then◌else◌};
+    ghost use Rattle.std.specs.Prelude.{◌≡◌, if◌then◌else◌, IfOk};
     ghost use Rattle.rd_model.specs.Node.{Reply as Meant};
     ghost use Rattle.rd_node.specs.Replies.{meant};
+
+    /// An equal reply.
+    pub fn copy(&self, alloc: Global) -> Result<Reply, Memory>
+        ensures { IfOk result (λ copy. copy ≡ self.now) }
+    {
+        match self {
+            Reply::Done => Ok(Reply::Done),
+            Reply::Value(shown) => Ok(Reply::Value(copy_shown(alloc, shown)?)),
+            Reply::NotFound => Ok(Reply::NotFound),
+            Reply::UnknownKey => Ok(Reply::UnknownKey),
+            Reply::WrongKind => Ok(Reply::WrongKind),
+            Reply::Overflow { share, amount } => Ok(Reply::Overflow {
+                share: *share,
+                amount: *amount,
+            }),
+            Reply::ClockSpent => Ok(Reply::ClockSpent),
+            Reply::SetFull => Ok(Reply::SetFull),
+            Reply::StoreFailed => Ok(Reply::StoreFailed),
+            Reply::Taken => Ok(Reply::Taken),
+            Reply::Already => Ok(Reply::Already),
+            Reply::Gap(id) => Ok(Reply::Gap(*id)),
+            Reply::NotFromMember => Ok(Reply::NotFromMember),
+            Reply::Installed => Ok(Reply::Installed),
+            Reply::OldView => Ok(Reply::OldView),
+            Reply::NotAPeer => Ok(Reply::NotAPeer),
+        }
+    }
 
     /// What is replied to a message.
     pub(crate) fn of_take(changed: bool) -> Reply
@@ -53,7 +87,18 @@ impl Reply {
     }
 }
 
-/// Why a member made no step. It is then as before.
+/// What became of the entries that a step had to store.
+#[derive(Clone, Copy, Debug, PartialEq, Eq)]
+pub enum Fate {
+    /// There were none.
+    NoStore,
+    /// The keeper took them.
+    Stored,
+    /// The keeper failed.
+    StoreFailed,
+}
+
+/// Why a member made no step. It is then as before, but that its keeper may have been called.
 #[derive(Clone, Copy, Debug, PartialEq, Eq)]
 pub enum StepError {
     /// The member has made as many steps as it may.
@@ -81,7 +126,9 @@ pub struct Output<T: Replica> {
 }
 
 impl<T: Replica> Output<T> {
-    ghost use Rattle.std.specs.Prelude.{◌≡◌, []};
+    ghost use Rattle.std.specs.Prelude.{◌≡◌, [], IfOk};
+    ghost use Rattle.rd_node.specs.declared.reply.Reply.TheVariants as reply;
+    ghost use Rattle.rd_node.specs.Outputs.{after_fate};
 
     /// A reply alone.
     pub(crate) fn told(alloc: Global, reply: Reply) -> Output<T>
@@ -91,5 +138,41 @@ impl<T: Replica> Output<T> {
             reply,
             posts: Items::new(alloc),
         }
+    }
+
+    /// What is answered where the store failed: the messages are the same.
+    fn fail(self) -> Output<T>
+        ensures { result ≡ record self { reply = reply.StoreFailed } }
+    {
+        Output {
+            reply: Reply::StoreFailed,
+            posts: self.posts,
+        }
+    }
+
+    /// What is answered after this fate.
+    pub(crate) fn after(self, fate: Fate) -> Output<T>
+        ensures { result ≡ after_fate fate self }
+    {
+        match fate {
+            Fate::StoreFailed => self.fail(),
+            _ => self,
+        }
+    }
+
+    /// An equal output.
+    pub fn copy(&self, alloc: Global) -> Result<Output<T>, Memory>
+        ensures { IfOk result (λ copy. copy ≡ self.now) }
+    {
+        let mut posts = Items::new(alloc);
+        for post in self.posts.as_slice() {
+            let message = post.message.copy(alloc)?;
+            posts.push(Post {
+                to: post.to,
+                message,
+            })?;
+        }
+        let reply = self.reply.copy(alloc)?;
+        Ok(Output { reply, posts })
     }
 }

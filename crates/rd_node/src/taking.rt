@@ -6,12 +6,13 @@ ghost use Rattle.rd_model.specs.Message.{Message as Sent};
 ghost use Rattle.rd_model.specs.Node.{Node as Member, Fate};
 ghost use Rattle.rd_model.specs.Step as step;
 ghost use Rattle.rd_kinds.specs.declared.shown.Shown.{Shown};
-ghost use Rattle.rd_messages.specs.Standing.{digest_told, StandsForMessage};
+ghost use Rattle.rd_messages.specs.Standing.{digest_told};
 ghost use Rattle.rd_node.specs.Replies.{delta_groups, spelled_groups};
 ghost use Rattle.rd_node.specs.Keys.{declared_by};
 ghost use Rattle.rd_node.specs.Changes.{AreMade};
-ghost use Rattle.rd_node.specs.Members.{ArePruneFree};
-ghost use Rattle.rd_node.specs.Taking.{IsKept, AreHeld};
+ghost use Rattle.rd_node.specs.Own.{AreOfTheirKinds};
+ghost use Rattle.rd_node.specs.Inputs.{StandsForTaken};
+ghost use Rattle.rd_node.specs.Taking.{IsKept, AreHeld, AreExactAt};
 ghost use Rattle.rd_node.specs.Answers.{is_status, IsTaken};
 
 use crate::answering::{answers, named, reply};
@@ -69,8 +70,8 @@ fn brought<T: Replica>(
     ensures few { IfOk result (λ taken. length taken.output.posts ≤ 2) }
     ensures kept { IfOk result (λ taken. AreMade (IsKept T.kind_of id) keys.now taken.changes.items) }
     ensures image { (digest : T.Kind → Entry T.Op → List ℕ) (kinds : Name → T.Kind) (logs : Name → History T.Op) (node : Member T.Kind T.Op Shown) (sent : Sent T.Op)
-        → ArePruneFree logs → AreHeld T.kind_of T.IsDataOf kinds logs id keys.now node.entries → node.identity ≡ id → node.view.number ≡ view → node.keys ≡ map declared_by keys.now
-        → StandsForMessage T.kind_of T.IsDataOf kinds logs message.now sent → is_status message.now ≡ false
+        → AreExactAt keys.now (step.step_of_take (delta_groups T.data_type digest) node from Fate.NoStore sent).node.entries → AreOfTheirKinds T.kind_of keys.now → AreHeld T.kind_of T.IsDataOf kinds logs id keys.now node.entries → node.identity ≡ id → node.view.number ≡ view → node.keys ≡ map declared_by keys.now
+        → StandsForTaken kinds logs keys.now message.now sent → is_status message.now ≡ false
         → IfOk result (IsTaken T.kind_of T.IsDataOf kinds logs keys.now node (step.step_of_take (delta_groups T.data_type digest) node from Fate.NoStore sent)) }
 {
     let mut changes = unchanged(alloc, keys)?;
@@ -104,8 +105,8 @@ pub(crate) fn taken<T: SpelledData>(
     ensures few { IfOk result (λ taken. length taken.output.posts ≤ 2) }
     ensures kept { IfOk result (λ taken. AreMade (IsKept T.kind_of id) keys.now taken.changes.items) }
     ensures image { (kinds : Name → T.Kind) (logs : Name → History T.Op) (node : Member T.Kind T.Op Shown) (sent : Sent T.Op)
-        → ArePruneFree logs → AreHeld T.kind_of T.IsDataOf kinds logs id keys.now node.entries → node.identity ≡ id → node.view.number ≡ view → node.keys ≡ map declared_by keys.now
-        → StandsForMessage T.kind_of T.IsDataOf kinds logs message.now sent
+        → AreExactAt keys.now (step.step_of_take (spelled_groups T.data_type T.byte_of T.history_spelled) node from Fate.NoStore sent).node.entries → AreOfTheirKinds T.kind_of keys.now → AreHeld T.kind_of T.IsDataOf kinds logs id keys.now node.entries → node.identity ≡ id → node.view.number ≡ view → node.keys ≡ map declared_by keys.now
+        → StandsForTaken kinds logs keys.now message.now sent
         → IfOk result (IsTaken T.kind_of T.IsDataOf kinds logs keys.now node (step.step_of_take (spelled_groups T.data_type T.byte_of T.history_spelled) node from Fate.NoStore sent)) }
 {
     match message {

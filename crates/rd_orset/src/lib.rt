@@ -10,7 +10,5 @@ mod replica;
 mod set;
 mod spelled;
 mod spelling;
-#[cfg(test)]
-mod tests;
 
 pub use set::{OrSet, Placed, SetDelta};

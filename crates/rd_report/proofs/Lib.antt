@@ -1,5 +1,13 @@
+pub mod Composed
 pub mod FinalBlocks
+pub mod Foretold
+pub mod Holding
+pub mod KeepersBack
 pub mod NamedKinds
 pub mod Orders
+pub mod Runs
+pub mod SameAnswers
 pub mod Stages
+pub mod StepTexts
 pub mod Told
+pub mod Unfailing

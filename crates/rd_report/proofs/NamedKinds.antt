@@ -1,6 +1,6 @@
 -- The kinds of declared keys, by their names.
 use Rattle.std.proofs.Common.{◌≡◌, zero, suc, ◌<◌, List, [], ◌∷◌, length, map, get_or, Bool, true, false, Some, refl, sym, ap, ◌∙◌, arith}
-use Rattle.std.specs.Prelude.{if◌then◌else◌, slice_get}
+use Rattle.std.specs.Prelude.{if◌then◌else◌, slice_get, option_map}
 use Rattle.std.specs.Str.{bytes_eq}
 use Rattle.rd_history.specs.Texts.{Text}
 use Rattle.rd_model.proofs.Steps.{bytes_eq-same, bytes_eq-tells}
@@ -8,7 +8,7 @@ use Rattle.rd_kinds.specs.declared.kind.Kind.{Kind}
 use Rattle.rd_kinds.specs.declared.kind.Kind.TheVariants.{GCounter}
 use Rattle.rd_node.specs.declared.key.KeyDecl.{KeyDecl}
 use Rattle.rd_node.specs.Members.{AreDistinct, AreOfKinds}
-use Rattle.rd_node.proofs.Standing.{slice_get-map}
+use Rattle.std.proofs.lemmas.Option.{slice_get-map, slice_get-get_or}
 use Rattle.rd_report.proofs.Orders.{distinct_tail}
 
 other_name : (x y : Text) → (x ≡ y → ⊥) → bytes_eq x y ≡ false
@@ -32,6 +32,6 @@ module _ {T Op Delta : Type 0} where
   are_of_kinds (d ∷ ds) apart (suc i) x less =
       let here : i < length ds = omega (arith, less) in
       let name = (get_or ds i x).key in
-      let at : slice_get (map (λ (e : KeyDecl T Kind Op Delta). e.key) ds) i ≡ Some name = slice_get-map (λ (e : KeyDecl T Kind Op Delta). e.key) ds i x here in
+      let at : slice_get (map (λ (e : KeyDecl T Kind Op Delta). e.key) ds) i ≡ Some name = slice_get-map (λ (e : KeyDecl T Kind Op Delta). e.key) ds i ∙ ap (option_map (λ (e : KeyDecl T Kind Op Delta). e.key)) (slice_get-get_or ds i x here) in
       let other = other_name d.key name (λ same. let twice = apart zero (suc i) d.key refl (at ∙ ap Some (sym same)) in omega (arith, twice)) in
       ap (λ b. if b then d.kind else kind_among ds name) other ∙ are_of_kinds ds (distinct_tail d.key (map (λ (e : KeyDecl T Kind Op Delta). e.key) ds) apart) i x here

@@ -1,6 +1,6 @@
 -- Keys in the byte order of their names.
-use Rattle.std.proofs.Common.{◌≡◌, ◌≢◌, ℕ, zero, suc, ◌+◌, ◌<◌, ◌≤◌, List, [], ◌∷◌, ◌++◌, length, map, take, drop, get_or, Bool, true, false, Some, refl, sym, ap, ap₂, subst, ◌∙◌, arith, ⊎_elim}
-use Rattle.std.specs.Prelude.{fold, if◌then◌else◌, insert, slice_get, All, AllPairs}
+use Rattle.std.proofs.Common.{◌≡◌, ◌≢◌, ℕ, zero, suc, ◌+◌, ◌<◌, ◌≤◌, List, [], ◌∷◌, ◌++◌, length, map, take, drop, get_or, Bool, true, false, Some, refl, sym, ap, ap₂, subst, ◌∙◌, arith, ⊎_elim, inl, inr, ◌⊎◌}
+use Rattle.std.specs.Prelude.{fold, if◌then◌else◌, insert, slice_get, AllPairs}
 use Rattle.std.specs.Ordering.{nat_cmp, is_lt}
 use Rattle.std.specs.Cmp.Lexicographic.{slice_cmp}
 use Rattle.std.proofs.lemmas.Bool.Decides.{nat_tests}
@@ -9,6 +9,7 @@ use Rattle.std.proofs.Math.Seq.{drop-cons}
 use Rattle.std.proofs.lemmas.Cmp.{same_from_slice_cmp}
 use Rattle.rd_history.specs.Texts.{Text, text_lt}
 use Rattle.std.proofs.lemmas.List.{take_more}
+use Rattle.rd_history.proofs.PruneLaws.{IsIn, in_tail}
 use Rattle.rd_model.specs.Node as model
 use Rattle.rd_kinds.specs.declared.kind.Kind.{Kind}
 use Rattle.rd_script.specs.declared.script.ScriptKey.{ScriptKey}
@@ -16,7 +17,7 @@ use Rattle.rd_node.specs.declared.key.KeyDecl.{KeyDecl}
 use Rattle.rd_node.specs.Members.{AreDistinct, declared}
 use Rattle.std.proofs.lemmas.Option.{get_or_from_slice_get}
 use Rattle.std.proofs.lemmas.Bool.{cases_lt}
-use Rattle.rd_report.specs.Run.{place_in, placed, ordered, decl_of, plain_of, in_order}
+use Rattle.rd_report.specs.Run.{place_in, placed, ordered, decl_of, in_order}
 
 -- the order of std is byte order
 pub lt_same : (xs ys : Text) → is_lt (slice_cmp nat_cmp xs ys) ≡ text_lt xs ys
@@ -142,16 +143,16 @@ pub ordered_more : {X : Type 0} (name : X → Text) (xs : List X) (i : ℕ) (x :
 ordered_more name xs i x here is = ap (ordered name) (take_more xs i x here) ∙ fold_more name [] (take i xs) (get_or xs i x) ∙ ap (placed name (ordered name (take i xs))) (sym is)
 
 module _ {T Op Delta : Type 0} where
-  pub one_more : (keys : List ScriptKey) (i : ℕ) (key : ScriptKey) (old new : List (KeyDecl T Kind Op Delta)) (decl : KeyDecl T Kind Op Delta) (place : ℕ) → i < length keys → key ≡ get_or keys i key → decl.key ≡ key.key → decl.kind ≡ key.kind
-      → place ≡ place_in (map (λ (d : KeyDecl T Kind Op Delta). d.key) old) key.key → new ≡ insert old place decl → map declared old ≡ map plain_of (in_order (take i keys)) → map declared new ≡ map plain_of (in_order (take (i + 1) keys))
-  one_more keys i key old new decl place here is same kind at grown before =
+  pub one_more : (keys : List ScriptKey) (i : ℕ) (key : ScriptKey) (old new : List (KeyDecl T Kind Op Delta)) (decl : KeyDecl T Kind Op Delta) (place : ℕ) → i < length keys → key ≡ get_or keys i key → decl.key ≡ key.key → decl.kind ≡ key.kind → decl.durable ≡ key.durable
+      → place ≡ place_in (map (λ (d : KeyDecl T Kind Op Delta). d.key) old) key.key → new ≡ insert old place decl → map declared old ≡ map decl_of (in_order (take i keys)) → map declared new ≡ map decl_of (in_order (take (i + 1) keys))
+  one_more keys i key old new decl place here is same kind durable at grown before =
       let by_key = λ (d : KeyDecl T Kind Op Delta). d.key in
       let name = λ (d : model.KeyDecl Kind). d.name in
       let place_is : place ≡ place_in (map by_key old) decl.key = at ∙ ap (place_in (map by_key old)) (sym same) in
-      let decl_is : declared decl ≡ plain_of key = ap₂ (λ n k. record { name = n; kind = k; durable = false }) same kind in
+      let decl_is : declared decl ≡ decl_of key = λ i. record { name = same i; kind = kind i; durable = durable i } in
       ap (map declared) (grown ∙ ap (λ p. insert old p decl) place_is ∙ sym (placed_insert by_key old decl)) ∙ map_placed declared by_key name (λ d. refl) old decl
-      ∙ ap₂ (placed name) before decl_is ∙ sym (map_placed plain_of (λ (k : ScriptKey). k.key) name (λ k. refl) (in_order (take i keys)) key)
-      ∙ ap (map plain_of) (sym (ordered_more (λ (k : ScriptKey). k.key) keys i key here is))
+      ∙ ap₂ (placed name) before decl_is ∙ sym (map_placed decl_of (λ (k : ScriptKey). k.key) name (λ k. refl) (in_order (take i keys)) key)
+      ∙ ap (map decl_of) (sym (ordered_more (λ (k : ScriptKey). k.key) keys i key here is))
 
 -- THE KEYS OF A SCRIPT
 
@@ -173,23 +174,75 @@ apart_names keys apart i j name e f =
     let same : (get_or keys i a.0).key ≡ (get_or keys j a.0).key = ap (λ (k : ScriptKey). k.key) here ∙ a.2 ∙ sym b.2 ∙ sym (ap (λ (k : ScriptKey). k.key) there) in
     ⊎_elim (λ (less : i < j). absurd (apart i j a.0 less b.3 same)) (λ (more : j ≤ i). ⊎_elim (λ (greater : j < i). absurd (apart j i a.0 greater a.3 (sym same))) (λ (equal : i ≤ j). omega arith) (cases_lt j i)) (cases_lt i j)
 
-all_plain : (keys : List ScriptKey) → All (λ (k : ScriptKey). k.durable ≡ false) keys → map plain_of keys ≡ map decl_of keys
-all_plain [] plain = refl
-all_plain (k ∷ ks) plain =
-    ap₂ (λ (d : model.KeyDecl Kind) ds. d ∷ ds) (ap (λ durable. record { name = k.key; kind = k.kind; durable = durable }) (sym (plain zero k (omega arith)))) (all_plain ks (λ i d less. plain (suc i) d (omega (arith, less))))
-
-module _ {T Op Delta : Type 0} (keys : List ScriptKey) (decls : List (KeyDecl T Kind Op Delta)) (made : map declared decls ≡ map plain_of (in_order keys)) where
+module _ {T Op Delta : Type 0} (keys : List ScriptKey) (decls : List (KeyDecl T Kind Op Delta)) (made : map declared decls ≡ map decl_of (in_order keys)) where
   pub distinct_keys : AllPairs (λ (a b : ScriptKey). a.key ≢ b.key) keys → AreDistinct (map (λ (d : KeyDecl T Kind Op Delta). d.key) decls)
   distinct_keys apart =
       let by_name = λ (d : model.KeyDecl Kind). d.name in
       let by_key = λ (k : ScriptKey). k.key in
       let names : map (λ (d : KeyDecl T Kind Op Delta). d.key) decls ≡ ordered itself (map by_key keys) =
-      sym (map_after declared by_name (λ (d : KeyDecl T Kind Op Delta). d.key) (λ d. refl) decls) ∙ ap (map by_name) made ∙ map_after plain_of by_name by_key (λ k. refl) (in_order keys)
+      sym (map_after declared by_name (λ (d : KeyDecl T Kind Op Delta). d.key) (λ d. refl) decls) ∙ ap (map by_name) made ∙ map_after decl_of by_name by_key (λ k. refl) (in_order keys)
       ∙ map_ordered by_key by_key itself (λ k. refl) keys in
       subst AreDistinct (sym names) (distinct_ordered (map by_key keys) (apart_names keys apart))
 
-  pub declared_keys : All (λ (k : ScriptKey). k.durable ≡ false) keys → map declared decls ≡ map decl_of (in_order keys)
-  declared_keys plain =
-      let by_name = λ (d : model.KeyDecl Kind). d.name in
-      let by_key = λ (k : ScriptKey). k.key in
-      made ∙ map_ordered plain_of by_key by_name (λ k. refl) keys ∙ ap (ordered by_name) (all_plain keys plain) ∙ sym (map_ordered decl_of by_key by_name (λ k. refl) keys)
+-- WHAT IS IN A LIST IN ORDER
+
+module _ {X : Type 0} (name : X → Text) where
+  in_placed : (ys : List X) (x z : X) → IsIn (x ∷ ys) z → IsIn (placed name ys x) z
+  in_placed [] x z m = m
+  in_placed (y ∷ ys) x z m =
+      elim (text_lt (name x) (name y)) as (λ b. IsIn (if b then x ∷ y ∷ ys else y ∷ placed name ys x) z) [ true ↦ m | false ↦ go (in_placed ys x z) m ]
+    where
+      go : (IsIn (x ∷ ys) z → IsIn (placed name ys x) z) → IsIn (x ∷ y ∷ ys) z → IsIn (y ∷ placed name ys x) z
+      go among (zero, e) = in_tail y (placed name ys x) z (among (zero, e))
+      go among (suc zero, e) = (zero, e)
+      go among (suc (suc k), e) = in_tail y (placed name ys x) z (among (suc k, e))
+
+  from_placed : (ys : List X) (x z : X) → IsIn (placed name ys x) z → IsIn (x ∷ ys) z
+  from_placed [] x z m = m
+  from_placed (y ∷ ys) x z m = (elim (text_lt (name x) (name y)) as (λ b. IsIn (if b then x ∷ y ∷ ys else y ∷ placed name ys x) z → IsIn (x ∷ y ∷ ys) z) [ true ↦ λ m. m | false ↦ go (from_placed ys x z) ]) m
+    where
+      later : IsIn (x ∷ ys) z → IsIn (x ∷ y ∷ ys) z
+      later (zero, e) = (zero, e)
+      later (suc k, e) = (suc (suc k), e)
+
+      go : (IsIn (placed name ys x) z → IsIn (x ∷ ys) z) → IsIn (y ∷ placed name ys x) z → IsIn (x ∷ y ∷ ys) z
+      go among (zero, e) = (suc zero, e)
+      go among (suc k, e) = later (among (k, e))
+
+  in_fold : (start xs : List X) (z : X) → IsIn start z ⊎ IsIn xs z → IsIn (fold (placed name) start xs) z
+  in_fold start [] z (inl m) = m
+  in_fold start [] z (inr m) = absurd (cc m.1)
+  in_fold start (x ∷ xs) z (inl m) = in_fold (placed name start x) xs z (inl (in_placed start x z (in_tail x start z m)))
+  in_fold start (x ∷ xs) z (inr (zero, e)) = in_fold (placed name start x) xs z (inl (in_placed start x z (zero, e)))
+  in_fold start (x ∷ xs) z (inr (suc k, e)) = in_fold (placed name start x) xs z (inr (k, e))
+
+  from_fold : (start xs : List X) (z : X) → IsIn (fold (placed name) start xs) z → IsIn start z ⊎ IsIn xs z
+  from_fold start [] z m = inl m
+  from_fold start (x ∷ xs) z m = go (from_fold (placed name start x) xs z m)
+    where
+      first : IsIn (x ∷ start) z → IsIn start z ⊎ IsIn (x ∷ xs) z
+      first (zero, e) = inr (zero, e)
+      first (suc k, e) = inl (k, e)
+
+      go : IsIn (placed name start x) z ⊎ IsIn xs z → IsIn start z ⊎ IsIn (x ∷ xs) z
+      go (inl h) = first (from_placed start x z h)
+      go (inr h) = inr (in_tail x xs z h)
+
+  pub in_ordered : (xs : List X) (z : X) → IsIn xs z → IsIn (ordered name xs) z
+  in_ordered xs z m = in_fold [] xs z (inr m)
+
+  pub from_ordered : (xs : List X) (z : X) → IsIn (ordered name xs) z → IsIn xs z
+  from_ordered xs z m = go (from_fold [] xs z m)
+    where
+      go : IsIn [] z ⊎ IsIn xs z → IsIn xs z
+      go (inl h) = absurd (cc h.1)
+      go (inr h) = h
+
+-- what is mapped is in the list that is mapped, and the other way round
+pub in_mapped : {X Y : Type 0} (f : X → Y) (xs : List X) (x : X) → IsIn xs x → IsIn (map f xs) (f x)
+in_mapped f [] x m = absurd (cc m.1)
+in_mapped f (y ∷ xs) x (zero, e) = let same : y ≡ x = cc e in (zero, ap (λ z. Some (f z)) same)
+in_mapped f (y ∷ xs) x (suc k, e) = let r = in_mapped f xs x (k, e) in (suc r.0, r.1)
+
+pub from_mapped : {X Y : Type 0} (f : X → Y) (xs : List X) (y : Y) → IsIn (map f xs) y → (x : X) × IsIn xs x × (f x ≡ y)
+from_mapped f xs y m = let r = mapped f xs m.0 y m.1 in (r.0, (m.0, r.1), r.2)

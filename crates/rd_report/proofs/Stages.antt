@@ -1,176 +1,262 @@
--- A script on its way.
-use Rattle.std.proofs.Common.{◌≡◌, ℕ, suc, ◌+◌, ◌≤◌, List, [], ◌∷◌, ◌++◌, map, Result, Ok, Err, refl, sym, ap, subst, ◌∙◌, arith, append_assoc, add-one}
-use Rattle.std.specs.Prelude.{IfOk, OnOk, flat_map}
-use Rattle.std.specs.List.{AllByRecursion, AllZip}
+-- A script on its way: what stands after some of its steps, and after one step more.
+use Rattle.std.proofs.Common.{◌≡◌, ℕ, zero, suc, ◌+◌, ◌<◌, List, [], ◌∷◌, ◌++◌, length, map, flat_map, Bool, true, false, refl, sym, ap, ap₂, subst, ◌∙◌, arith, append_assoc, length-append, inl, inr, ◌⊎◌}
+use Rattle.std.specs.Prelude.{All, if◌then◌else◌}
+use Rattle.std.proofs.lemmas.List.{append-nil, map-append, length-map, get_or_append_left, get_or-append-add}
 use Rattle.rd_history.specs.Texts.{Text}
-use Rattle.rd_history.specs.Vector.{VersionVector, IdentitySet}
 use Rattle.rd_history.specs.History.{History}
-use Rattle.rd_model.specs.Entry.{Entry}
-use Rattle.rd_history.specs.History.{IsHistory}
-use Rattle.rd_model.specs.DataType.{DataType, Replication}
+use Rattle.rd_model.specs.DataType.{Replication}
 use Rattle.rd_model.specs.Node.{KeyDecl}
-use Rattle.rd_model.specs.World.{IsRun}
-use Rattle.rd_model.specs.Script.{ScriptStep, IsStep, Told, Playing, none_fails, opening, played, played_all, lines_of}
-use Rattle.rd_model.specs.Report.{told_text, steps_text, final_block, report}
-use Rattle.rd_runs.proofs.Playing.{IsQuietStep, step_is_run, all_append}
-use Rattle.rd_runs.proofs.ScriptLogs.{script_logs, script_unpruned}
-use Rattle.rd_script.specs.declared.script.Script.{Script}
-use Rattle.rd_script.specs.declared.script.Step.{Step}
-use Rattle.rd_script.specs.declared.script.Step.TheVariants.{Update, Get, Flush, Gossip, Deliver, Lose, Round}
+use Rattle.rd_model.specs.View.{place_of}
+use Rattle.rd_model.specs.Entry.{Entry}
+use Rattle.rd_model.specs.World as worlds
+use Rattle.rd_model.specs.Script.{Playing, Told, ScriptStep, played, played_all, lines_of, answers_between}
+use Rattle.rd_model.specs.Report.{told_text, steps_text, final_block}
 use Rattle.rd_kinds.specs.ShownText.{shown_text}
 use Rattle.rd_kinds.specs.declared.kind.Kind.{Kind}
 use Rattle.rd_kinds.specs.declared.operation.Op.{Op}
 use Rattle.rd_kinds.specs.declared.shown.Shown.{Shown}
 use Rattle.rd_lattice.specs.declared.replica.Replica.{Ghosts}
+use Rattle.rd_lattice.specs.declared.spelled.SpelledData.{Ghosts as Spelling}
+use Rattle.rd_keeper.specs.declared.keeper.Keeper.{Ghosts as Keeping}
+use Rattle.rd_views.specs.Sound.{last_view}
+use Rattle.rd_node.specs.Steps.{replication}
 use Rattle.rd_node.specs.Members.{delta_groups}
+use Rattle.rd_envelope_codec.specs.Entries.{entry_digest}
+use Rattle.rd_runs.proofs.AgreementOverRuns.{logs_throughout}
+use Rattle.rd_world.specs.Standing.{StandsForWorld}
+use Rattle.rd_script.specs.declared.script.Step.{Step}
+use Rattle.rd_script.specs.declared.script.Step.TheVariants as form
 use Rattle.rd_world.specs.declared.world.World.{World}
 use Rattle.rd_world.specs.declared.event.Event.{Event}
-use Rattle.rd_world.specs.Lines.{IsLine, IsNextLine, AreNextLines}
-use Rattle.rd_world.specs.Ways.{Throughout}
-use Rattle.rd_world.specs.Standing.{StandsForWorld}
-use Rattle.rd_report.specs.Run.{step_of, decl_of, in_order}
-use Rattle.rd_report.specs.Plays.{Plays}
+use Rattle.rd_world.specs.Places.{keeper_of}
+use Rattle.rd_world.specs.Keeping.{Given, KeepsAt}
+use Rattle.rd_world.specs.Steps.{step_of, Foretells, Reaches, LoadsWhatItTook, Plays}
+use Rattle.rd_world.specs.Ways.{Means}
+use Rattle.rd_world.proofs.Unkept.{not_called_at}
+use Rattle.rd_report.specs.Lines.{event_text}
+use Rattle.rd_report.specs.Run.{is_restart, until_restart}
+use Rattle.rd_report.specs.Telling.{AllTell, LoadAll, played_so_far, told_so_far, BeginsSo, SetsOut, Follows, TellsAll}
+use Rattle.rd_report.proofs.Composed.{kept_further, tells_further, foretold_first, foretold_then}
+use Rattle.rd_report.proofs.SameAnswers.{same_answers}
+use Rattle.rd_report.proofs.StepTexts.{after, played_append, lines_append, lines_length, texts_append}
+use Rattle.rd_report.proofs.Told.{lines_told}
 
--- ONE STEP
+-- LISTS
 
-if_ok : {T E : Type 0} (P Q : T → Type 0) (r : Result T E) → ((x : T) → P x → Q x) → IfOk r P → IfOk r Q
-if_ok P Q (Ok x) f h = f x h
-if_ok P Q (Err e) f h = tt
+module _ {X : Type 0} (P : X → Type 0) where
+  all_front : (xs ys : List X) → All P (xs ++ ys) → All P xs
+  all_front xs ys all k d less =
+      let longer : k < length (xs ++ ys) = let n = length-append xs ys in omega (arith, n, less) in
+      subst P (get_or_append_left xs ys d k less) (all k d longer)
 
-module _ {T Delta : Type 0} {ghosts : Ghosts T Kind Op Delta} (kind_of : T → Kind) (IsDataOf : T → History Op → VersionVector → IdentitySet → Type 0) (kinds : Text → Kind) (logs : Text → History Op)
-    (data_type : DataType Kind Op Shown) (digest : Kind → Entry Op → List ℕ) (members : ℕ) (decls : List (KeyDecl Kind)) (before : Playing Kind Op Shown) (s t : ScriptStep Op) (same : s ≡ t) (old new : World T Kind Op Delta ghosts) where
-  -- what is asked of a step
-  abbrev pub Asks : ScriptStep Op → Type 0 → Type 0
-  Asks step Claim = IsRun (delta_groups data_type digest) members decls before.events before.world → Throughout (delta_groups data_type digest) logs members decls (played (delta_groups data_type digest) before step) → StandsForWorld kind_of IsDataOf kinds logs old before.world → Claim
+  all_last : (xs : List X) (y : X) → All P (xs ++ y ∷ []) → P y
+  all_last xs y all =
+      let longer : length xs + 0 < length (xs ++ y ∷ []) = let n = length-append xs (y ∷ []) in omega (arith, n) in
+      subst P (get_or-append-add xs (y ∷ []) 0 y) (all (length xs + 0) y longer)
 
-  -- a step with one event
-  pub by_event : (event : Event) {E : Type 0} (result : Result (List Event) E) → Asks t (StandsForWorld kind_of IsDataOf kinds logs new (played (delta_groups data_type digest) before t).world) → Asks t (IsNextLine event before (played (delta_groups data_type digest) before t))
-      → IfOk result (λ events. events ≡ event ∷ []) → Asks s (IfOk result (Plays kind_of IsDataOf kinds logs before (played (delta_groups data_type digest) before s) new))
-  by_event event result stands told made =
-      subst (λ step. Asks step (IfOk result (Plays kind_of IsDataOf kinds logs before (played (delta_groups data_type digest) before step) new))) (sym same)
-      (λ is_run way start. if_ok (λ events. events ≡ event ∷ []) (Plays kind_of IsDataOf kinds logs before (played (delta_groups data_type digest) before t) new) result
-      (λ events is. subst (λ events. Plays kind_of IsDataOf kinds logs before (played (delta_groups data_type digest) before t) new events) (sym is) (let line = told is_run way start in record { stands = stands is_run way start; told = (line.0 ∷ [], line.1, (line.2, tt)) })) made)
+  all_more : (xs : List X) (y : X) → All P xs → P y → All P (xs ++ y ∷ [])
+  all_more [] y all here zero d less = here
+  all_more [] y all here (suc k) d less = absurd (omega (arith, less))
+  all_more (x ∷ xs) y all here zero d less = all zero d (omega arith)
+  all_more (x ∷ xs) y all here (suc k) d less = all_more xs y (λ k d less. all (suc k) d (omega (arith, less))) here k d (omega (arith, less))
 
-  -- a step with a list of events
-  pub by_events : {E : Type 0} (result : Result (List Event) E) → Asks t (OnOk result (StandsForWorld kind_of IsDataOf kinds logs new (played (delta_groups data_type digest) before t).world)) → Asks t (IfOk result (λ events. AreNextLines events before (played (delta_groups data_type digest) before t)))
-      → Asks s (IfOk result (Plays kind_of IsDataOf kinds logs before (played (delta_groups data_type digest) before s) new))
-  by_events result stands told =
-      subst (λ step. Asks step (IfOk result (Plays kind_of IsDataOf kinds logs before (played (delta_groups data_type digest) before step) new))) (sym same)
-      (λ is_run way start. both_ok result (stands is_run way start) (told is_run way start))
-    where
-      both_ok : {E : Type 0} (r : Result (List Event) E) → OnOk r (StandsForWorld kind_of IsDataOf kinds logs new (played (delta_groups data_type digest) before t).world) → IfOk r (λ events. AreNextLines events before (played (delta_groups data_type digest) before t)) → IfOk r (Plays kind_of IsDataOf kinds logs before (played (delta_groups data_type digest) before t) new)
-      both_ok (Ok events) p q = record { stands = p; told = q }
-      both_ok (Err e) p q = tt
+  all_cons : (x : X) (xs : List X) → P x → All P xs → All P (x ∷ xs)
+  all_cons x xs here all zero d less = here
+  all_cons x xs here all (suc k) d less = all k d (omega (arith, less))
 
--- THE STEPS OF A SCRIPT ARE LAWFUL, AND BRING NO PRUNE
+-- THE STEPS BEFORE THE FIRST RESTART
 
-are_steps : (steps : List Step) → AllByRecursion IsStep (map step_of steps)
-are_steps [] = tt
-are_steps (Update at key op ∷ steps) = (tt, are_steps steps)
-are_steps (Get at key ∷ steps) = (tt, are_steps steps)
-are_steps (Flush at ∷ steps) = (tt, are_steps steps)
-are_steps (Gossip at to ∷ steps) = (tt, are_steps steps)
-are_steps (Deliver from to index ∷ steps) = (tt, are_steps steps)
-are_steps (Lose from to ∷ steps) = (tt, are_steps steps)
-are_steps (Round ∷ steps) = (tt, are_steps steps)
+abbrev pub IsNoRestart : Step → Type 0
+IsNoRestart step = is_restart step ≡ false
 
-is_step : (step : Step) → IsStep (step_of step)
-is_step step = (are_steps (step ∷ [])).0
+-- no restart so far, or the first ones stay the first
+until_more : (done : List Step) (step : Step) → (All IsNoRestart done × (until_restart done ≡ done) × (until_restart (done ++ step ∷ []) ≡ done ++ until_restart (step ∷ []))) ⊎ (until_restart (done ++ step ∷ []) ≡ until_restart done)
+until_more [] step = inl (λ k d less. absurd (omega (arith, less)), refl, refl)
+until_more (s ∷ done) step = by_test (is_restart s) refl (until_more done step)
+  where
+    by_test : (b : Bool) → is_restart s ≡ b → (All IsNoRestart done × (until_restart done ≡ done) × (until_restart (done ++ step ∷ []) ≡ done ++ until_restart (step ∷ []))) ⊎ (until_restart (done ++ step ∷ []) ≡ until_restart done)
+        → (All IsNoRestart (s ∷ done) × ((if b then [] else s ∷ until_restart done) ≡ s ∷ done) × ((if b then [] else s ∷ until_restart (done ++ step ∷ [])) ≡ s ∷ done ++ until_restart (step ∷ []))) ⊎ ((if b then [] else s ∷ until_restart (done ++ step ∷ [])) ≡ (if b then [] else s ∷ until_restart done))
+    by_test true is later = inr refl
+    by_test false is (inl none) = inl (all_cons IsNoRestart s done is none.0, ap (λ ss. s ∷ ss) none.1, ap (λ ss. s ∷ ss) none.2)
+    by_test false is (inr same) = inr (ap (λ ss. s ∷ ss) same)
 
-are_quiet : (D : Replication Kind Op Shown) (steps : List Step) → AllByRecursion (IsQuietStep D) (map step_of steps)
-are_quiet D [] = tt
-are_quiet D (Update at key op ∷ steps) = (tt, are_quiet D steps)
-are_quiet D (Get at key ∷ steps) = (tt, are_quiet D steps)
-are_quiet D (Flush at ∷ steps) = (tt, are_quiet D steps)
-are_quiet D (Gossip at to ∷ steps) = (tt, are_quiet D steps)
-are_quiet D (Deliver from to index ∷ steps) = (tt, are_quiet D steps)
-are_quiet D (Lose from to ∷ steps) = (tt, are_quiet D steps)
-are_quiet D (Round ∷ steps) = (tt, are_quiet D steps)
+-- THE MODEL'S RUN
 
--- ALL STEPS
+module _ (D : Replication Kind Op Shown) (p : Playing Kind Op Shown) where
+  played_more : (done : List Step) (step : Step) → played_so_far D p (done ++ step ∷ []) ≡ after D (played_so_far D p done) (step_of step)
+  played_more done step = ap (played_all D p) (map-append step_of done (step ∷ [])) ∙ played_append D p (map step_of done) (step_of step ∷ [])
 
-module _ (data_type : DataType Kind Op Shown) (digest : Kind → Entry Op → List ℕ) (script : Script) where
-  -- the declared keys
-  abbrev pub decls : List (KeyDecl Kind)
-  decls = map decl_of (in_order script.keys)
+  told_more : (done : List Step) (step : Step) (n : ℕ) → n ≡ suc (length done) → told_so_far D p (done ++ step ∷ []) ≡ told_so_far D p done ++ flat_map (told_text D shown_text n) (played D (played_so_far D p done) (step_of step)).lines
+  told_more done step n is =
+      let xs = map step_of done in
+      let ls = lines_of D p xs in
+      let l = (played D (played_so_far D p done) (step_of step)).lines in
+      let count : 1 + length ls ≡ n = let a = lines_length D p xs in let b = length-map done step_of in omega (arith, a, b, is) in
+      ap (λ ss. steps_text D shown_text 1 (lines_of D p ss)) (map-append step_of done (step ∷ []))
+      ∙ ap (steps_text D shown_text 1) (lines_append D p xs (step_of step ∷ []))
+      ∙ texts_append D shown_text 1 ls (l ∷ [])
+      ∙ ap (λ k. steps_text D shown_text 1 ls ++ (flat_map (told_text D shown_text k) l ++ [])) count
+      ∙ ap (λ t. steps_text D shown_text 1 ls ++ t) (append-nil (flat_map (told_text D shown_text n) l))
 
-  -- before the first step
-  abbrev pub before_all : Playing Kind Op Shown
-  before_all = opening none_fails script.members decls
+silent : (D : Replication Kind Op Shown) (p : Playing Kind Op Shown) (steps : List (ScriptStep Op)) → p.lines ≡ [] → (played_all D p steps).lines ≡ []
+silent D p [] h = h
+silent D p (step ∷ steps) h = silent D (after D p step) steps refl
 
-  -- after the last step
-  abbrev pub ending : Playing Kind Op Shown
-  ending = played_all (delta_groups data_type digest) before_all (map step_of script.steps)
+-- WHAT A STEP LOADS
 
-  abbrev pub whole : Text
-  whole = report (delta_groups data_type digest) shown_text none_fails script.members decls (map step_of script.steps)
+module _ {T K Delta : Type 0} {ghosts : Ghosts T Kind Op Delta} {keeping : Keeping K} where
+  loads_told : (spelling : Spelling T Kind Op Delta) (step : Step) (world : World T K Kind Op Delta ghosts keeping) → AllTell world → LoadsWhatItTook spelling step world
+  loads_told spelling (form.Update at key op) world tell = tt
+  loads_told spelling (form.Get at key) world tell = tt
+  loads_told spelling (form.Flush at) world tell = tt
+  loads_told spelling (form.Gossip at to) world tell = tt
+  loads_told spelling (form.Deliver from to index) world tell = tt
+  loads_told spelling (form.Lose from to) world tell = tt
+  loads_told spelling form.Round world tell = tt
+  loads_told spelling (form.Remove id) world tell = tt
+  loads_told spelling (form.Join place) world tell = tt
+  loads_told spelling (form.Restart id) world tell = tell (place_of (last_view world.views) id)
+  loads_told spelling (form.Install at view) world tell = tt
 
-  -- the logs of the whole run
-  pub record AreRunLogs (logs : Text → History Op) : Type 0 where
-    pub histories : (key : Text) → IsHistory (logs key)
-    pub way : Throughout (delta_groups data_type digest) logs script.members decls ending
+  loads_nothing : (spelling : Spelling T Kind Op Delta) (step : Step) (world : World T K Kind Op Delta ghosts keeping) → IsNoRestart step → LoadsWhatItTook spelling step world
+  loads_nothing spelling (form.Update at key op) world calm = tt
+  loads_nothing spelling (form.Get at key) world calm = tt
+  loads_nothing spelling (form.Flush at) world calm = tt
+  loads_nothing spelling (form.Gossip at to) world calm = tt
+  loads_nothing spelling (form.Deliver from to index) world calm = tt
+  loads_nothing spelling (form.Lose from to) world calm = tt
+  loads_nothing spelling form.Round world calm = tt
+  loads_nothing spelling (form.Remove id) world calm = tt
+  loads_nothing spelling (form.Join place) world calm = tt
+  loads_nothing spelling (form.Restart id) world calm = absurd (cc calm)
+  loads_nothing spelling (form.Install at view) world calm = tt
 
-  -- the step with this number is the next, and these are left: the text so far and that of what is left are the whole
-  pub record IsStage {T Delta : Type 0} {ghosts : Ghosts T Kind Op Delta} (kind_of : T → Kind) (IsDataOf : T → History Op → VersionVector → IdentitySet → Type 0) (kinds : Text → Kind) (logs : Text → History Op) (number : ℕ) (left : List Step) (code : World T Kind Op Delta ghosts) (text : List ℕ) (p : Playing Kind Op Shown) : Type 0 where
-    pub fresh : p.lines ≡ []
-    pub is_run : IsRun (delta_groups data_type digest) script.members decls p.events p.world
-    pub stands : StandsForWorld kind_of IsDataOf kinds logs code p.world
-    pub ends : played_all (delta_groups data_type digest) p (map step_of left) ≡ ending
-    pub told : text ++ (steps_text (delta_groups data_type digest) shown_text number (lines_of (delta_groups data_type digest) p (map step_of left)) ++ final_block (delta_groups data_type digest) shown_text ending.world) ≡ whole
+-- STAGES
 
-  -- there are such logs
-  pub run_logs : 1 ≤ script.members → script.members ≤ 8 → (logs : Text → History Op) × AreRunLogs logs
-  run_logs some few =
-      let D = delta_groups data_type digest in
-      let steps = map step_of script.steps in
-      let all = script_logs D script.members decls none_fails steps some (omega arith) (are_steps script.steps) in
-      let plain = script_unpruned D script.members decls none_fails steps all.0 (are_steps script.steps) (are_quiet D script.steps) all.1 in (
-        all.0,
-        record { histories = all.1.last.histories; way = record { logged = all.1.throughout; prune_free = λ key origin before r removed has is. (plain key).none origin before removed r has is } },
-      )
+module _ {T K Delta : Type 0} {ghosts : Ghosts T Kind Op Delta} {keeping : Keeping K} (spelling : Spelling T Kind Op Delta) where
+  -- after some steps: the answers so far, and the text of the model's run with them
+  pub record Stage (done : List Step) (old new : World T K Kind Op Delta ghosts keeping) (text : List ℕ) : Type 0 where
+    pub given : Given
+    pub kept : (place : ℕ) → KeepsAt keeping (given place) (keeper_of old.nodes.items old.spare.items place) (keeper_of new.nodes.items new.spare.items place)
+    pub begun : (kinds : Text → Kind) (members : ℕ) (decls : List (KeyDecl Kind)) (p : Playing Kind Op Shown) → SetsOut spelling kinds members decls p given old → BeginsSo (replication ghosts spelling) p done text
+    pub exact : LoadAll done old → (kinds : Text → Kind) (members : ℕ) (decls : List (KeyDecl Kind)) (p : Playing Kind Op Shown) → SetsOut spelling kinds members decls p given old
+        → Follows spelling kinds members decls p given done new × (text ≡ told_so_far (replication ghosts spelling) p done)
 
-  module _ {T Delta : Type 0} {ghosts : Ghosts T Kind Op Delta} (kind_of : T → Kind) (IsDataOf : T → History Op → VersionVector → IdentitySet → Type 0) (kinds : Text → Kind) (logs : Text → History Op) where
-    pub first_stage : (code : World T Kind Op Delta ghosts) (text : List ℕ) → StandsForWorld kind_of IsDataOf kinds logs code before_all.world → text ≡ [] → 1 ≤ script.members → script.members ≤ 8 → IsStage kind_of IsDataOf kinds logs 1 script.steps code text before_all
-    first_stage code text stands none some few =
+  pub first_stage : (world : World T K Kind Op Delta ghosts keeping) (text : List ℕ) → text ≡ [] → Stage [] world world text
+  first_stage world text none =
+      record {
+        given = λ place. [];
+        kept = λ place. not_called_at keeping (keeper_of world.nodes.items world.spare.items place);
+        begun = λ kinds members decls p sets. ([], none);
+        exact = λ load kinds members decls p sets. (record { means = sets.means; calls = λ place. omega arith }, none);
+      }
+
+  -- lines are no part of what a world means
+  means_silent : (kinds : Text → Kind) (members : ℕ) (decls : List (KeyDecl Kind)) (p : Playing Kind Op Shown) (world : World T K Kind Op Delta ghosts keeping) → Means spelling kinds members decls p world → Means spelling kinds members decls (record p { lines = [] }) world
+  means_silent kinds members decls p world means = record { run = means.run; stands = λ logs all. means.stands logs (record { histories = all.histories; logged = all.logged }) }
+
+  module _ (done : List Step) (step : Step) (n : ℕ) (number : n ≡ suc (length done)) (old mid new : World T K Kind Op Delta ghosts keeping) (events : List Event) (text text' : List ℕ) (stage : Stage done old mid text) (plays : Plays spelling step mid new events)
+      (grown : text' ≡ text ++ flat_map (event_text n) events) where
+    given_then : Given
+    given_then place = stage.given place ++ plays.given place
+
+    kept_then : (place : ℕ) → KeepsAt keeping (given_then place) (keeper_of old.nodes.items old.spare.items place) (keeper_of new.nodes.items new.spare.items place)
+    unfolding given_then
+    kept_then place = kept_further keeping (stage.given place) (plays.given place) (keeper_of old.nodes.items old.spare.items place) (keeper_of mid.nodes.items mid.spare.items place) (keeper_of new.nodes.items new.spare.items place) (stage.kept place) (plays.kept place)
+
+    loads_before : LoadAll (done ++ step ∷ []) old → LoadAll done old
+    loads_before (inl tell) = inl tell
+    loads_before (inr none) = inr (all_front IsNoRestart done (step ∷ []) none)
+
+    loads_now : LoadAll (done ++ step ∷ []) old → LoadsWhatItTook spelling step mid
+    loads_now (inl tell) = loads_told spelling step mid (λ place. tells_further keeping (stage.given place) (keeper_of old.nodes.items old.spare.items place) (keeper_of mid.nodes.items mid.spare.items place) (stage.kept place) (tell place))
+    loads_now (inr none) = loads_nothing spelling step mid (all_last IsNoRestart done step none)
+
+    module _ (kinds : Text → Kind) (members : ℕ) (decls : List (KeyDecl Kind)) (p : Playing Kind Op Shown) (sets : SetsOut spelling kinds members decls p given_then old) where
+      sets_before : SetsOut spelling kinds members decls p stage.given old
+      unfolding given_then
+      sets_before = record { means = sets.means; silent = sets.silent; foretold = λ place. foretold_first p.answers place (p.calls place) (stage.given place) (plays.given place) (sets.foretold place) }
+
+      module _ (follows : Follows spelling kinds members decls p stage.given done mid) where
+        foretold_now : Foretells (played_so_far (replication ghosts spelling) p done) plays.given
+        unfolding given_then
+        foretold_now place =
+            ap₂ (λ answers c. answers_between answers place c (c + length (plays.given place))) (same_answers (replication ghosts spelling) p done) (follows.calls place)
+            ∙ foretold_then p.answers place (p.calls place) (stage.given place) (plays.given place) (sets.foretold place)
+
+        module _ (load : LoadsWhatItTook spelling step mid) where
+          reaches : Reaches spelling kinds members decls (played_so_far (replication ghosts spelling) p done) (played (replication ghosts spelling) (played_so_far (replication ghosts spelling) p done) (step_of step)) plays.given new events
+          reaches = (plays.does load).1 kinds members decls (played_so_far (replication ghosts spelling) p done) follows.means foretold_now
+
+          follows_then : Follows spelling kinds members decls p given_then (done ++ step ∷ []) new
+          unfolding given_then
+          follows_then =
+              let so_far = played_so_far (replication ghosts spelling) p done in
+              let more = played_more (replication ghosts spelling) p done step in
+              record {
+                means = subst (λ (q : Playing Kind Op Shown). Means spelling kinds members decls q new) (sym more) (means_silent kinds members decls (played (replication ghosts spelling) so_far (step_of step)) new reaches.means);
+                calls = λ place.
+                    let a = follows.calls place in
+                    let b = reaches.calls place in
+                    let c = length-append (stage.given place) (plays.given place) in
+                    ap (λ (q : Playing Kind Op Shown). q.calls place) more ∙ omega (arith, a, b, c);
+              }
+
+          told_then : text ≡ told_so_far (replication ghosts spelling) p done → text' ≡ told_so_far (replication ghosts spelling) p (done ++ step ∷ [])
+          told_then is =
+              let D = replication ghosts spelling in
+              let so_far = played_so_far D p done in
+              let lines = reaches.lines in
+              let same : (played D so_far (step_of step)).lines ≡ lines.0 = lines.1 ∙ ap (λ (ls : List (Told Op Shown)). ls ++ lines.0) (silent D p (map step_of done) sets.silent) in
+              grown ∙ ap₂ (λ (a b : List ℕ). a ++ b) is (lines_told D n events lines.0 lines.2 ∙ ap (flat_map (told_text D shown_text n)) (sym same)) ∙ sym (told_more D p done step n number)
+
+      exact_then : LoadAll (done ++ step ∷ []) old → Follows spelling kinds members decls p given_then (done ++ step ∷ []) new × (text' ≡ told_so_far (replication ghosts spelling) p (done ++ step ∷ []))
+      exact_then load =
+          let before = stage.exact (loads_before load) kinds members decls p sets_before in
+          (follows_then before.0 (loads_now load), told_then before.0 (loads_now load) before.1)
+
+      begun_then : BeginsSo (replication ghosts spelling) p (done ++ step ∷ []) text'
+      begun_then = by_cases (until_more done step)
+        where
+          by_test : All IsNoRestart done → until_restart (done ++ step ∷ []) ≡ done ++ until_restart (step ∷ []) → (b : Bool) → is_restart step ≡ b → BeginsSo (replication ghosts spelling) p (done ++ step ∷ []) text'
+          by_test none same true is =
+              let first : until_restart (done ++ step ∷ []) ≡ done = same ∙ ap (λ b. done ++ (if b then [] else step ∷ [])) is ∙ append-nil done in
+              let before = stage.exact (inr none) kinds members decls p sets_before in
+              (flat_map (event_text n) events, grown ∙ ap (λ t. t ++ flat_map (event_text n) events) (before.1 ∙ ap (told_so_far (replication ghosts spelling) p) (sym first)))
+          by_test none same false is =
+              let first : until_restart (done ++ step ∷ []) ≡ done ++ step ∷ [] = same ∙ ap (λ b. done ++ (if b then [] else step ∷ [])) is in
+              let now = exact_then (inr (all_more IsNoRestart done step none is)) in
+              ([], now.1 ∙ ap (told_so_far (replication ghosts spelling) p) (sym first) ∙ sym (append-nil (told_so_far (replication ghosts spelling) p (until_restart (done ++ step ∷ [])))))
+
+          by_cases : (All IsNoRestart done × (until_restart done ≡ done) × (until_restart (done ++ step ∷ []) ≡ done ++ until_restart (step ∷ []))) ⊎ (until_restart (done ++ step ∷ []) ≡ until_restart done) → BeginsSo (replication ghosts spelling) p (done ++ step ∷ []) text'
+          by_cases (inl none) = by_test none.0 none.2 (is_restart step) refl
+          by_cases (inr same) =
+              let before = stage.begun kinds members decls p sets_before in
+              let lines = told_so_far (replication ghosts spelling) p (until_restart done) in
+              let more = flat_map (event_text n) events in
+              (before.0 ++ more, grown ∙ ap (λ t. t ++ more) before.1 ∙ append_assoc lines before.0 more ∙ ap (λ steps. told_so_far (replication ghosts spelling) p steps ++ (before.0 ++ more)) (sym same))
+
+    pub next_stage : Stage (done ++ step ∷ []) old new text'
+    next_stage = record { given = given_then; kept = kept_then; begun = begun_then; exact = λ load kinds members decls p sets. exact_then kinds members decls p sets load }
+
+  module _ (steps : List Step) (old new : World T K Kind Op Delta ghosts keeping) (text block text' : List ℕ) (stage : Stage steps old new text) (grown : text' ≡ text ++ block)
+      (told : (digest : Kind → Entry Op → List ℕ) (kinds : Text → Kind) (logs : Text → History Op) (end : worlds.World Kind Op Shown) → StandsForWorld spelling kinds logs new end → block ≡ final_block (delta_groups ghosts.data_type digest) shown_text end) where
+    module _ (kinds : Text → Kind) (members : ℕ) (decls : List (KeyDecl Kind)) (p : Playing Kind Op Shown) (means : Means spelling kinds members decls p new) where
+      block_is : block ≡ final_block (replication ghosts spelling) shown_text p.world
+      block_is =
+          let logs = logs_throughout (replication ghosts spelling) members decls p.events p.world means.run in
+          told (entry_digest spelling.byte_of spelling.history_spelled) kinds logs.0 p.world (means.stands logs.0 (record { histories = logs.1.last.histories; logged = logs.1.throughout }))
+
+    -- all steps, and then the final block
+    pub last_stage : TellsAll spelling steps old new text'
+    last_stage =
         record {
-          fresh = refl;
-          is_run = record { some = some; few = omega arith; lawful = tt; leads = refl };
-          stands = stands;
-          ends = refl;
-          told = ap (λ t. t ++ (steps_text (delta_groups data_type digest) shown_text 1 (lines_of (delta_groups data_type digest) before_all (map step_of script.steps)) ++ final_block (delta_groups data_type digest) shown_text ending.world)) none;
+          given = stage.given;
+          kept = stage.kept;
+          begun = λ kinds members decls p sets.
+              let before = stage.begun kinds members decls p sets in
+              (before.0 ++ block, grown ∙ ap (λ t. t ++ block) before.1 ∙ append_assoc (told_so_far (replication ghosts spelling) p (until_restart steps)) before.0 block);
+          whole = λ load kinds members decls p sets.
+              let so_far = stage.exact load kinds members decls p sets in
+              (so_far.0, grown ∙ ap₂ (λ (a b : List ℕ). a ++ b) so_far.1 (block_is kinds members decls (played_so_far (replication ghosts spelling) p steps) so_far.0.means));
         }
-
-    -- the way to the end goes on over the next step
-    pub way_on : (number : ℕ) (step : Step) (left : List Step) (code : World T Kind Op Delta ghosts) (text : List ℕ) (p : Playing Kind Op Shown) → IsStage kind_of IsDataOf kinds logs number (step ∷ left) code text p → AreRunLogs logs
-        → Throughout (delta_groups data_type digest) logs script.members decls (played (delta_groups data_type digest) p (step_of step))
-    way_on number step left code text p stage all =
-        let D = delta_groups data_type digest in
-        let q = played D p (step_of step) in
-        let later = all_append D (record q { lines = [] }) (map step_of left) (are_steps left) in
-        let ends : ending.events ≡ q.events ++ later.0 = ap (λ (e : Playing Kind Op Shown). e.events) (sym stage.ends) ∙ later.1 in
-        record { logged = λ before rest is. all.way.logged before (rest ++ later.0) (ends ∙ ap (λ es. es ++ later.0) is ∙ append_assoc before rest later.0); prune_free = all.way.prune_free }
-
-    pub next_stage : (number : ℕ) (step : Step) (left : List Step) (code later : World T Kind Op Delta ghosts) (text more : List ℕ) (events : List Event) (p : Playing Kind Op Shown) → IsStage kind_of IsDataOf kinds logs number (step ∷ left) code text p
-        → Plays kind_of IsDataOf kinds logs p (played (delta_groups data_type digest) p (step_of step)) later events → ((told : List (Told Op Shown)) → AllZip IsLine events told → more ≡ text ++ flat_map (told_text (delta_groups data_type digest) shown_text number) told)
-        → IsStage kind_of IsDataOf kinds logs (number + 1) left later more (record (played (delta_groups data_type digest) p (step_of step)) { lines = [] })
-    next_stage number step left code later text more events p stage plays grown =
-        let D = delta_groups data_type digest in
-        let q = played D p (step_of step) in
-        let rest = steps_text D shown_text (suc number) (lines_of D (record q { lines = [] }) (map step_of left)) in
-        let lines : q.lines ≡ plays.told.0 = plays.told.1 ∙ ap (λ ls. ls ++ plays.told.0) stage.fresh in
-        record {
-          fresh = refl;
-          is_run = step_is_run D script.members decls p (step_of step) (is_step step) stage.is_run;
-          stands = plays.stands;
-          ends = stage.ends;
-          told =
-              ap (λ n. more ++ (steps_text D shown_text n (lines_of D (record q { lines = [] }) (map step_of left)) ++ final_block D shown_text ending.world)) (add-one number)
-              ∙ ap (λ t. t ++ (rest ++ final_block D shown_text ending.world)) (grown plays.told.0 plays.told.2 ∙ ap (λ ls. text ++ flat_map (told_text D shown_text number) ls) (sym lines))
-              ∙ append_assoc text (flat_map (told_text D shown_text number) q.lines) (rest ++ final_block D shown_text ending.world)
-              ∙ ap (λ t. text ++ t) (sym (append_assoc (flat_map (told_text D shown_text number) q.lines) rest (final_block D shown_text ending.world)))
-              ∙ stage.told;
-        }
-
-    pub last_stage : (number : ℕ) (code : World T Kind Op Delta ghosts) (text more : List ℕ) (p : Playing Kind Op Shown) → IsStage kind_of IsDataOf kinds logs number [] code text p
-        → more ≡ text ++ final_block (delta_groups data_type digest) shown_text p.world → more ≡ whole
-    last_stage number code text more p stage grown = grown ∙ ap (λ (e : Playing Kind Op Shown). text ++ final_block (delta_groups data_type digest) shown_text e.world) stage.ends ∙ stage.told

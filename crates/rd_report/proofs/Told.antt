@@ -10,14 +10,16 @@ use Rattle.rd_model.specs.Message as model
 use Rattle.rd_model.specs.Script as script
 use Rattle.rd_model.specs.Script.{Told}
 use Rattle.rd_model.specs.Report as report
-use Rattle.rd_model.specs.Report.{words, line_of, answer_text, message_text, post_words, told_text, link_text}
+use Rattle.rd_model.specs.Report.{words, line_of, message_text, post_words, told_text, link_text}
 use Rattle.rd_kinds.specs.ShownText.{shown_text}
 use Rattle.rd_kinds.specs.declared.shown.Shown.{Shown}
-use Rattle.rd_world.specs.Lines.{sketched, sketched_post, IsHead, IsLine}
+use Rattle.rd_world.specs.Lines.{sketched, sketched_post, IsHead, IsAnswer, IsLine}
+use Rattle.rd_world.specs.declared.event.Answer.{Answer}
+use Rattle.rd_world.specs.declared.event.Answer.TheVariants as answer
 use Rattle.rd_world.specs.declared.event.Event.{Event}
 use Rattle.rd_world.specs.declared.event.Head.{Head}
 use Rattle.rd_world.specs.declared.event.Head.TheVariants as head
-use Rattle.rd_report.specs.Lines.{sketch_text, delivered_words, head_words, post_text, sent_text, event_text}
+use Rattle.rd_report.specs.Lines.{sketch_text, delivered_words, head_words, answer_text, post_text, sent_text, event_text}
 
 -- WORDS
 
@@ -35,6 +37,23 @@ some_spaced (w ∷ ws) some = ap (λ t. 32 ∷ t) (words_spaced w ws)
 
 regroup : (a b c d : Text) (x y : ℕ) → a ++ (x ∷ []) ++ b ++ (y ∷ []) ++ c ++ d ≡ a ++ ((x ∷ b) ++ ((y ∷ c) ++ d))
 regroup a b c d x y = simp append_assoc
+
+answer_told : (a : Answer) (told : script.Answer Shown) → IsAnswer a told → answer_text a ≡ report.answer_text shown_text told
+answer_told (answer.Reply reply) told is = sym (ap (report.answer_text shown_text) is)
+answer_told answer.Gone told is = sym (ap (report.answer_text shown_text) is)
+answer_told answer.HistoryFull told is = sym (ap (report.answer_text shown_text) is)
+answer_told answer.NoSuchView told is = sym (ap (report.answer_text shown_text) is)
+answer_told answer.NoSuchMessage told is = sym (ap (report.answer_text shown_text) is)
+answer_told answer.Lost told is = sym (ap (report.answer_text shown_text) is)
+answer_told answer.Nothing told is = sym (ap (report.answer_text shown_text) is)
+answer_told (answer.View number) told is = sym (ap (report.answer_text shown_text) is)
+answer_told (answer.NewId id view) told is = sym (ap (report.answer_text shown_text) is)
+answer_told answer.LastMember told is = sym (ap (report.answer_text shown_text) is)
+answer_told answer.PlaceTaken told is = sym (ap (report.answer_text shown_text) is)
+answer_told answer.TooManyIdentities told is = sym (ap (report.answer_text shown_text) is)
+answer_told answer.ClearFailed told is = sym (ap (report.answer_text shown_text) is)
+answer_told answer.LoadFailed told is = sym (ap (report.answer_text shown_text) is)
+answer_told (answer.Damaged key) told is = absurd is
 
 module _ {Op : Type 0} where
   sketch_told : (message : model.Message Op) → sketch_text (sketched message) ≡ message_text message
@@ -61,6 +80,10 @@ module _ {Op : Type 0} where
       ap (λ ws. codes "deliver" ∷ link_text from to index ∷ ws) (ap delivered_words is.2 ∙ delivered_told is.0) ∙ sym (ap report.head_words is.1)
   head_told (head.Lose from to index) told is = sym (ap report.head_words is)
   head_told head.Round told is = sym (ap report.head_words is)
+  head_told (head.Remove id) told is = sym (ap report.head_words is)
+  head_told (head.Join place) told is = sym (ap report.head_words is)
+  head_told (head.Restart id) told is = sym (ap report.head_words is)
+  head_told (head.Install at view) told is = sym (ap report.head_words is)
 
   post_told : (post : model.Post Op) → post_text (sketched_post post) ≡ spaced (report.post_text post)
   post_told post = ap (λ t. 32 ∷ (decimal post.to ++ codes ":" ++ t)) (sketch_told post.message)
@@ -101,10 +124,10 @@ module _ {Op : Type 0} where
   pub event_told : {Kind : Type 0} (D : Replication Kind Op Shown) (n : ℕ) (event : Event) (told : Told Op Shown) → IsLine event told → event_text n event ≡ told_text D shown_text n told
   event_told D n event told is =
       let number = decimal n in
-      let answer = answer_text shown_text told.answer in
+      let answer = report.answer_text shown_text told.answer in
       let sent : sent_text event.sent ≡ flat_map spaced (post_words told.posts) = ap sent_text is.sent ∙ sent_told told.posts in
       ap line_of (
-      ap₂ (λ (h : List Text) (a : Text). number ++ codes " " ++ words h ++ codes " " ++ a ++ sent_text event.sent) (head_told event.head told.head is.head) (ap (answer_text shown_text) (sym is.answer))
+      ap₂ (λ (h : List Text) (a : Text). number ++ codes " " ++ words h ++ codes " " ++ a ++ sent_text event.sent) (head_told event.head told.head is.head) (answer_told event.answer told.answer is.answer)
       ∙ regroup number (words (report.head_words told.head)) answer (sent_text event.sent) 32 32
       ∙ ap (λ t. number ++ ((32 ∷ words (report.head_words told.head)) ++ (spaced answer ++ t))) sent
       ∙ sym (line_told number told.head answer (post_words told.posts))

@@ -14,3 +14,7 @@ key_line data_type name kind entry = line_of (name ++ codes " " ++ value_text (d
 -- the line of a member
 abbrev pub member_line : ℕ → ℕ → ℕ → Text
 member_line id place view = line_of (words (codes "member" ∷ decimal id ∷ codes "place" ∷ decimal place ∷ codes "view" ∷ decimal view ∷ []))
+
+-- the line of the last view
+abbrev pub view_line : ℕ → Text
+view_line view = line_of (codes "final view " ++ decimal view)

@@ -1,4 +1,5 @@
 pub mod Finals
+pub mod Kept
 pub mod Lines
-pub mod Plays
 pub mod Run
+pub mod Telling

@@ -1,12 +1,14 @@
 -- The texts of events, as the lines of a report tell them.
 use Rattle.std.specs.Prelude.{ℕ, List, [], ◌∷◌, ◌++◌, codes, decimal, flat_map, Option, None, Some}
 use Rattle.rd_history.specs.Texts.{Text}
-use Rattle.rd_model.specs.Report.{words, slashed, link_text, line_of, answer_text}
+use Rattle.rd_model.specs.Report.{words, slashed, link_text, line_of, reply_text}
 use Rattle.rd_kinds.specs.ShownText.{shown_text}
 use Rattle.rd_messages.specs.declared.sketch.MessageKind.{MessageKind}
 use Rattle.rd_messages.specs.declared.sketch.MessageKind.TheVariants.{Deltas, Nack, Status, Gossip, Write, WriteAck, WriteNack, Read, ReadAnswer}
 use Rattle.rd_messages.specs.declared.sketch.Sketch.{Sketch}
-use Rattle.rd_world.specs.Lines.{meant_answer}
+use Rattle.rd_node.specs.Members.{meant}
+use Rattle.rd_world.specs.declared.event.Answer.{Answer}
+use Rattle.rd_world.specs.declared.event.Answer.TheVariants as answer
 use Rattle.rd_world.specs.declared.event.Event.{Event}
 use Rattle.rd_world.specs.declared.event.Head.{Head}
 use Rattle.rd_world.specs.declared.event.Head.TheVariants as head
@@ -39,6 +41,27 @@ head_words (head.Gossip at to) = codes "gossip" ∷ decimal at ∷ decimal to �
 head_words (head.Deliver from to index sketch) = codes "deliver" ∷ link_text from to index ∷ delivered_words sketch
 head_words (head.Lose from to index) = codes "lose" ∷ link_text from to index ∷ []
 head_words head.Round = codes "round" ∷ []
+head_words (head.Remove id) = codes "remove" ∷ decimal id ∷ []
+head_words (head.Join place) = codes "join" ∷ decimal place ∷ []
+head_words (head.Restart id) = codes "restart" ∷ decimal id ∷ []
+head_words (head.Install at view) = codes "install" ∷ decimal at ∷ codes "view" ∷ decimal view ∷ []
+
+abbrev pub answer_text : Answer → Text
+answer_text (answer.Reply reply) = reply_text shown_text (meant reply)
+answer_text answer.Gone = codes "gone"
+answer_text answer.HistoryFull = codes "history full"
+answer_text answer.NoSuchView = codes "no such view"
+answer_text answer.NoSuchMessage = codes "no such message"
+answer_text answer.Lost = codes "lost"
+answer_text answer.Nothing = codes "nothing"
+answer_text (answer.View number) = codes "view " ++ decimal number
+answer_text (answer.NewId id view) = words (codes "id" ∷ decimal id ∷ codes "view" ∷ decimal view ∷ [])
+answer_text answer.LastMember = codes "last member"
+answer_text answer.PlaceTaken = codes "place taken"
+answer_text answer.TooManyIdentities = codes "too many identities"
+answer_text answer.ClearFailed = codes "clear failed"
+answer_text answer.LoadFailed = codes "load failed"
+answer_text (answer.Damaged key) = codes "damaged " ++ key
 
 -- a receiver and the message that it was sent, after a space
 abbrev pub post_text : SentTo → Text
@@ -51,4 +74,4 @@ sent_text (sent ∷ more) = codes " sent" ++ flat_map post_text (sent ∷ more)
 
 -- the line of an event of a step
 abbrev pub event_text : ℕ → Event → Text
-event_text n event = line_of (decimal n ++ codes " " ++ words (head_words event.head) ++ codes " " ++ answer_text shown_text (meant_answer event.answer) ++ sent_text event.sent)
+event_text n event = line_of (decimal n ++ codes " " ++ words (head_words event.head) ++ codes " " ++ answer_text event.answer ++ sent_text event.sent)

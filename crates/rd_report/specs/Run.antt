@@ -1,11 +1,11 @@
 -- The run that a script asks for, and its report.
-use Rattle.std.specs.Prelude.{◌≡◌, ℕ, suc, false, List, [], ◌∷◌, map, fold, if◌then◌else◌}
+use Rattle.std.specs.Prelude.{◌≡◌, ℕ, suc, Bool, true, false, List, [], ◌∷◌, ◌++◌, map, fold, if◌then◌else◌, All}
 use Rattle.rd_history.specs.Texts.{Text, text_lt}
 use Rattle.rd_history.specs.History.{History}
 use Rattle.rd_model.specs.DataType.{DataType}
-use Rattle.rd_model.specs.Node.{KeyDecl, Level}
-use Rattle.rd_model.specs.Script.{ScriptStep, none_fails}
-use Rattle.rd_model.specs.Report.{report}
+use Rattle.rd_model.specs.Node.{KeyDecl}
+use Rattle.rd_model.specs.Script.{KeeperAnswers, Playing, opening, played_all, lines_of}
+use Rattle.rd_model.specs.Report.{report, steps_text}
 use Rattle.rd_kinds.specs.ShownText.{shown_text}
 use Rattle.rd_kinds.specs.declared.kind.Kind.{Kind}
 use Rattle.rd_kinds.specs.declared.operation.Op.{Op}
@@ -14,23 +14,11 @@ use Rattle.rd_node.specs.Members.{spelled_groups}
 use Rattle.rd_script.specs.declared.script.Script.{Script}
 use Rattle.rd_script.specs.declared.script.ScriptKey.{ScriptKey}
 use Rattle.rd_script.specs.declared.script.Step.{Step}
-use Rattle.rd_script.specs.declared.script.Step.TheVariants.{Update, Get, Flush, Gossip, Deliver, Lose, Round}
-
-abbrev pub step_of : Step → ScriptStep Op
-step_of (Update at key op) = ScriptStep.Update at key op Level.Local
-step_of (Get at key) = ScriptStep.Get at key Level.Local
-step_of (Flush at) = ScriptStep.Flush at
-step_of (Gossip at to) = ScriptStep.Gossip at to
-step_of (Deliver from to index) = ScriptStep.Deliver from to index
-step_of (Lose from to) = ScriptStep.Lose from to
-step_of Round = ScriptStep.Round
+use Rattle.rd_script.specs.declared.script.Step.TheVariants.{Restart}
+pub use Rattle.rd_world.specs.Steps.{step_of}
 
 abbrev pub decl_of : ScriptKey → KeyDecl Kind
 decl_of key = record { name = key.key; kind = key.kind; durable = key.durable }
-
--- the same key, not durable
-abbrev pub plain_of : ScriptKey → KeyDecl Kind
-plain_of key = record { name = key.key; kind = key.kind; durable = false }
 
 -- where a name stands among others: before the first that is greater
 abbrev pub place_in : List Text → Text → ℕ
@@ -49,7 +37,41 @@ ordered name xs = fold (placed name) [] xs
 abbrev pub in_order : List ScriptKey → List ScriptKey
 in_order keys = ordered (λ key. key.key) keys
 
--- this is the report of the script's run over values of the data type, where the digests of entries are those of their spellings
-abbrev pub IsReport : DataType Kind Op Shown → (Kind → ℕ) → (Kind → History Op → List ℕ) → Script → List ℕ → Type 0
-IsReport data_type byte_of history_spelled script text =
-    text ≡ report (spelled_groups data_type byte_of history_spelled) shown_text none_fails script.members (map decl_of (in_order script.keys)) (map step_of script.steps)
+-- ---- restarts
+
+abbrev pub is_restart : Step → Bool
+is_restart (Restart id) = true
+is_restart _ = false
+
+-- no step is a restart
+abbrev pub HasNoRestart : Script → Type 0
+HasNoRestart script = All (λ step. is_restart step ≡ false) script.steps
+
+-- the steps before the first restart
+abbrev pub until_restart : List Step → List Step
+until_restart [] = []
+until_restart (step ∷ steps) = if is_restart step then [] else step ∷ until_restart steps
+
+-- ---- the run and its report, over values of the data type, where the digests of entries are those of their spellings
+
+-- the script before its first step, with what the keepers answer
+abbrev pub beginning : KeeperAnswers → Script → Playing Kind Op Shown
+beginning answers script = opening answers script.members (map decl_of (in_order script.keys))
+
+module _ (data_type : DataType Kind Op Shown) (byte_of : Kind → ℕ) (history_spelled : Kind → History Op → List ℕ) where
+  -- the script after its last step
+  abbrev pub ending : KeeperAnswers → Script → Playing Kind Op Shown
+  ending answers script = played_all (spelled_groups data_type byte_of history_spelled) (beginning answers script) (map step_of script.steps)
+
+  abbrev pub IsReport : KeeperAnswers → Script → List ℕ → Type 0
+  IsReport answers script text =
+      text ≡ report (spelled_groups data_type byte_of history_spelled) shown_text answers script.members (map decl_of (in_order script.keys)) (map step_of script.steps)
+
+  -- the lines of the steps before the first restart
+  abbrev pub first_lines : KeeperAnswers → Script → List ℕ
+  first_lines answers script =
+      steps_text (spelled_groups data_type byte_of history_spelled) shown_text 1 (lines_of (spelled_groups data_type byte_of history_spelled) (beginning answers script) (map step_of (until_restart script.steps)))
+
+  -- the text begins with them
+  abbrev pub BeginsReport : KeeperAnswers → Script → List ℕ → Type 0
+  BeginsReport answers script text = (rest : List ℕ) × (text ≡ first_lines answers script ++ rest)

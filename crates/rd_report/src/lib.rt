@@ -6,4 +6,4 @@ mod members;
 mod order;
 mod playing;
 
-pub use playing::report;
+pub use playing::{Ending, Played, report};

@@ -1,15 +1,8 @@
-ghost use Rattle.std.specs.Prelude.{◌≡◌, ℕ, List, ◌++◌, flat_map, string_bytes, OnOk};
-ghost use Rattle.std.specs.List.{AllZip};
-ghost use Rattle.rd_model.specs.DataType.{DataType, Replication};
-ghost use Rattle.rd_model.specs.Script.{Told};
-ghost use Rattle.rd_model.specs.Report.{words, reply_text, answer_text, told_text};
+ghost use Rattle.std.specs.Prelude.{◌≡◌, ◌++◌, flat_map, string_bytes, OnOk};
+ghost use Rattle.rd_model.specs.Report.{words, reply_text};
 ghost use Rattle.rd_kinds.specs.ShownText.{shown_text};
-ghost use Rattle.rd_kinds.specs.declared.kind.Kind.{Kind};
-ghost use Rattle.rd_kinds.specs.declared.operation.Op.{Op};
-ghost use Rattle.rd_kinds.specs.declared.shown.Shown.{Shown};
 ghost use Rattle.rd_node.specs.Members.{meant};
-ghost use Rattle.rd_world.specs.Lines.{meant_answer, IsLine};
-ghost use Rattle.rd_report.specs.Lines.{sketch_text, head_words, sent_text, event_text};
+ghost use Rattle.rd_report.specs.Lines.{sketch_text, head_words, answer_text, sent_text, event_text};
 
 use rd_bytes::Memory;
 use rd_node::{MessageKind, Reply, Sketch};
@@ -42,24 +35,30 @@ fn push_head(text: &mut String, head: &Head) -> Result<(), Memory>
     ensures { OnOk result (string_bytes text.new ≡ string_bytes text.old ++ words (head_words head.now)) }
 {
     match head {
-        Head::Update { at, key } => write!(text, "update {at} {}", key.as_str())?,
-        Head::Get { at, key } => write!(text, "get {at} {}", key.as_str())?,
-        Head::Flush { at } => write!(text, "flush {at}")?,
-        Head::Gossip { at, to } => write!(text, "gossip {at} {to}")?,
+        Head::Update { at, key } => write!(text, "update {} {}", at.number(), key.as_str())?,
+        Head::Get { at, key } => write!(text, "get {} {}", at.number(), key.as_str())?,
+        Head::Flush { at } => write!(text, "flush {}", at.number())?,
+        Head::Gossip { at, to } => write!(text, "gossip {} {}", at.number(), to.number())?,
         Head::Deliver {
             from,
             to,
             index,
             sketch,
         } => {
-            write!(text, "deliver {from}>{to} {index}")?;
+            write!(text, "deliver {}>{} {index}", from.number(), to.number())?;
             if let Some(sketch) = sketch {
                 text.push_str(" ")?;
                 push_sketch(text, *sketch)?;
             }
         }
-        Head::Lose { from, to, index } => write!(text, "lose {from}>{to} {index}")?,
+        Head::Lose { from, to, index } => {
+            write!(text, "lose {}>{} {index}", from.number(), to.number())?;
+        }
         Head::Round => text.push_str("round")?,
+        Head::Remove { id } => write!(text, "remove {}", id.number())?,
+        Head::Join { place } => write!(text, "join {place}")?,
+        Head::Restart { id } => write!(text, "restart {}", id.number())?,
+        Head::Install { at, view } => write!(text, "install {} view {view}", at.number())?,
     }
     Ok(())
 }
@@ -80,6 +79,7 @@ fn push_reply(alloc: Global, text: &mut String, reply: &Reply) -> Result<(), Mem
         Reply::Overflow { share, amount } => write!(text, "overflow {share} {amount}")?,
         Reply::ClockSpent => text.push_str("clock spent")?,
         Reply::SetFull => text.push_str("set full")?,
+        Reply::StoreFailed => text.push_str("store failed")?,
         Reply::Taken => text.push_str("taken")?,
         Reply::Already => text.push_str("already")?,
         Reply::Gap(lacking) => {
@@ -87,6 +87,8 @@ fn push_reply(alloc: Global, text: &mut String, reply: &Reply) -> Result<(), Mem
             write!(text, "gap {lacking}")?;
         }
         Reply::NotFromMember => text.push_str("not from member")?,
+        Reply::Installed => text.push_str("installed")?,
+        Reply::OldView => text.push_str("old view")?,
         Reply::NotAPeer => text.push_str("not a peer")?,
     }
     Ok(())
@@ -94,15 +96,24 @@ fn push_reply(alloc: Global, text: &mut String, reply: &Reply) -> Result<(), Mem
 
 /// Adds what came of an event.
 fn push_answer(alloc: Global, text: &mut String, answer: &Answer) -> Result<(), Memory>
-    ensures { OnOk result (string_bytes text.new ≡ string_bytes text.old ++ answer_text shown_text (meant_answer answer.now)) }
+    ensures { OnOk result (string_bytes text.new ≡ string_bytes text.old ++ answer_text answer.now) }
 {
     match answer {
         Answer::Reply(reply) => push_reply(alloc, text, reply)?,
         Answer::Gone => text.push_str("gone")?,
         Answer::HistoryFull => text.push_str("history full")?,
+        Answer::NoSuchView => text.push_str("no such view")?,
         Answer::NoSuchMessage => text.push_str("no such message")?,
         Answer::Lost => text.push_str("lost")?,
         Answer::Nothing => text.push_str("nothing")?,
+        Answer::View(number) => write!(text, "view {number}")?,
+        Answer::NewId { id, view } => write!(text, "id {} view {view}", id.number())?,
+        Answer::LastMember => text.push_str("last member")?,
+        Answer::PlaceTaken => text.push_str("place taken")?,
+        Answer::TooManyIdentities => text.push_str("too many identities")?,
+        Answer::ClearFailed => text.push_str("clear failed")?,
+        Answer::LoadFailed => text.push_str("load failed")?,
+        Answer::Damaged(key) => write!(text, "damaged {}", key.as_str())?,
     }
     Ok(())
 }
@@ -143,8 +154,7 @@ pub(crate) fn push_lines(
     number: usize,
     events: &[Event],
 ) -> Result<(), Memory>
-    ensures { (D : Replication Kind Op Shown) (told : List (Told Op Shown)) → AllZip IsLine events.now told
-        → OnOk result (string_bytes text.new ≡ string_bytes text.old ++ flat_map (told_text D shown_text number) told) }
+    ensures { OnOk result (string_bytes text.new ≡ string_bytes text.old ++ flat_map (event_text number) events.now) }
 {
     for event in events {
         push_event(alloc, text, number, event)?;

@@ -4,17 +4,19 @@ ghost use Rattle.rd_history.specs.History.{History};
 ghost use Rattle.rd_model.specs.Entry.{Entry};
 ghost use Rattle.rd_model.specs.Node.{Node as Member};
 ghost use Rattle.rd_model.specs.World.{World as Modelled};
-ghost use Rattle.rd_model.specs.Report.{node_text, final_block};
+ghost use Rattle.rd_model.specs.Report.{node_text, member_text, final_block};
 ghost use Rattle.rd_kinds.specs.ShownText.{shown_text};
 ghost use Rattle.rd_kinds.specs.declared.shown.Shown.{Shown};
 ghost use Rattle.rd_node.specs.Members.{delta_groups, StandsForKey, StandsForNode};
 ghost use Rattle.rd_world.specs.Standing.{StandsForWorld};
-ghost use Rattle.rd_report.specs.Finals.{key_line, member_line};
+ghost use Rattle.rd_report.specs.Finals.{key_line, member_line, view_line};
 
 use rd_bytes::Memory;
-use rd_lattice::Replica;
+use rd_keeper::Keeper;
+use rd_lattice::{Replica, SpelledData};
 use rd_node::{KeyState, Node};
 use rd_texts::{push_known, push_marks, push_value};
+use rd_vectors::Id;
 use rd_world::World;
 use std::alloc::Global;
 
@@ -36,7 +38,7 @@ fn push_key<T: Replica>(alloc: Global, text: &mut String, key: &KeyState<T>) -> 
 }
 
 /// Adds the line of a member: its identity, the place where it runs, and the number of its view.
-fn push_member_line(text: &mut String, id: u8, place: usize, view: u32) -> Result<(), Memory>
+fn push_member_line(text: &mut String, id: u8, place: u8, view: u32) -> Result<(), Memory>
     ensures { OnOk result (string_bytes text.new ≡ string_bytes text.old ++ member_line id place view) }
 {
     writeln!(text, "member {id} place {place} view {view}")?;
@@ -44,36 +46,63 @@ fn push_member_line(text: &mut String, id: u8, place: usize, view: u32) -> Resul
 }
 
 /// Adds what a member at a place holds.
-fn push_member<T: Replica>(
+fn push_member<T: SpelledData, K: Keeper + Drop>(
     alloc: Global,
     text: &mut String,
-    place: usize,
-    member: &Node<T>,
+    place: u8,
+    member: &Node<T, K>,
 ) -> Result<(), Memory>
     ensures { (digest : T.Kind → Entry T.Op → List ℕ) (kinds : Name → T.Kind) (logs : Name → History T.Op) (node : Member T.Kind T.Op Shown)
         → StandsForNode T.kind_of T.IsDataOf kinds logs member.now node
         → OnOk result (string_bytes text.new ≡ string_bytes text.old ++ node_text (delta_groups T.data_type digest) shown_text place node) }
 {
-    push_member_line(text, member.id().number(), place, member.view())?;
+    push_member_line(text, member.id().number(), place, member.view().number())?;
     for key in member.keys() {
         push_key(alloc, text, key)?;
     }
     Ok(())
 }
 
-/// Adds what all members hold.
-pub(crate) fn push_final_block<T: Replica>(
+/// Adds the line of the last view.
+fn push_view_line(text: &mut String, view: u32) -> Result<(), Memory>
+    ensures { OnOk result (string_bytes text.new ≡ string_bytes text.old ++ view_line view) }
+{
+    writeln!(text, "final view {view}")?;
+    Ok(())
+}
+
+/// Adds what the member of an identity at a place holds, if it runs.
+fn push_seat<T: SpelledData, K: Keeper + Drop>(
     alloc: Global,
     text: &mut String,
-    world: &World<T>,
+    world: &World<T, K>,
+    id: Id,
+    place: u8,
 ) -> Result<(), Memory>
     ensures { (digest : T.Kind → Entry T.Op → List ℕ) (kinds : Name → T.Kind) (logs : Name → History T.Op) (end : Modelled T.Kind T.Op Shown)
-        → StandsForWorld T.kind_of T.IsDataOf kinds logs world.now end
+        → StandsForWorld T.SpelledData.own kinds logs world.now end
+        → OnOk result (string_bytes text.new ≡ string_bytes text.old ++ member_text (delta_groups T.data_type digest) shown_text end (record { identity = id; place = place })) }
+{
+    match world.node(id) {
+        Some(node) => push_member(alloc, text, place, node),
+        None => Ok(()),
+    }
+}
+
+/// Adds what the members of the last view hold.
+pub(crate) fn push_final_block<T: SpelledData, K: Keeper + Drop>(
+    alloc: Global,
+    text: &mut String,
+    world: &World<T, K>,
+) -> Result<(), Memory>
+    ensures { (digest : T.Kind → Entry T.Op → List ℕ) (kinds : Name → T.Kind) (logs : Name → History T.Op) (end : Modelled T.Kind T.Op Shown)
+        → StandsForWorld T.SpelledData.own kinds logs world.now end
         → OnOk result (string_bytes text.new ≡ string_bytes text.old ++ final_block (delta_groups T.data_type digest) shown_text end) }
 {
-    text.push_str("final view 0\n")?;
-    for (place, member) in world.nodes().iter().enumerate() {
-        push_member(alloc, text, place, member)?;
+    let view = world.views().last();
+    push_view_line(text, view.number())?;
+    for member in view.members() {
+        push_seat(alloc, text, world, member.id, member.place)?;
     }
     Ok(())
 }

@@ -1,5 +1,5 @@
 ghost use Rattle.std.specs.Prelude.{◌≡◌, ◌≤◌, map, length, IfOk};
-ghost use Rattle.rd_report.specs.Run.{place_in, plain_of, in_order};
+ghost use Rattle.rd_report.specs.Run.{place_in, decl_of, in_order};
 ghost use Rattle.rd_node.specs.Members.{declared};
 
 use rd_bytes::Memory;
@@ -27,13 +27,14 @@ pub(crate) fn in_order<T: Replica<Kind = Kind, Op = Op>>(
     alloc: Global,
     keys: &[ScriptKey],
 ) -> Result<Vec<KeyDecl<T>>, Memory>
-    ensures { IfOk result (λ decls. map declared decls.items ≡ map plain_of (in_order keys.now)) }
+    ensures { IfOk result (λ decls. map declared decls.items ≡ map decl_of (in_order keys.now)) }
 {
     let mut decls: Vec<KeyDecl<T>> = Vec::new(alloc);
     for key in keys {
         let decl = KeyDecl {
             key: key.key.copy(alloc)?,
             kind: key.kind,
+            durable: key.durable,
         };
         let place = place_of(decls.as_slice(), key.key.as_str());
         if decls.insert(place, decl).is_err() {

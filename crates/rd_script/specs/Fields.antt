@@ -2,7 +2,7 @@
 use Rattle.std.specs.Prelude.{◌≡◌, ℕ, ◌+◌, ◌-◌, ◌^◌, ◌==◌, List, length, Bool, true, false, ◌&&◌, ◌||◌, nat_le, if◌then◌else◌, Option, Some, None, option_and_then, is_some, Result, Ok, Err, ⊤}
 use Rattle.std.specs.List.{list_all, count_by}
 use Rattle.serde_json.specs.Data.{Data, Items, no_items, item, Members}
-use Rattle.serde_json.specs.Find.{get, as_number, as_u64, as_str, as_array, as_object}
+use Rattle.serde_json.specs.Find.{get, as_number, as_u64, as_bool, as_str, as_array, as_object}
 use Rattle.serde_json.specs.Events.{items_len, members_len}
 use Rattle.rd_script.specs.declared.fault.Rule.{Rule}
 use Rattle.rd_script.specs.declared.fault.Fault.{Fault}
@@ -38,9 +38,13 @@ whole_of rule low high field = within rule low high (option_and_then as_u64 (opt
 abbrev pub identity_of : ℕ → Option Data → Result ℕ Rule
 identity_of step = whole_of (rule step 7) 0 63
 
--- the number of a message on a link
-abbrev pub index_of : ℕ → Option Data → Result ℕ Rule
-index_of step = whole_of (rule step 7) 0 (2 ^ 32 - 1)
+-- the place of a member
+abbrev pub place_of : ℕ → Option Data → Result ℕ Rule
+place_of step = whole_of (rule step 7) 0 7
+
+-- the number of a view, or of a message on a link
+abbrev pub number_of : ℕ → Option Data → Result ℕ Rule
+number_of step = whole_of (rule step 7) 0 (2 ^ 32 - 1)
 
 -- what is read of a field that may be left out
 abbrev pub if_given : {X : Type 0} → (Option Data → Result X Rule) → Option Data → Result (Option X) Rule
@@ -54,6 +58,13 @@ amount_of step = whole_of (rule step 10) 1 (2 ^ 63 - 1)
 -- where a writer's clock stands
 abbrev pub moment_of : ℕ → Option Data → Result ℕ Rule
 moment_of step = whole_of (rule step 10) 0 (2 ^ 63 - 1)
+
+-- ---- flags
+
+-- a flag that may be left out, and is then off
+abbrev pub flag_of : Rule → Option Data → Result Bool Rule
+flag_of rule None = Ok false
+flag_of rule (Some d) = required rule (as_bool d)
 
 -- ---- texts
 

@@ -1,5 +1,5 @@
 -- The script that a JSON value says, or the first rule that it breaks.
-use Rattle.std.specs.Prelude.{◌≡◌, ℕ, ◌+◌, List, [], ◌∷◌, ◌++◌, length, false, not, codes, if◌then◌else◌, Option, Some, None, Result, Ok, Err}
+use Rattle.std.specs.Prelude.{◌≡◌, ℕ, ◌+◌, List, [], ◌∷◌, ◌++◌, length, not, codes, if◌then◌else◌, Option, Some, None, Result, Ok, Err}
 use Rattle.std.specs.List.{list_any}
 use Rattle.std.specs.Str.{IsUtf8, bytes_eq}
 use Rattle.serde_json.specs.Data.{Data, Items, no_items, item}
@@ -11,8 +11,8 @@ use Rattle.rd_script.specs.declared.fault.Rule.{Rule}
 use Rattle.rd_script.specs.declared.script.Script.{Script}
 use Rattle.rd_script.specs.declared.script.ScriptKey.{ScriptKey}
 use Rattle.rd_script.specs.declared.script.Step.{Step}
-use Rattle.rd_script.specs.declared.script.Step.TheVariants.{Update, Get, Flush, Gossip, Deliver, Lose, Round}
-use Rattle.rd_script.specs.Fields.{rule, ◌>>=◌, guard, required, are_objects, has_names, names_of, identity_of, index_of, if_given, whole_of, text_of, list_of, key_of}
+use Rattle.rd_script.specs.declared.script.Step.TheVariants.{Update, Get, Flush, Gossip, Deliver, Lose, Round, Remove, Join, Restart, Install}
+use Rattle.rd_script.specs.Fields.{rule, ◌>>=◌, guard, required, are_objects, has_names, names_of, identity_of, place_of, number_of, if_given, flag_of, whole_of, text_of, list_of, key_of}
 use Rattle.rd_script.specs.Operations.{op_named, update_names, op_of}
 
 -- ---- steps
@@ -53,7 +53,7 @@ deliver_of step d = do
   names ← names_of step (codes "do" ∷ codes "from" ∷ codes "to" ∷ []) (codes "index" ∷ []) d
   from ← identity_of step (get (codes "from") d)
   to ← identity_of step (get (codes "to") d)
-  index ← if_given (index_of step) (get (codes "index") d)
+  index ← if_given (number_of step) (get (codes "index") d)
   Ok (Deliver from to index)
 
 unfoldable pub lose_of : ℕ → Data → Result Step Rule
@@ -68,6 +68,31 @@ round_of step d = do
   names ← names_of step (codes "do" ∷ []) [] d
   Ok Round
 
+unfoldable pub remove_of : ℕ → Data → Result Step Rule
+remove_of step d = do
+  names ← names_of step (codes "do" ∷ codes "id" ∷ []) [] d
+  id ← identity_of step (get (codes "id") d)
+  Ok (Remove id)
+
+unfoldable pub join_of : ℕ → Data → Result Step Rule
+join_of step d = do
+  names ← names_of step (codes "do" ∷ codes "place" ∷ []) [] d
+  place ← place_of step (get (codes "place") d)
+  Ok (Join place)
+
+unfoldable pub restart_of : ℕ → Data → Result Step Rule
+restart_of step d = do
+  names ← names_of step (codes "do" ∷ codes "id" ∷ []) [] d
+  id ← identity_of step (get (codes "id") d)
+  Ok (Restart id)
+
+unfoldable pub install_of : ℕ → Data → Result Step Rule
+install_of step d = do
+  names ← names_of step (codes "at" ∷ codes "do" ∷ codes "view" ∷ []) [] d
+  at ← identity_of step (get (codes "at") d)
+  view ← number_of step (get (codes "view") d)
+  Ok (Install at view)
+
 -- a step, by its name
 abbrev pub step_by : ℕ → Data → List ℕ → Result Step Rule
 step_by step d name =
@@ -77,8 +102,12 @@ step_by step d name =
     if bytes_eq name (codes "gossip") then gossip_of step d else (
     if bytes_eq name (codes "deliver") then deliver_of step d else (
     if bytes_eq name (codes "lose") then lose_of step d else (
-    if bytes_eq name (codes "round") then round_of step d else
-    Err (rule step 5)))))))
+    if bytes_eq name (codes "round") then round_of step d else (
+    if bytes_eq name (codes "remove") then remove_of step d else (
+    if bytes_eq name (codes "join") then join_of step d else (
+    if bytes_eq name (codes "restart") then restart_of step d else (
+    if bytes_eq name (codes "install") then install_of step d else
+    Err (rule step 5)))))))))))
 
 unfoldable pub step_of : ℕ → Data → Result Step Rule
 step_of step d = text_of (rule step 5) (get (codes "do") d) >>= step_by step d
@@ -109,11 +138,12 @@ kind_of field = text_of (rule 0 3) field >>= (λ name. required (rule 0 3) (kind
 -- a declared key, whose name is not among those before it
 unfoldable pub key_decl : List ScriptKey → Data → Result ScriptKey Rule
 key_decl before d = do
-  names ← guard (rule 0 3) (has_names (codes "key" ∷ codes "kind" ∷ []) [] d)
+  names ← guard (rule 0 3) (has_names (codes "key" ∷ codes "kind" ∷ []) (codes "durable" ∷ []) d)
   key ← key_of (rule 0 3) (get (codes "key") d)
   new ← guard (rule 0 3) (not (list_any (λ other. bytes_eq other.key key) before))
   kind ← kind_of (get (codes "kind") d)
-  Ok (record { key = key; kind = kind; durable = false })
+  durable ← flag_of (rule 0 3) (get (codes "durable") d)
+  Ok (record { key = key; kind = kind; durable = durable })
 
 -- the keys, after those before them
 unfoldable pub keys_after : List ScriptKey → Items → Result (List ScriptKey) Rule

@@ -1,10 +1,10 @@
 -- The bounds that every script keeps.
-use Rattle.std.specs.Prelude.{◌≡◌, ◌≢◌, ℕ, ◌-◌, ◌^◌, ◌<◌, ◌≤◌, List, length, false, All, AllPairs, ⊤}
+use Rattle.std.specs.Prelude.{◌≡◌, ◌≢◌, ℕ, ◌-◌, ◌^◌, ◌<◌, ◌≤◌, List, length, All, AllPairs, ⊤}
 use Rattle.rd_kinds.specs.declared.operation.Op.{Op}
 use Rattle.rd_kinds.specs.declared.operation.Op.TheVariants.{Increment, Decrement, Add, Remove, Enable, Assign}
 use Rattle.rd_script.specs.declared.script.Script.{Script}
 use Rattle.rd_script.specs.declared.script.Step.{Step}
-use Rattle.rd_script.specs.declared.script.Step.TheVariants.{Update, Get, Flush, Gossip, Deliver, Lose, Round}
+use Rattle.rd_script.specs.declared.script.Step.TheVariants.{Update, Get, Flush, Gossip, Deliver, Lose, Round, Remove, Join, Restart, Install}
 
 -- what a counter takes at once
 abbrev pub IsAmount : ℕ → Type 0
@@ -30,6 +30,10 @@ IsOperation (Assign text now) = IsShort text × IsMoment now
 abbrev pub IsIdentity : ℕ → Type 0
 IsIdentity i = i < 64
 
+-- there are eight places
+abbrev pub IsPlace : ℕ → Type 0
+IsPlace place = place < 8
+
 abbrev pub IsStep : Step → Type 0
 IsStep (Update at key op) = IsIdentity at × IsOperation op
 IsStep (Get at key) = IsIdentity at
@@ -38,12 +42,15 @@ IsStep (Gossip at to) = IsIdentity at × IsIdentity to
 IsStep (Deliver from to index) = IsIdentity from × IsIdentity to
 IsStep (Lose from to) = IsIdentity from × IsIdentity to
 IsStep Round = ⊤
+IsStep (Remove id) = IsIdentity id
+IsStep (Join place) = IsPlace place
+IsStep (Restart id) = IsIdentity id
+IsStep (Install at view) = IsIdentity at
 
--- members and keys within their bounds, names that differ, keys that are not stored, and steps within their bounds
+-- members and keys within their bounds, names that differ, and steps within their bounds
 pub record IsWellFormed (script : Script) : Type 0 where
   pub members : (1 ≤ script.members) × (script.members ≤ 8)
   pub key_count : (1 ≤ length script.keys) × (length script.keys ≤ 16)
   pub key_names : AllPairs (λ a b. a.key ≢ b.key) script.keys
-  pub plain : All (λ key. key.durable ≡ false) script.keys
   pub step_count : length script.steps ≤ 4096
   pub steps : All IsStep script.steps

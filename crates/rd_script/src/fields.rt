@@ -3,12 +3,13 @@ ghost use Rattle.std.specs.List.{list_all, count_by};
 ghost use Rattle.serde_json.specs.Find.{get, as_object};
 ghost use Rattle.serde_json.specs.Events.{items_len};
 ghost use Rattle.serde_json.specs.View.{view, items_view};
-ghost use Rattle.rd_script.specs.Fields.{Finds, Gives, whole_of, identity_of, amount_of, moment_of, text_of, if_short, array_of, list_of, key_of, is_key_byte, is_key_name, are_objects, is_given, if_given, index_of, has_names, names_of, name_count};
-ghost use Rattle.rd_script.specs.WellFormed.{IsIdentity, IsAmount, IsMoment, IsShort};
+ghost use Rattle.rd_script.specs.Fields.{Finds, Gives, whole_of, identity_of, place_of, number_of, amount_of, moment_of, text_of, if_short, array_of, list_of, key_of, is_key_byte, is_key_name, are_objects, is_given, if_given, flag_of, has_names, names_of, name_count};
+ghost use Rattle.rd_script.specs.WellFormed.{IsIdentity, IsPlace, IsAmount, IsMoment, IsShort};
 
 use crate::fault::{Fault, Rule};
 use rd_bytes::{Text, TextError};
 use rd_kinds::Moment;
+use rd_vectors::Id;
 use serde_json::Value;
 use std::alloc::Global;
 
@@ -21,8 +22,11 @@ const LAST_MOMENT: u64 = 0x7fff_ffff_ffff_ffff;
 /// The greatest identity.
 const LAST_IDENTITY: u64 = 63;
 
-/// The greatest number of a message on a link.
-const LAST_INDEX: u64 = 0xffff_ffff;
+/// The last place.
+const LAST_PLACE: u64 = 7;
+
+/// The greatest number of a message on a link, and of a view.
+const LAST_NUMBER: u64 = 0xffff_ffff;
 
 /// The whole number under a name, if it is within the bounds.
 pub fn whole(value: &Value, name: &str, low: u64, high: u64, rule: Rule) -> Result<u64, Rule>
@@ -36,24 +40,55 @@ pub fn whole(value: &Value, name: &str, low: u64, high: u64, rule: Rule) -> Resu
 }
 
 /// The identity under a name of a step.
-pub fn identity(value: &Value, name: &str, step: u32) -> Result<u8, Rule>
+pub fn identity(value: &Value, name: &str, step: u32) -> Result<Id, Rule>
     ensures value { result ≡ identity_of step (get name.now (view value.now)) }
     ensures bounds { IfOk result IsIdentity }
 {
     let rule = Rule { step, number: 7 };
-    Ok(whole(value, name, 0, LAST_IDENTITY, rule)? as u8)
+    match Id::new(whole(value, name, 0, LAST_IDENTITY, rule)? as u8) {
+        Some(id) => Ok(id),
+        None => Err(rule),
+    }
+}
+
+/// The place of a step.
+pub fn place(value: &Value, step: u32) -> Result<u8, Rule>
+    ensures value { result ≡ place_of step (get (codes "place") (view value.now)) }
+    ensures bounds { IfOk result IsPlace }
+{
+    let rule = Rule { step, number: 7 };
+    Ok(whole(value, "place", 0, LAST_PLACE, rule)? as u8)
+}
+
+/// The number of a view, or of a message on a link, under a name of a step.
+pub fn number(value: &Value, name: &str, step: u32) -> Result<u32, Rule>
+    ensures { result ≡ number_of step (get name.now (view value.now)) }
+{
+    let rule = Rule { step, number: 7 };
+    Ok(whole(value, name, 0, LAST_NUMBER, rule)? as u32)
 }
 
 /// The number of a message on a link, if it is given.
 pub fn index(value: &Value, step: u32) -> Result<Option<u32>, Rule>
-    ensures { result ≡ if_given (index_of step) (get (codes "index") (view value.now)) }
+    ensures { result ≡ if_given (number_of step) (get (codes "index") (view value.now)) }
 {
     if value.get("index").is_none() {
         return Ok(None);
     }
-    let rule = Rule { step, number: 7 };
-    let index = whole(value, "index", 0, LAST_INDEX, rule)?;
-    Ok(Some(index as u32))
+    Ok(Some(number(value, "index", step)?))
+}
+
+/// Whether the flag under a name is on. One that is left out is off.
+pub fn flag(value: &Value, name: &str, rule: Rule) -> Result<bool, Rule>
+    ensures { result ≡ flag_of rule (get name.now (view value.now)) }
+{
+    let Some(flag) = value.get(name) else {
+        return Ok(false);
+    };
+    match flag.as_bool() {
+        Some(on) => Ok(on),
+        None => Err(rule),
+    }
 }
 
 /// The amount under a name of a step.

@@ -1,4 +1,4 @@
-ghost use Rattle.std.specs.Prelude.{◌≡◌, ◌≢◌, [], false, codes, length, All, AllPairs, IfOk};
+ghost use Rattle.std.specs.Prelude.{◌≡◌, ◌≢◌, [], false, codes, length, AllPairs, IfOk};
 ghost use Rattle.std.specs.List.{list_any};
 ghost use Rattle.std.specs.Str.{bytes_eq};
 ghost use Rattle.serde_json.specs.Find.{get};
@@ -7,7 +7,7 @@ ghost use Rattle.rd_script.specs.Fields.{Gives};
 ghost use Rattle.rd_script.specs.Reading.{kind_named, kind_of, key_decl, keys_after};
 
 use crate::fault::{Fault, Rule};
-use crate::fields::{has_names, key, text};
+use crate::fields::{flag, has_names, key, text};
 use crate::script::ScriptKey;
 use rd_bytes::{Items, Text};
 use rd_kinds::Kind;
@@ -50,10 +50,9 @@ fn is_among(key: &Text, before: &[ScriptKey]) -> bool
 #[tactic(auto, unfolding(crate::specs::Reading::key_decl))]
 fn one_key(alloc: Global, before: &[ScriptKey], value: &Value) -> Result<ScriptKey, Fault>
     ensures value { Gives (λ k. k) result (key_decl before.now (view value.now)) }
-    ensures plain { IfOk result (λ k. k.durable ≡ false) }
     ensures new { IfOk result (λ k. list_any (λ other. bytes_eq other.key k.key) before.now ≡ false) }
 {
-    if !has_names(value, &["key", "kind"], &[]) {
+    if !has_names(value, &["key", "kind"], &["durable"]) {
         return Err(Fault::Breaks(KEYS));
     }
     let key = key(alloc, value, "key", KEYS)?;
@@ -61,11 +60,8 @@ fn one_key(alloc: Global, before: &[ScriptKey], value: &Value) -> Result<ScriptK
         return Err(Fault::Breaks(KEYS));
     }
     let kind = kind(value)?;
-    Ok(ScriptKey {
-        key,
-        kind,
-        durable: false,
-    })
+    let durable = flag(value, "durable", KEYS)?;
+    Ok(ScriptKey { key, kind, durable })
 }
 
 /// The keys of a script.
@@ -74,7 +70,6 @@ pub fn all_keys(alloc: Global, list: &[Value]) -> Result<Items<ScriptKey>, Fault
     ensures value { Gives (λ k. k) result (keys_after [] (items_view list.now)) }
     ensures count { IfOk result (λ k. length k ≡ length list.now) }
     ensures names { IfOk result (AllPairs (λ a b. a.key ≢ b.key)) }
-    ensures plain { IfOk result (All (λ k. k.durable ≡ false)) }
 {
     let mut keys = Items::new(alloc);
     for value in list {

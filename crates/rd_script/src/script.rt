@@ -1,5 +1,6 @@
 use rd_bytes::{Items, Text};
 use rd_kinds::{Kind, Op};
+use rd_vectors::Id;
 
 /// A key that a script declares.
 #[derive(Drop)]
@@ -12,42 +13,59 @@ pub struct ScriptKey {
     pub durable: bool,
 }
 
-/// One step of a script. Identities are 0 to 63.
+/// One step of a script.
 #[derive(Drop)]
 pub enum Step {
     /// A member is to change the value of a key.
     Update {
-        at: u8,
+        at: Id,
         key: Text,
         op: Op,
     },
     /// A member is to show the value of a key.
     Get {
-        at: u8,
+        at: Id,
         key: Text,
     },
     /// A member is to send what its peers may lack.
     Flush {
-        at: u8,
+        at: Id,
     },
     /// A member is to send another the digests of its entries.
     Gossip {
-        at: u8,
-        to: u8,
+        at: Id,
+        to: Id,
     },
     /// The message of this number on a link is delivered, or the next one where no number is given.
     Deliver {
-        from: u8,
-        to: u8,
+        from: Id,
+        to: Id,
         index: Option<u32>,
     },
     /// The next message on a link is lost.
     Lose {
-        from: u8,
-        to: u8,
+        from: Id,
+        to: Id,
     },
     /// The messages that are due on all links are delivered.
     Round,
+    /// A member is to leave.
+    Remove {
+        id: Id,
+    },
+    /// A new member is to start at a free place, 0 to 7, with nothing stored.
+    Join {
+        place: u8,
+    },
+    /// A member is to stop, and a new one to start in its place with what was stored there.
+    Restart {
+        id: Id,
+    },
+    /// A member is to take up the view of this number.
+    Install {
+        at: Id,
+        view: u32,
+    },
 }
 
 /// A script: how many members there are at the start, the declared keys, and the steps in their order.

@@ -1,11 +1,11 @@
 ghost use Rattle.std.specs.Prelude.{◌≡◌, ◌+◌, ◌≤◌, [], length, All, IfOk};
 ghost use Rattle.serde_json.specs.View.{view, items_view};
 ghost use Rattle.rd_script.specs.Fields.{Gives};
-ghost use Rattle.rd_script.specs.Reading.{update_of, get_of, flush_of, gossip_of, deliver_of, lose_of, round_of, step_of, steps_after};
+ghost use Rattle.rd_script.specs.Reading.{update_of, get_of, flush_of, gossip_of, deliver_of, lose_of, round_of, remove_of, join_of, restart_of, install_of, step_of, steps_after};
 ghost use Rattle.rd_script.specs.WellFormed.{IsStep};
 
 use crate::fault::{Fault, Rule};
-use crate::fields::{identity, index, key, step_names, text};
+use crate::fields::{identity, index, key, number, place, step_names, text};
 use crate::operations::{op_named, operation, update_names};
 use crate::script::Step;
 use rd_bytes::Items;
@@ -95,6 +95,47 @@ fn round(step: u32, value: &Value) -> Result<Step, Rule>
     Ok(Step::Round)
 }
 
+#[tactic(auto, unfolding(crate::specs::Reading::remove_of))]
+fn remove(step: u32, value: &Value) -> Result<Step, Rule>
+    ensures value { result ≡ remove_of step (view value.now) }
+    ensures bounds { IfOk result IsStep }
+{
+    step_names(value, &["do", "id"], &[], step)?;
+    let id = identity(value, "id", step)?;
+    Ok(Step::Remove { id })
+}
+
+#[tactic(auto, unfolding(crate::specs::Reading::join_of))]
+fn join(step: u32, value: &Value) -> Result<Step, Rule>
+    ensures value { result ≡ join_of step (view value.now) }
+    ensures bounds { IfOk result IsStep }
+{
+    step_names(value, &["do", "place"], &[], step)?;
+    let place = place(value, step)?;
+    Ok(Step::Join { place })
+}
+
+#[tactic(auto, unfolding(crate::specs::Reading::restart_of))]
+fn restart(step: u32, value: &Value) -> Result<Step, Rule>
+    ensures value { result ≡ restart_of step (view value.now) }
+    ensures bounds { IfOk result IsStep }
+{
+    step_names(value, &["do", "id"], &[], step)?;
+    let id = identity(value, "id", step)?;
+    Ok(Step::Restart { id })
+}
+
+#[tactic(auto, unfolding(crate::specs::Reading::install_of))]
+fn install(step: u32, value: &Value) -> Result<Step, Rule>
+    ensures value { result ≡ install_of step (view value.now) }
+    ensures bounds { IfOk result IsStep }
+{
+    step_names(value, &["at", "do", "view"], &[], step)?;
+    let at = identity(value, "at", step)?;
+    let view = number(value, "view", step)?;
+    Ok(Step::Install { at, view })
+}
+
 #[tactic(auto, unfolding(crate::specs::Reading::step_of))]
 fn one_step(alloc: Global, step: u32, value: &Value) -> Result<Step, Fault>
     ensures value { Gives (λ s. s) result (step_of step (view value.now)) }
@@ -108,6 +149,10 @@ fn one_step(alloc: Global, step: u32, value: &Value) -> Result<Step, Fault>
         "deliver" => Ok(deliver(step, value)?),
         "lose" => Ok(lose(step, value)?),
         "round" => Ok(round(step, value)?),
+        "remove" => Ok(remove(step, value)?),
+        "join" => Ok(join(step, value)?),
+        "restart" => Ok(restart(step, value)?),
+        "install" => Ok(install(step, value)?),
         _ => Err(Fault::Breaks(Rule { step, number: 5 })),
     }
 }

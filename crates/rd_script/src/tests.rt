@@ -1,5 +1,6 @@
 use crate::{ScriptError, Step, read_script};
 use rd_kinds::Op;
+use rd_vectors::Id;
 use std::alloc::Global;
 use std::test::Fail;
 
@@ -18,7 +19,9 @@ step 0 rule 3: {"members":1,"keys":[{"key":"","kind":"gcounter"}],"steps":[]}
 step 0 rule 3: {"members":1,"keys":[{"key":"A","kind":"gcounter"}],"steps":[]}
 step 0 rule 3: {"members":1,"keys":[{"key":"a","kind":"counter"}],"steps":[]}
 step 0 rule 3: {"members":1,"keys":[{"key":"a","kind":"GSet"}],"steps":[]}
-step 0 rule 3: {"members":1,"keys":[{"key":"a","kind":"gcounter","durable":false}],"steps":[]}
+step 0 rule 3: {"members":1,"keys":[{"key":"a","kind":"gcounter","durable":null}],"steps":[]}
+step 0 rule 3: {"members":1,"keys":[{"key":"a","kind":"gcounter","durable":"true"}],"steps":[]}
+step 0 rule 3: {"members":1,"keys":[{"key":"a","kind":"gcounter","stored":true}],"steps":[]}
 step 0 rule 3: {"members":1,"keys":[{"key":"a","kind":"gcounter"},{"key":"a","kind":"gcounter"}],"steps":[]}
 step 0 rule 4: {"members":1,"keys":[{"key":"a","kind":"gcounter"}],"steps":{}}
 step 0 rule 4: {"members":1,"keys":[{"key":"a","kind":"gcounter"}],"steps":[{},7]}
@@ -34,11 +37,17 @@ step 1 rule 5: {"do":"update","at":64}
 step 1 rule 5: {"do":"update","op":"set"}
 step 1 rule 5: {"do":"update","op":["add"],"element":7}
 step 1 rule 5: {"do":"tick","at":0}
+step 1 rule 5: {"do":"timeout","at":0,"op":0}
+step 1 rule 5: {"do":"threads","clients":[]}
 step 2 rule 6: {"do":"round"},{"do":"round","at":0}
 step 1 rule 6: {"do":"get","at":64}
 step 1 rule 6: {"do":"get","at":0,"key":"n","level":"local"}
 step 1 rule 6: {"do":"gossip","at":0}
 step 1 rule 6: {"do":"lose","from":0,"to":1,"index":0}
+step 1 rule 6: {"do":"remove","at":0}
+step 1 rule 6: {"do":"join","place":8,"id":0}
+step 1 rule 6: {"do":"restart","place":0}
+step 1 rule 6: {"do":"install","at":64}
 step 1 rule 6: {"do":"update","op":"enable","at":0,"key":"n","by":1}
 step 1 rule 6: {"do":"update","op":"decrement","at":0,"key":"n","element":"a"}
 step 1 rule 6: {"do":"update","op":"assign","at":64,"key":"n","text":7}
@@ -52,6 +61,11 @@ step 1 rule 7: {"do":"deliver","from":0,"to":1,"index":4294967296}
 step 1 rule 7: {"do":"deliver","from":64,"to":1}
 step 1 rule 7: {"do":"lose","from":0,"to":64}
 step 1 rule 7: {"do":"gossip","at":0,"to":64}
+step 1 rule 7: {"do":"remove","id":64}
+step 1 rule 7: {"do":"join","place":8}
+step 1 rule 7: {"do":"restart","id":null}
+step 1 rule 7: {"do":"install","at":64,"view":0}
+step 1 rule 7: {"do":"install","at":0,"view":4294967296}
 step 1 rule 8: {"do":"get","at":0,"key":"N"}
 step 1 rule 8: {"do":"get","at":0,"key":"abcdefghijklmnopqrstuvwxyz0123456"}
 step 1 rule 8: {"do":"update","op":"increment","at":0,"key":"","by":0}
@@ -87,7 +101,17 @@ gossip 1 2: {"at":1,"do":"gossip","to":2}
 deliver 1 2: {"do":"deliver","from":1,"to":2}
 deliver 2 1 index 4294967295: {"do":"deliver","from":2,"index":4294967295,"to":1}
 lose 1 2: {"do":"lose","from":1,"to":2}
-round: {"do":"round"}"#;
+round: {"do":"round"}
+remove 63: {"do":"remove","id":63}
+join 7: {"do":"join","place":7}
+restart 0: {"do":"restart","id":0}
+install 1 4294967295: {"at":1,"do":"install","view":4294967295}"#;
+
+// Keys as they are declared, and which of them are durable.
+const KEYS: &str = r#"false: {"key":"a","kind":"gcounter"}
+false: {"durable":false,"key":"a","kind":"gcounter"}
+true: {"durable":true,"key":"a","kind":"gcounter"}
+true: {"durable":false,"durable":true,"key":"a","kind":"gcounter"}"#;
 
 // What is said of a script: its fault, or how many members, keys and steps it has.
 fn told(alloc: Global, text: &str) -> Result<String, Fail> {
@@ -120,21 +144,36 @@ fn operation_line(alloc: Global, op: &Op) -> Result<String, Fail> {
     Ok(line)
 }
 
+fn link(alloc: Global, from: Id, to: Id) -> Result<String, Fail> {
+    let link = format!(in alloc; "{} {}", from.number(), to.number())?;
+    Ok(link)
+}
+
 fn line(alloc: Global, step: &Step) -> Result<String, Fail> {
     let line = match step {
         Step::Update { at, key, op } => {
             let op = operation_line(alloc, op)?;
-            format!(in alloc; "update {at} {} {op}", key.as_str())?
+            format!(in alloc; "update {} {} {op}", at.number(), key.as_str())?
         }
-        Step::Get { at, key } => format!(in alloc; "get {at} {}", key.as_str())?,
-        Step::Flush { at } => format!(in alloc; "flush {at}")?,
-        Step::Gossip { at, to } => format!(in alloc; "gossip {at} {to}")?,
-        Step::Deliver { from, to, index } => match index {
-            Some(index) => format!(in alloc; "deliver {from} {to} index {index}")?,
-            None => format!(in alloc; "deliver {from} {to}")?,
-        },
-        Step::Lose { from, to } => format!(in alloc; "lose {from} {to}")?,
+        Step::Get { at, key } => format!(in alloc; "get {} {}", at.number(), key.as_str())?,
+        Step::Flush { at } => format!(in alloc; "flush {}", at.number())?,
+        Step::Gossip { at, to } => format!(in alloc; "gossip {} {}", at.number(), to.number())?,
+        Step::Deliver { from, to, index } => {
+            let link = link(alloc, *from, *to)?;
+            match index {
+                Some(index) => format!(in alloc; "deliver {link} index {index}")?,
+                None => format!(in alloc; "deliver {link}")?,
+            }
+        }
+        Step::Lose { from, to } => {
+            let link = link(alloc, *from, *to)?;
+            format!(in alloc; "lose {link}")?
+        }
         Step::Round => String::from_str(alloc, "round")?,
+        Step::Remove { id } => format!(in alloc; "remove {}", id.number())?,
+        Step::Join { place } => format!(in alloc; "join {place}")?,
+        Step::Restart { id } => format!(in alloc; "restart {}", id.number())?,
+        Step::Install { at, view } => format!(in alloc; "install {} {view}", at.number())?,
     };
     Ok(line)
 }
@@ -172,6 +211,20 @@ fn reads_each_form(rt: HostRuntime) -> Result<(), Fail> {
         for step in script.steps.as_slice() {
             let line = line(alloc, step)?;
             assert_eq!(rt; line.as_str(), want);
+        }
+    }
+    Ok(())
+}
+
+#[test]
+fn reads_which_keys_are_durable(rt: HostRuntime) -> Result<(), Fail> {
+    let alloc = rt.alloc();
+    for (want, key) in KEYS.lines().filter_map(|row| row.split_once(": ")) {
+        let text = format!(in alloc; "{{\"members\":1,\"keys\":[{key}],\"steps\":[]}}")?;
+        let script = read_script(alloc, text.as_bytes())?;
+        assert_eq!(rt; script.keys.len(), 1, "at {key}");
+        for declared in script.keys.as_slice() {
+            assert_eq!(rt; declared.durable, want == "true", "at {key}");
         }
     }
     Ok(())

@@ -56,13 +56,15 @@ impl SqliteKeeper {
 }
 
 impl Keeper for SqliteKeeper {
-    ghost use Rattle.std.specs.Prelude.{Some, None};
+    ghost use Rattle.std.specs.Prelude.{Some, None, refl};
 
     ghost table = { λ k. Some k.table };
 
     ghost answers = { λ _. None };
 
     ghost faults = { λ k. k.faults };
+
+    ghost tells_alike = { λ _ _. refl };
 
     fn store(&mut self, entries: &[Stored]) -> Result<(), KeeperError>
         ensures ok { OnOk result (self.new.table ≡ put_all self.old.table entries.now) }

@@ -1,19 +1,21 @@
 -- What is due is what the bytes of a source call for, unless a read failed or memory was refused.
-use Rattle.std.proofs.Common.{◌≡◌, ℕ, ◌+◌, ◌<◌, ◌≤◌, ◌⊎◌, inl, inr, List, [], ◌++◌, length, length-append, append-nil, String, Global, string_bytes, arith, refl, sym, ap, subst, ◌∙◌, None, Some, Ok, Err, MatchResult}
+use Rattle.std.proofs.Common.{◌≡◌, ℕ, zero, suc, ◌+◌, ◌<◌, ◌≤◌, ◌⊎◌, inl, inr, List, [], ◌∷◌, ◌++◌, length, length-append, append-nil, String, Global, string_bytes, arith, refl, sym, ap, subst, ◌∙◌, None, Some, Ok, Err, MatchResult}
+use Rattle.std.specs.Prelude.{slice_get}
 use Rattle.std.proofs.lemmas.Option.{none-some, same_Some}
 use Rattle.std.specs.Option.{unwrap_or}
 use Rattle.std.specs.Io.KnownBytes.{Appends, Consumes}
 use Rattle.std.specs.declared.option.Option.{Option}
 use Rattle.rd_outside.specs.Causes.{Rose}
 use Rattle.rd_outside.specs.Transfers.{ReadsToEnd}
+use Rattle.rd_keeper.specs.declared.keeper.Keeper.{Ghosts as Keeping}
 use Rattle.rd_script.specs.declared.script.Script.{Script}
 use Rattle.rd_script.specs.declared.fault.Rule.{Rule}
 use Rattle.rd_script.specs.Reading.{Spells, Breaks, HasNoReading}
 use Rattle.rd_top.specs.Status.{code_of}
-use Rattle.rd_top.specs.Answers.{IsPlain, IsReported, CallsFor, IsUnlessRefused, limit, done, not_json, not_a_script, too_long}
+use Rattle.rd_top.specs.Answers.{IsPlain, IsReported, CannotClear, SomeRose, CallsFor, IsUnlessRefused, limit, done, not_json, not_a_script, too_long}
 use Rattle.rd_top.specs.Due.{IsDue, status_due, text_due}
 use Rattle.rd_top.specs.declared.due.Due.{Due}
-use Rattle.rd_top.specs.declared.due.Due.TheVariants.{Report, BadWords, NotJson, NotAScript, ReadFailed, TooLong, Memory}
+use Rattle.rd_top.specs.declared.due.Due.TheVariants.{Report, NotCleared, BadWords, NotJson, NotAScript, ReadFailed, TooLong, Memory}
 use Rattle.rd_top.specs.declared.status.Status.{Status}
 use Rattle.rd_top.specs.declared.status.Status.TheVariants as status
 
@@ -42,11 +44,12 @@ spells_breaks bytes script rule h k =
     let same : h.0 ≡ k.0 = same_Some h.0 k.0 (sym h.1.1 ∙ k.1.1) in
     ok_err script rule (sym h.2 ∙ rw same k.2)
 
-report_called : (bytes : List ℕ) (script : Script) (wanted : Status) → length bytes ≤ limit → Spells bytes script → CallsFor bytes wanted → status.Done ≡ wanted
-report_called bytes script _ within h (done other short k) = refl
-report_called bytes script _ within h (not_json short k) = absurd (spells_json bytes script h k)
-report_called bytes script _ within h (not_a_script rule short k) = absurd (spells_breaks bytes script rule h k)
-report_called bytes script _ within h (too_long long) = absurd (omega arith)
+-- what status a script calls for
+script_runs : (bytes : List ℕ) (script : Script) (wanted : Status) → length bytes ≤ limit → Spells bytes script → CallsFor bytes wanted → status.Done ≡ wanted
+script_runs bytes script _ within h (done other short k) = refl
+script_runs bytes script _ within h (not_json short k) = absurd (spells_json bytes script h k)
+script_runs bytes script _ within h (not_a_script rule short k) = absurd (spells_breaks bytes script rule h k)
+script_runs bytes script _ within h (too_long long) = absurd (omega arith)
 
 json_called : (bytes : List ℕ) (wanted : Status) → length bytes ≤ limit → HasNoReading bytes → CallsFor bytes wanted → status.NotJson ≡ wanted
 json_called bytes _ within h (done script short k) = absurd (spells_json bytes script k h)
@@ -66,27 +69,58 @@ length_called bytes _ more (not_json short k) = absurd (omega arith)
 length_called bytes _ more (not_a_script rule short k) = absurd (omega arith)
 length_called bytes _ more (too_long long) = refl
 
-pub status_called : (words : List (String Global)) (bytes : List ℕ) (new : Option (List ℕ)) (before now : ℕ) (due : Due) (wanted : Status) → IsDue words (Some bytes) new before now due → IsPlain words → CallsFor bytes wanted → (status_due due ≡ wanted) ⊎ (((status_due due ≡ status.ReadFailed) × Rose before now) ⊎ (status_due due ≡ status.Memory))
-status_called words bytes new before now (Report text) wanted h plain calls =
-    let all = all_read bytes h.1.bytes new h.1.read.whole in
-    inl (report_called bytes h.1.script wanted (rw (← all) h.1.read.within) (rw (← all) h.1.spelled) calls)
-status_called words bytes new before now BadWords wanted h plain calls = absurd (h plain)
-status_called words bytes new before now NotJson wanted h plain calls =
-    let all = all_read bytes h.1.0 new h.1.1.whole in
-    inl (json_called bytes wanted (rw (← all) h.1.1.within) (rw (← all) h.1.2) calls)
-status_called words bytes new before now NotAScript wanted h plain calls =
-    let all = all_read bytes h.1.0 new h.1.2.whole in
-    inl (script_called bytes h.1.1 wanted (rw (← all) h.1.2.within) (rw (← all) h.1.3) calls)
-status_called words bytes new before now ReadFailed wanted h plain calls = inr (inl (refl, h.1))
-status_called words bytes new before now TooLong wanted h plain calls =
-    inl (length_called bytes wanted (more_read bytes h.1.0 new h.1.2 h.1.1) calls)
-status_called words bytes new before now Memory wanted h plain calls = inr (inr refl)
+-- a place with a keeper, before and after
+there : {X : Type 0} (xs : List X) (n : ℕ) → n < length xs → (x : X) × (slice_get xs n ≡ Some x)
+there [] n h = absurd (omega (arith, h))
+there (x ∷ xs) zero h = (x, refl)
+there (x ∷ xs) (suc n) h = there xs n (omega (arith, h))
+
+module _ {K : Type 0} (keeping : Keeping K) where
+  -- a keeper that failed to be cleared counts a fault more
+  clearing_rose : (old new : Option (List ℕ)) (before after : List K) (text : List ℕ) → length before ≡ 8 → CannotClear keeping old new before after text → SomeRose keeping before after
+  clearing_rose old new before after text eight h =
+      let was = there before h.place h.failed.within in
+      let is = there after h.place (rw h.failed.failed.count h.failed.within) in
+      record {
+        place = h.place;
+        old = was.0;
+        new = is.0;
+        was = was.1;
+        is = is.1;
+        rose = (h.failed.failed.each h.place was.0 is.0 was.1 is.1 refl).answered.counted;
+      }
+
+  -- the status that is due for the words, and the bytes of a source that tells them
+  abbrev pub IsCalled : List ℕ → ℕ → ℕ → List K → List K → Due → Status → Type 0
+  IsCalled bytes faults now before after due wanted =
+      (status_due due ≡ wanted) ⊎ (((status_due due ≡ status.ReadFailed) × Rose faults now) ⊎ (((status_due due ≡ status.ClearFailed) × SomeRose keeping before after) ⊎ (status_due due ≡ status.Memory)))
+
+  pub status_called : (words : List (String Global)) (bytes : List ℕ) (new : Option (List ℕ)) (faults now : ℕ) (before after : List K) (due : Due) (wanted : Status)
+      → length before ≡ 8 → IsDue keeping words (Some bytes) new faults now before after due → IsPlain words → CallsFor bytes wanted → IsCalled bytes faults now before after due wanted
+  status_called words bytes new faults now before after (Report text) wanted eight h plain calls =
+      let all = all_read bytes h.1.read.bytes new h.1.read.read.whole in
+      inl (script_runs bytes h.1.script wanted (rw (← all) h.1.read.read.within) (rw (← all) h.1.read.spelled) calls)
+  status_called words bytes new faults now before after (NotCleared text) wanted eight h plain calls =
+      inr (inr (inl (refl, clearing_rose (Some bytes) new before after (string_bytes text) eight h.1)))
+  status_called words bytes new faults now before after BadWords wanted eight h plain calls = absurd (h.0 plain)
+  status_called words bytes new faults now before after NotJson wanted eight h plain calls =
+      let all = all_read bytes h.1.0 new h.1.1.whole in
+      inl (json_called bytes wanted (rw (← all) h.1.1.within) (rw (← all) h.1.2) calls)
+  status_called words bytes new faults now before after NotAScript wanted eight h plain calls =
+      let all = all_read bytes h.1.0 new h.1.2.whole in
+      inl (script_called bytes h.1.1 wanted (rw (← all) h.1.2.within) (rw (← all) h.1.3) calls)
+  status_called words bytes new faults now before after ReadFailed wanted eight h plain calls = inr (inl (refl, h.1))
+  status_called words bytes new faults now before after TooLong wanted eight h plain calls =
+      inl (length_called bytes wanted (more_read bytes h.1.0 new h.1.2 h.1.1) calls)
+  status_called words bytes new faults now before after Memory wanted eight h plain calls = inr (inr (inr refl))
 
 -- the number that is answered, where all that was due was written
-pub answered : (read_rose write_rose : Type 0) (given wanted : Status) (result : ℕ) → result ≡ code_of given → (given ≡ wanted) ⊎ (((given ≡ status.ReadFailed) × read_rose) ⊎ (given ≡ status.Memory)) → IsUnlessRefused read_rose write_rose wanted result
-answered read_rose write_rose given wanted result code (inl same) = inl (code ∙ ap code_of same)
-answered read_rose write_rose given wanted result code (inr (inl failed)) = inr (inl (code ∙ ap code_of failed.0, failed.1))
-answered read_rose write_rose given wanted result code (inr (inr refused)) = inr (inr (inr (code ∙ ap code_of refused)))
+pub answered : (read_rose write_rose keeper_rose : Type 0) (given wanted : Status) (result : ℕ) → result ≡ code_of given
+    → (given ≡ wanted) ⊎ (((given ≡ status.ReadFailed) × read_rose) ⊎ (((given ≡ status.ClearFailed) × keeper_rose) ⊎ (given ≡ status.Memory))) → IsUnlessRefused read_rose write_rose keeper_rose wanted result
+answered read_rose write_rose keeper_rose given wanted result code (inl same) = inl (code ∙ ap code_of same)
+answered read_rose write_rose keeper_rose given wanted result code (inr (inl failed)) = inr (inl (code ∙ ap code_of failed.0, failed.1))
+answered read_rose write_rose keeper_rose given wanted result code (inr (inr (inl failed))) = inr (inr (inr (inl (code ∙ ap code_of failed.0, failed.1))))
+answered read_rose write_rose keeper_rose given wanted result code (inr (inr (inr refused))) = inr (inr (inr (inr (code ∙ ap code_of refused))))
 
 -- what a source that tells its bytes has left at its end
 none_left : (bytes read : List ℕ) (new : Option (List ℕ)) → ReadsToEnd (Some bytes) new read → new ≡ Some []
@@ -97,21 +131,24 @@ grown : (before text : List ℕ) (new : Option (List ℕ)) → Appends (Some bef
 grown before text None h = absurd h
 grown before text (Some all) h = ap Some h
 
--- what status 0 says of told bytes
-pub is_reported : (words : List (String Global)) (bytes before : List ℕ) (left written : Option (List ℕ)) (faults faults_now : ℕ) (due : Due) → IsDue words (Some bytes) left faults faults_now due → code_of (status_due due) ≡ 0 → Appends (Some before) written (text_due due) → IsReported bytes before left written
-is_reported words bytes before left written faults faults_now (Report text) h none w =
-    let all = all_read bytes h.1.bytes left h.1.read.whole in
-    record {
-      script = h.1.script;
-      text = string_bytes text;
-      spelled = rw (← all) h.1.spelled;
-      reported = h.1.reported;
-      all_read = none_left bytes h.1.bytes left h.1.read.whole;
-      all_written = grown before (string_bytes text) written w;
-    }
-is_reported words bytes before left written faults faults_now BadWords h none w = absurd (omega arith)
-is_reported words bytes before left written faults faults_now NotJson h none w = absurd (omega arith)
-is_reported words bytes before left written faults faults_now NotAScript h none w = absurd (omega arith)
-is_reported words bytes before left written faults faults_now ReadFailed h none w = absurd (omega arith)
-is_reported words bytes before left written faults faults_now TooLong h none w = absurd (omega arith)
-is_reported words bytes before left written faults faults_now Memory h none w = absurd (omega arith)
+module _ {K : Type 0} (keeping : Keeping K) where
+  -- what status 0 says of told bytes
+  pub is_reported : (words : List (String Global)) (bytes earlier : List ℕ) (left written : Option (List ℕ)) (faults now : ℕ) (before after : List K) (due : Due)
+      → IsDue keeping words (Some bytes) left faults now before after due → code_of (status_due due) ≡ 0 → Appends (Some earlier) written (text_due due) → IsReported keeping bytes earlier left written before after
+  is_reported words bytes earlier left written faults now before after (Report text) h none w =
+      let all = all_read bytes h.1.read.bytes left h.1.read.read.whole in
+      record {
+        script = h.1.script;
+        text = string_bytes text;
+        spelled = rw (← all) h.1.read.spelled;
+        reported = h.1.reported;
+        all_read = none_left bytes h.1.read.bytes left h.1.read.read.whole;
+        all_written = grown earlier (string_bytes text) written w;
+      }
+  is_reported words bytes earlier left written faults now before after (NotCleared text) h none w = absurd (omega arith)
+  is_reported words bytes earlier left written faults now before after BadWords h none w = absurd (omega arith)
+  is_reported words bytes earlier left written faults now before after NotJson h none w = absurd (omega arith)
+  is_reported words bytes earlier left written faults now before after NotAScript h none w = absurd (omega arith)
+  is_reported words bytes earlier left written faults now before after ReadFailed h none w = absurd (omega arith)
+  is_reported words bytes earlier left written faults now before after TooLong h none w = absurd (omega arith)
+  is_reported words bytes earlier left written faults now before after Memory h none w = absurd (omega arith)

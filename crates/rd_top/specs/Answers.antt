@@ -1,15 +1,17 @@
--- What is due for the words and the bytes of the source.
-use Rattle.std.specs.Prelude.{◌≡◌, ℕ, ◌+◌, ◌<◌, ◌≤◌, List, [], ◌∷◌, ◌++◌, length, map, codes, String, string_bytes, Option, Some, ◌⊎◌}
+-- What is due for the words, the bytes of the source and the keepers.
+use Rattle.std.specs.Prelude.{◌≡◌, ℕ, ◌+◌, ◌<◌, ◌≤◌, List, [], ◌∷◌, ◌++◌, length, map, codes, decimal, String, string_bytes, slice_get, Option, Some, ◌⊎◌}
 use Rattle.std.specs.declared.alloc.Global.{Global}
 use Rattle.rd_kinds.specs.SixKinds.{six_kinds}
+use Rattle.rd_outside.specs.Causes.{Rose}
 use Rattle.rd_outside.specs.Transfers.{ReadsToEnd, ReadsCount}
+use Rattle.rd_keeper.specs.declared.keeper.Keeper.{Ghosts as Keeping}
 use Rattle.rd_script.specs.declared.script.Script.{Script}
 use Rattle.rd_script.specs.declared.fault.Rule.{Rule}
 use Rattle.rd_script.specs.Reading.{Spells, Breaks, HasNoReading}
 use Rattle.rd_value.specs.Spelled.{byte_of, history_spelled}
-use Rattle.rd_report.specs.Run.{IsReport}
+use Rattle.rd_report.specs.Kept.{IsRunOver, IsNotCleared}
 use Rattle.rd_top.specs.declared.status.Status.{Status}
-use Rattle.rd_top.specs.declared.status.Status.TheVariants.{Done, NotJson, NotAScript, ReadFailed, WriteFailed, TooLong, Memory}
+use Rattle.rd_top.specs.declared.status.Status.TheVariants.{Done, NotJson, NotAScript, ReadFailed, WriteFailed, TooLong, Memory, ClearFailed}
 use Rattle.rd_top.specs.Status.{code_of}
 
 -- the most bytes of a script
@@ -27,22 +29,11 @@ pub record ReadsScript (old new : Option (List ℕ)) (bytes : List ℕ) : Type 0
   pub whole : ReadsToEnd old new bytes
   pub within : length bytes ≤ limit
 
--- The source was read to its end, its bytes spell a script, and this is the report of the script's run.
-pub record Reports (old new : Option (List ℕ)) (text : List ℕ) : Type 0 where
+-- The source was read to its end, and its bytes spell this script.
+pub record HasScript (old new : Option (List ℕ)) (script : Script) : Type 0 where
   pub bytes : List ℕ
-  pub script : Script
   pub read : ReadsScript old new bytes
   pub spelled : Spells bytes script
-  pub reported : IsReport six_kinds byte_of history_spelled script text
-
--- Told bytes were all read and spell a script, and the report of the script's run stands behind what was written before.
-pub record IsReported (bytes before : List ℕ) (left written : Option (List ℕ)) : Type 0 where
-  pub script : Script
-  pub text : List ℕ
-  pub spelled : Spells bytes script
-  pub reported : IsReport six_kinds byte_of history_spelled script text
-  pub all_read : left ≡ Some []
-  pub all_written : written ≡ Some (before ++ text)
 
 -- Its bytes are no JSON text.
 abbrev pub HasNoJson : Option (List ℕ) → Option (List ℕ) → Type 0
@@ -56,13 +47,57 @@ HasNoScript old new = (bytes : List ℕ) × (broken : Rule) × ReadsScript old n
 abbrev pub IsTooLong : Option (List ℕ) → Option (List ℕ) → Type 0
 IsTooLong old new = ReadsCount old new (limit + 1)
 
--- The texts that are due, each with its cause.
-pub data IsTextDue (words : List (String Global)) (old new : Option (List ℕ)) : List ℕ → Type 0 where
-  report : (text : List ℕ) → IsPlain words → Reports old new text → IsTextDue words old new text
-  bad_words : (IsPlain words → ⊥) → IsTextDue words old new (codes "bad words\n")
-  not_json : IsPlain words → HasNoJson old new → IsTextDue words old new (codes "not json\n")
-  not_a_script : IsPlain words → HasNoScript old new → IsTextDue words old new (codes "not a script\n")
-  too_long : IsPlain words → IsTooLong old new → IsTextDue words old new (codes "too long\n")
+-- ---- what was run
+
+-- why a script was not run: what is kept at a place was not cleared
+abbrev pub not_cleared_text : ℕ → List ℕ
+not_cleared_text place = codes "store failed at " ++ decimal place ++ codes "\n"
+
+module _ {K : Type 0} (keeping : Keeping K) where
+  -- the text is the report of a script's run over the keepers
+  abbrev pub IsReportOver : Script → List K → List K → List ℕ → Type 0
+  IsReportOver script before after text = IsRunOver six_kinds byte_of history_spelled keeping script before after text
+
+  -- The source was read to its end, its bytes spell a script, and this is the report of the script's run over the keepers.
+  pub record Reports (old new : Option (List ℕ)) (before after : List K) (text : List ℕ) : Type 0 where
+    pub script : Script
+    pub read : HasScript old new script
+    pub reported : IsReportOver script before after text
+
+  -- Told bytes were all read and spell a script, and the report of the script's run over the keepers stands behind what was written before.
+  pub record IsReported (bytes written_before : List ℕ) (left written : Option (List ℕ)) (before after : List K) : Type 0 where
+    pub script : Script
+    pub text : List ℕ
+    pub spelled : Spells bytes script
+    pub reported : IsReportOver script before after text
+    pub all_read : left ≡ Some []
+    pub all_written : written ≡ Some (written_before ++ text)
+
+  -- The source was read to its end, its bytes spell a script, and the keeper of a place failed to be cleared; this text says so.
+  pub record CannotClear (old new : Option (List ℕ)) (before after : List K) (text : List ℕ) : Type 0 where
+    pub script : Script
+    pub place : ℕ
+    pub read : HasScript old new script
+    pub failed : IsNotCleared keeping place before after
+    pub told : text ≡ not_cleared_text place
+
+  -- The count of a keeper rose.
+  pub record SomeRose (before after : List K) : Type 0 where
+    pub place : ℕ
+    pub old : K
+    pub new : K
+    pub was : slice_get before place ≡ Some old
+    pub is : slice_get after place ≡ Some new
+    pub rose : Rose (keeping.faults old) (keeping.faults new)
+
+  -- The texts that are due, each with its cause. Where no script is run, the keepers stay.
+  pub data IsTextDue (words : List (String Global)) (old new : Option (List ℕ)) (before after : List K) : List ℕ → Type 0 where
+    report : (text : List ℕ) → IsPlain words → Reports old new before after text → IsTextDue words old new before after text
+    not_cleared : (text : List ℕ) → IsPlain words → CannotClear old new before after text → IsTextDue words old new before after text
+    bad_words : (IsPlain words → ⊥) → after ≡ before → IsTextDue words old new before after (codes "bad words\n")
+    not_json : IsPlain words → HasNoJson old new → after ≡ before → IsTextDue words old new before after (codes "not json\n")
+    not_a_script : IsPlain words → HasNoScript old new → after ≡ before → IsTextDue words old new before after (codes "not a script\n")
+    too_long : IsPlain words → IsTooLong old new → after ≡ before → IsTextDue words old new before after (codes "too long\n")
 
 -- ---- what bytes call for
 
@@ -73,7 +108,7 @@ pub data CallsFor (bytes : List ℕ) : Status → Type 0 where
   not_a_script : (broken : Rule) → length bytes ≤ limit → Breaks bytes broken → CallsFor bytes NotAScript
   too_long : limit < length bytes → CallsFor bytes TooLong
 
--- This status, unless a count rose at a read or a write, or memory was refused.
-abbrev pub IsUnlessRefused : Type 0 → Type 0 → Status → ℕ → Type 0
-IsUnlessRefused read_rose write_rose status result =
-    (result ≡ code_of status) ⊎ (((result ≡ code_of ReadFailed) × read_rose) ⊎ (((result ≡ code_of WriteFailed) × write_rose) ⊎ (result ≡ code_of Memory)))
+-- This status, unless a count rose at a read, a write or a keeper's start, or memory was refused.
+abbrev pub IsUnlessRefused : Type 0 → Type 0 → Type 0 → Status → ℕ → Type 0
+IsUnlessRefused read_rose write_rose keeper_rose status result =
+    (result ≡ code_of status) ⊎ (((result ≡ code_of ReadFailed) × read_rose) ⊎ (((result ≡ code_of WriteFailed) × write_rose) ⊎ (((result ≡ code_of ClearFailed) × keeper_rose) ⊎ (result ≡ code_of Memory))))

@@ -1,7 +1,7 @@
 -- The numbers of the statuses.
 use Rattle.std.specs.Prelude.{ℕ}
 use Rattle.rd_top.specs.declared.status.Status.{Status}
-use Rattle.rd_top.specs.declared.status.Status.TheVariants.{Done, Usage, NotJson, NotAScript, ReadFailed, WriteFailed, TooLong, Memory}
+use Rattle.rd_top.specs.declared.status.Status.TheVariants.{Done, Usage, NotJson, NotAScript, ReadFailed, WriteFailed, TooLong, Memory, ClearFailed}
 
 abbrev pub code_of : Status → ℕ
 code_of Done = 0
@@ -12,3 +12,4 @@ code_of ReadFailed = 4
 code_of WriteFailed = 5
 code_of TooLong = 6
 code_of Memory = 7
+code_of ClearFailed = 8

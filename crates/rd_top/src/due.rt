@@ -4,6 +4,7 @@ use crate::status::Status;
 #[derive(Drop)]
 pub enum Due {
     Report(String),
+    NotCleared(String),
     BadWords,
     NotJson,
     NotAScript,
@@ -21,7 +22,7 @@ impl Due {
         ensures { result.now ≡ text_due self.now }
     {
         match self {
-            Due::Report(text) => text.as_str(),
+            Due::Report(text) | Due::NotCleared(text) => text.as_str(),
             Due::BadWords => "bad words\n",
             Due::NotJson => "not json\n",
             Due::NotAScript => "not a script\n",
@@ -36,6 +37,7 @@ impl Due {
     {
         match self {
             Due::Report(_) => Status::Done,
+            Due::NotCleared(_) => Status::ClearFailed,
             Due::BadWords => Status::Usage,
             Due::NotJson => Status::NotJson,
             Due::NotAScript => Status::NotAScript,

@@ -3,6 +3,10 @@
 
 mod answer;
 mod due;
+#[cfg(test)]
+mod failing_tests;
+#[cfg(test)]
+mod membership_tests;
 mod status;
 #[cfg(test)]
 mod tests;
@@ -10,4 +14,4 @@ mod top;
 mod words;
 
 pub use status::Status;
-pub use top::replicate_plain;
+pub use top::{Outcome, replicate_plain};

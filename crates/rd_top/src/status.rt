@@ -17,6 +17,8 @@ pub enum Status {
     TooLong,
     /// Memory was refused.
     Memory,
+    /// A keeper failed to be cleared at the start.
+    ClearFailed,
 }
 
 impl From<Status> for u8 {
@@ -36,6 +38,7 @@ impl From<Status> for u8 {
             Status::WriteFailed => 5,
             Status::TooLong => 6,
             Status::Memory => 7,
+            Status::ClearFailed => 8,
         }
     }
 }

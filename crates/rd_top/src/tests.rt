@@ -1,3 +1,4 @@
+use crate::membership_tests::keepers;
 use crate::{Status, replicate_plain};
 use rd_outside::{MemorySink, MemorySource};
 use std::alloc::Global;
@@ -282,8 +283,9 @@ fn answer(
     let bytes = Vec::from_slice(alloc, script.as_bytes())?;
     let mut source = MemorySource::new(alloc, bytes, 7, Vec::from_slice(alloc, read_failing)?);
     let mut sink = MemorySink::new(alloc, 8, Vec::from_slice(alloc, write_failing)?);
-    let code = replicate_plain(alloc, &words, &mut source, &mut sink);
-    Ok((code, sink))
+    let keepers = keepers(alloc, 0, &[])?;
+    let outcome = replicate_plain(alloc, &words, &mut source, &mut sink, keepers);
+    Ok((outcome.status, sink))
 }
 
 #[test]
@@ -410,8 +412,9 @@ fn bounds_the_script(rt: HostRuntime) -> Result<(), Fail> {
         let mut source = MemorySource::new(alloc, spaces, 4096, Vec::new(alloc));
         let mut sink = MemorySink::new(alloc, 8, Vec::new(alloc));
         let words = words(alloc, "plain")?;
-        let code = replicate_plain(alloc, &words, &mut source, &mut sink);
-        assert_eq!(rt; code, u8::from(status));
+        let keepers = keepers(alloc, 0, &[])?;
+        let outcome = replicate_plain(alloc, &words, &mut source, &mut sink, keepers);
+        assert_eq!(rt; outcome.status, u8::from(status));
         assert_eq!(rt; sink.bytes(), written.as_bytes());
     }
     Ok(())

@@ -1,8 +1,10 @@
-//! Trials: entries that take updates, merges and prunes at random show what their records mean.
+//! Trials: entries that take updates, merges, groups and prunes at random show what their records mean.
 #![tactic(auto)]
 
 #[cfg(test)]
 mod cluster;
+#[cfg(test)]
+mod member;
 #[cfg(test)]
 mod operations;
 #[cfg(test)]

@@ -7,29 +7,30 @@ use rd_value::Data;
 use std::alloc::Global;
 use std::test::Fail;
 
-const HISTORIES: u64 = 200;
+const HISTORIES: u64 = 60;
 
 const MEMBERS: u8 = 4;
 
 const STEPS: u32 = 40;
 
-/// One step at random: an update, a merge, or a prune where more than two members are left. Answers whether it pruned.
+/// One step at random: an update, a merge, a group, or a prune where more than two members are left.
 fn step<T: Replica<Kind = Kind, Op = Op>>(
     alloc: Global,
     cluster: &mut Cluster<T>,
     kind: Kind,
     random: &mut Random,
     view: u32,
-) -> Result<bool, Fail> {
+) -> Result<(), Fail> {
     let count = cluster.len() as u64;
     if count == 0 {
         return Err("no member".into());
     }
     let at = random.below(count);
     let other = random.below(count);
-    match random.below(12) {
+    match random.below(16) {
         0..=5 => cluster.update(at as usize, operation(alloc, kind, random)?)?,
-        6..=10 => cluster.merge(at as usize, other as usize)?,
+        6..=8 => cluster.merge(at as usize, other as usize)?,
+        9..=14 => cluster.take_group(at as usize, other as usize, random)?,
         _ if count > 2 && other < count - 1 => {
             return cluster.prune(at as usize, other as usize, view);
         }
@@ -38,40 +39,40 @@ fn step<T: Replica<Kind = Kind, Op = Op>>(
     if !cluster.shows_what_is_meant(at as usize)? {
         return Err("another value is meant".into());
     }
-    Ok(false)
+    Ok(())
 }
 
-/// Plays the steps of one history, and answers how many identities were pruned.
+/// Plays the steps of one history, and answers how many groups were taken and how many identities were pruned.
 fn play<T: Replica<Kind = Kind, Op = Op>>(
     alloc: Global,
     kind: Kind,
     seed: u64,
-) -> Result<u32, Fail> {
+) -> Result<(u64, u64), Fail> {
     let mut random = Random::new(seed);
     let mut cluster: Cluster<T> = Cluster::new(alloc, kind, MEMBERS)?;
-    let mut prunes: u32 = 0;
     for view in 1..=STEPS {
-        if step(alloc, &mut cluster, kind, &mut random, view)? {
-            prunes = prunes.saturating_add(1);
-        }
+        step(alloc, &mut cluster, kind, &mut random, view)?;
     }
     for at in 0..cluster.len() {
         if !cluster.shows_what_is_meant(at)? {
             return Err("another value is meant".into());
         }
     }
-    Ok(prunes)
+    Ok((cluster.groups(), cluster.prunes()))
 }
 
-/// Plays all histories of a kind. Each shows what is meant, and most prune.
+/// Plays all histories of a kind. Each shows what is meant; one in two prunes at least, and on the average each takes two groups
+/// or more.
 fn play_all(alloc: Global, kind: Kind) -> Result<(), Fail> {
+    let mut groups: u64 = 0;
     let mut prunes: u64 = 0;
     for seed in 1..=HISTORIES {
-        let more = play::<Data>(alloc, kind, seed)?;
-        prunes = prunes.saturating_add(u64::from(more));
+        let (taken, pruned) = play::<Data>(alloc, kind, seed)?;
+        groups = groups.saturating_add(taken);
+        prunes = prunes.saturating_add(pruned);
     }
-    if prunes < HISTORIES {
-        return Err("few prunes".into());
+    if prunes < HISTORIES / 2 || groups < 2 * HISTORIES {
+        return Err("few groups or prunes".into());
     }
     Ok(())
 }

@@ -3,8 +3,6 @@
 
 mod replica;
 mod spelled;
-#[cfg(test)]
-mod tests;
 mod value;
 
 pub use value::{Data, Delta};

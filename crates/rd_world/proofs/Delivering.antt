@@ -1,173 +1,310 @@
--- A delivery: the message is handed to its receiver, and passed where it was the next one due.
-use Rattle.std.proofs.Common.{◌≡◌, ℕ, zero, suc, ◌<◌, ◌≤◌, List, [], ◌∷◌, length, get_or, refl, sym, ap, subst, ◌∙◌, arith, false, Option, Some, None}
-use Rattle.std.specs.Prelude.{nat_lt, ◌&&◌, if◌then◌else◌, is_some, map, option_and_then}
-use Rattle.std.proofs.lemmas.Bool.Decides.{nat_tests}
-use Rattle.std.proofs.lemmas.List.{length-map}
+-- A message is handed to its receiver, and passed where it was the next one due.
+use Rattle.std.proofs.Common.{◌≡◌, ℕ, ◌<◌, ◌≤◌, List, [], ◌∷◌, length, length-append, refl, sym, ap, subst, ◌∙◌, arith, Bool, true, false, Option, Some, None}
+use Rattle.std.specs.Prelude.{is_some, if◌then◌else◌, ◌==◌, ◌&&◌, option_map}
+use Rattle.std.specs.List.{AllZip}
 use Rattle.std.proofs.lemmas.Option.{slice_get_within}
 use Rattle.rd_history.specs.Table.{identity_limit}
 use Rattle.rd_history.specs.Texts.{Text}
-use Rattle.rd_history.specs.Vector.{VersionVector, IdentitySet}
 use Rattle.rd_history.specs.History.{History}
+use Rattle.rd_model.specs.View.{is_member}
 use Rattle.rd_model.specs.DataType.{Replication}
+use Rattle.rd_model.specs.Message as sending
 use Rattle.rd_model.specs.Message.{Message as Sent}
 use Rattle.rd_model.specs.Node as nodes
-use Rattle.rd_model.specs.Node.{Input}
-use Rattle.rd_model.specs.Node.Fate.{NoStore}
-use Rattle.rd_model.specs.World as worlds
-use Rattle.rd_model.specs.World.{Link, message_at, turn_at, turn_of}
+use Rattle.rd_model.specs.Node.{KeyDecl, Input}
+use Rattle.rd_model.specs.World.{IsRun, message_at, moved_on, with_posts}
 use Rattle.rd_model.specs.World.Event.{Delivery}
 use Rattle.rd_model.specs.Script as script
-use Rattle.rd_model.specs.Script.{Playing, told, deliver, given, played}
+use Rattle.rd_model.specs.Script.{Playing, told, deliver, given}
+use Rattle.rd_runs.proofs.Playing.{deliver_is_run, deliver_appends}
+use Rattle.rd_kinds.specs.declared.operation.Op.{Op}
 use Rattle.rd_kinds.specs.declared.shown.Shown.{Shown}
 use Rattle.rd_lattice.specs.declared.replica.Replica.{Ghosts}
+use Rattle.rd_lattice.specs.declared.spelled.SpelledData.{Ghosts as Spelling}
+use Rattle.rd_keeper.specs.declared.keeper.Keeper.{Ghosts as Keeping}
 use Rattle.rd_messages.specs.declared.message.Message.{Message}
 use Rattle.rd_messages.specs.declared.message.Message.TheVariants.{Deltas, Nack, Status, Gossip}
-use Rattle.rd_node.specs.declared.node.Node.{Node}
-use Rattle.rd_node.specs.Members.{StandsForKeyed, StandsForKeyedGroup, StandsForMessage}
 use Rattle.rd_messages.specs.Sketches.{sketch_of}
-use Rattle.rd_messages.specs.Standing.{digest_told}
-use Rattle.rd_messages.specs.declared.sketch.MessageKind.TheVariants as kind
+use Rattle.rd_messages.specs.declared.sketch.Sketch.{Sketch}
+use Rattle.rd_views.specs.Sound.{IsView, AreViews, last_view}
+use Rattle.rd_node.specs.declared.key.KeyState.{KeyState}
+use Rattle.rd_node.specs.declared.input.Input.TheVariants as input
+use Rattle.rd_node.specs.declared.reply.Reply.{Reply}
+use Rattle.rd_node.specs.Inputs.{Tells, nothing, told as tell, StandsForTaken, IsEntryPassedOver, IsGroupPassedOver}
+use Rattle.rd_node.specs.Members.{StandsForKeyed, StandsForKeyedGroup, StandsForMessage, StandsForPosts}
+use Rattle.rd_node.specs.Replies.{meant_fate}
+use Rattle.rd_node.specs.Steps.{replication}
 use Rattle.rd_world.specs.declared.world.World.{World}
+use Rattle.rd_world.specs.declared.event.Head.{Head}
 use Rattle.rd_world.specs.declared.event.Head.TheVariants as head
-use Rattle.rd_world.specs.declared.event.Answer.{Answer}
 use Rattle.rd_world.specs.declared.event.Answer.TheVariants as answer
-use Rattle.rd_world.specs.Channels.{Channel, channel_at, next_on, count_on, message_on}
-use Rattle.rd_world.specs.Standing.{StandsForWorld}
-use Rattle.rd_world.specs.Lines.{meant_answer, sketched, IsHead, IsNextLine}
-use Rattle.rd_world.proofs.Quiet.{IsPlain, deltas_taken, nack_taken, status_taken, gossip_taken}
-use Rattle.rd_world.proofs.Pairs.{IsPair, both, neither, zip_length}
-use Rattle.rd_world.proofs.Standings.{IsRunning, running_at, gone_past}
-use Rattle.rd_world.proofs.Inputs.{told_plainly, full_tells}
-use Rattle.rd_world.proofs.Moving.{link_next, link_message}
+use Rattle.rd_world.specs.declared.event.Event.{Event}
+use Rattle.rd_world.specs.declared.sending.Answered.{Answered}
+use Rattle.rd_world.specs.Channels.{Channel, channel_at, count_on, message_on, passed, extended, ChangesOne}
+use Rattle.rd_world.specs.Lines.{IsHead}
+use Rattle.rd_world.specs.Places.{seat_of, keeper_of}
+use Rattle.rd_world.specs.Sending.{messages_to}
+use Rattle.rd_world.specs.Standing.{StandsForLink, StandsForWorld}
+use Rattle.rd_world.specs.Steps.{Foretells, Reaches}
+use Rattle.rd_world.specs.Ways.{IsPrefix, Means}
+use Rattle.rd_world.specs.Giving.{IsSame, IsAlikeButLinks, ChangesAt, Refuses, Makes, Gives, gone, full, made, Does, IsAsBefore, delivers}
+use Rattle.rd_world.proofs.Changing.{last_sound}
+use Rattle.rd_world.proofs.Answering.{reaches_gone, reaches_full, kept_changed, called_keeps, kept_same, kept_refused}
+use Rattle.rd_world.proofs.Going.{given_at, reaches_made}
+use Rattle.rd_world.proofs.Linking.{link_message, links_sent, links_moved, passed_first, same_sketch}
+use Rattle.rd_world.proofs.Onward.{way_logs}
+use Rattle.rd_world.proofs.Present.{absent_gone, present_runs}
+use Rattle.rd_world.proofs.Pairs.{IsPair, both, neither}
+use Rattle.rd_world.proofs.Telling.{IsEventAt, delivery_at, reaches_told}
+use Rattle.rd_world.proofs.Turns.{answers_of}
+use Rattle.rd_world.proofs.Unkept.{not_called_at, kept_same as keeper_same}
 
-item_at : {X : Type 0} (xs : List X) (k : ℕ) → k < length xs → (x : X) × (x ≡ get_or xs k x)
-item_at [] k within = absurd (omega arith)
-item_at (x ∷ xs) zero within = (x, refl)
-item_at (x ∷ xs) (suc k) within = item_at xs k (omega arith)
+-- WHAT A MEMBER TAKES OF A MESSAGE
 
--- a message that was sent
+tells_all : {X Y : Type 0} (R : X → Y → Type 0) (P : X → Type 0) (xs : List X) (ys : List Y) → AllZip R xs ys → Tells R P xs ys
+tells_all R P [] [] all = nothing
+tells_all R P [] (y ∷ ys) all = absurd all
+tells_all R P (x ∷ xs) [] all = absurd all
+tells_all R P (x ∷ xs) (y ∷ ys) all = tell x y xs ys all.0 (tells_all R P xs ys all.1)
+
+pair_both : {X Y : Type 0} (R : X → Y → Type 0) (a : Option X) (b : Option Y) (x : X) (y : Y) → IsPair R a b → a ≡ Some x → b ≡ Some y → R x y
+pair_both R _ _ x y (both {x = a} {y = b} r) e f = subst (R x) (cc f) (subst (λ z. R z b) (cc e) r)
+pair_both R _ _ x y neither e f = absurd (cc e)
+
+pair_some : {X Y : Type 0} (R : X → Y → Type 0) (a : Option X) (b : Option Y) (x : X) → IsPair R a b → a ≡ Some x → (y : Y) × (b ≡ Some y)
+pair_some R _ _ x (both {y = y} r) e = (y, refl)
+pair_some R _ _ x neither e = absurd (cc e)
+
+pair_none : {X Y : Type 0} (R : X → Y → Type 0) (a : Option X) (b : Option Y) → IsPair R a b → a ≡ None → b ≡ None
+pair_none R _ _ (both r) e = absurd (cc e)
+pair_none R _ _ neither e = refl
+
 pub sent_within : {M : Type 0} (o : Option (Channel M)) (index : ℕ) (message : M) → message_on o index ≡ Some message → index < count_on o
 sent_within None index message e = absurd (cc e)
 sent_within (Some channel) index message e = slice_get_within channel.messages index message e
 
-module _ {T Kind Op Delta : Type 0} (kind_of : T → Kind) (IsDataOf : T → History Op → VersionVector → IdentitySet → Type 0) (kinds : Text → Kind) (logs : Text → History Op) where
-  -- a member's message changes neither view nor keys
-  pub plain_message : {ghosts : Ghosts T Kind Op Delta} → (message : Message T Kind Op Delta ghosts) (sent : Sent Op) (from : ℕ) → StandsForMessage kind_of IsDataOf kinds logs message sent → IsPlain (Input.Take from sent)
-  plain_message (Deltas groups entries) sent from s = subst (λ (m : Sent Op). IsPlain (Input.Take from m)) (sym s.is) (deltas_taken from s.sent_groups s.sent_entries)
-  plain_message (Nack keys) sent from s = subst (λ (m : Sent Op). IsPlain (Input.Take from m)) (sym s) (nack_taken from keys)
-  plain_message (Status digests) sent from s = subst (λ (m : Sent Op). IsPlain (Input.Take from m)) (sym s) (status_taken from (map digest_told digests))
-  plain_message (Gossip entries wants) sent from s = subst (λ (m : Sent Op). IsPlain (Input.Take from m)) (sym s.is) (gossip_taken from s.sent_entries wants)
+count_extended : {M : Type 0} (o : Option (Channel M)) (messages : List M) (b : Bool) → count_on o ≤ count_on (if b then option_map (extended messages) o else o)
+count_extended None messages true = omega arith
+count_extended (Some channel) messages true = let l = length-append channel.messages messages in omega arith
+count_extended o messages false = omega arith
 
-  -- and is printed alike
-  pub same_sketch : {ghosts : Ghosts T Kind Op Delta} → (message : Message T Kind Op Delta ghosts) (sent : Sent Op) → StandsForMessage kind_of IsDataOf kinds logs message sent → sketch_of message ≡ sketched sent
-  same_sketch (Deltas groups entries) sent s =
-      (λ i. record {
-        kind = kind.Deltas;
-        first = zip_length (StandsForKeyedGroup kinds logs) groups s.sent_groups s.groups_stand i;
-        second = zip_length (StandsForKeyed kind_of IsDataOf kinds logs) entries s.sent_entries s.entries_stand i;
-      })
-      ∙ sym (ap sketched s.is)
-  same_sketch (Nack keys) sent s = sym (ap sketched s)
-  same_sketch (Status digests) sent s = (λ i. record { kind = kind.Status; first = sym (length-map digests digest_told) i; second = 0 }) ∙ sym (ap sketched s)
-  same_sketch (Gossip entries wants) sent s =
-      (λ i. record { kind = kind.Gossip; first = zip_length (StandsForKeyed kind_of IsDataOf kinds logs) entries s.sent_entries s.entries_stand i; second = length wants }) ∙ sym (ap sketched s.is)
+module _ {T Kind Delta : Type 0} {ghosts : Ghosts T Kind Op Delta} (kinds : Text → Kind) (logs : Text → History Op) (keys : List (KeyState T Kind Op Delta)) where
+  taken_whole : (message : Message T Kind Op Delta ghosts) (sent : Sent Op) → StandsForMessage ghosts.kind_of ghosts.IsDataOf kinds logs message sent → StandsForTaken kinds logs keys message sent
+  taken_whole (Deltas groups entries) sent s =
+      record {
+        told_groups = s.sent_groups;
+        told_entries = s.sent_entries;
+        is = s.is;
+        groups_stand = tells_all (StandsForKeyedGroup kinds logs) (IsGroupPassedOver ghosts keys) groups s.sent_groups s.groups_stand;
+        entries_stand = tells_all (StandsForKeyed ghosts.kind_of ghosts.IsDataOf kinds logs) (IsEntryPassedOver ghosts keys) entries s.sent_entries s.entries_stand;
+      }
+  taken_whole (Nack names) sent s = s
+  taken_whole (Status digests) sent s = s
+  taken_whole (Gossip entries wants) sent s =
+      record { told_entries = s.sent_entries; is = s.is; entries_stand = tells_all (StandsForKeyed ghosts.kind_of ghosts.IsDataOf kinds logs) (IsEntryPassedOver ghosts keys) entries s.sent_entries s.entries_stand }
 
-  module _ (ghosts : Ghosts T Kind Op Delta) (D : Replication Kind Op Shown) (code : World T Kind Op Delta ghosts) (p : Playing Kind Op Shown) (stands : StandsForWorld kind_of IsDataOf kinds logs code p.world) (from to index : ℕ) where
-    -- what is delivered of a message, if there is one
-    abbrev message_handed : Option (Sent Op) → Playing Kind Op Shown
-    message_handed o = elim o [
+-- DELIVERIES
+
+module _ {T K Kind Delta : Type 0} {ghosts : Ghosts T Kind Op Delta} {keeping : Keeping K} (spelling : Spelling T Kind Op Delta) (old : World T K Kind Op Delta ghosts keeping) (from to index : ℕ) (small : from < identity_limit) (few : to < identity_limit) where
+  abbrev D : Replication Kind Op Shown
+  D = replication ghosts spelling
+
+  abbrev here : Option (Channel (Message T Kind Op Delta ghosts))
+  here = channel_at old.links from to
+
+  module _ (kinds : Text → Kind) (members : ℕ) (decls : List (KeyDecl Kind)) (p : Playing Kind Op Shown) (m : Means spelling kinds members decls p old) where
+    abbrev handed : Option (Sent Op) → Playing Kind Op Shown
+    handed o = elim o [
       | None ↦ told p (script.Head.DeliverHead from to index None) script.Answer.NoSuchMessage
       | Some message ↦ given D p (script.Head.DeliverHead from to index (Some message)) (Delivery from to index)
     ]
 
-    pub undelivered_gone : length code.nodes.items ≤ to → deliver D p from to index ≡ told p (script.Head.DeliverHead from to index None) script.Answer.Gone
-    undelivered_gone past =
-        ap (λ (o : Option (nodes.Node Kind Op Shown)). if is_some o then message_handed (message_at p.world from to index) else told p (script.Head.DeliverHead from to index None) script.Answer.Gone)
-        (gone_past kind_of IsDataOf kinds logs ghosts code.nodes.items code.links p.world stands.parts to past)
+    abbrev by_running : Option (nodes.Node Kind Op Shown) → Playing Kind Op Shown
+    by_running o = if is_some o then handed (message_at p.world from to index) else told p (script.Head.DeliverHead from to index None) script.Answer.Gone
 
-    pub gone_stands : (q : Playing Kind Op Shown) (h : script.Head Op) (a : script.Answer Shown) → q ≡ told p h a → StandsForWorld kind_of IsDataOf kinds logs code q.world
-    gone_stands q h a e = subst (λ (w : worlds.World Kind Op Shown). StandsForWorld kind_of IsDataOf kinds logs code w) (sym (ap (λ (q : Playing Kind Op Shown). q.world) e)) stands
+    -- the receiver is no member
+    pub reaches_absent : is_member (last_view old.views) to ≡ false → Reaches spelling kinds members decls p (deliver D p from to index) (λ k. []) old (record { head = head.Deliver from to index None; answer = answer.Gone; sent = [] } ∷ [])
+    reaches_absent absent =
+        reaches_told spelling kinds members decls p old (deliver D p from to index) (head.Deliver from to index None) answer.Gone (script.Head.DeliverHead from to index None) script.Answer.Gone (ap by_running (absent_gone spelling old kinds members decls p m to absent)) m (None, refl, refl) refl
 
-    pub told_none : (q : Playing Kind Op Shown) (a : Answer) (meant_by : script.Answer Shown) → q ≡ told p (script.Head.DeliverHead from to index None) meant_by → meant_by ≡ meant_answer a
-        → IsNextLine (record { head = head.Deliver from to index None; answer = a; sent = [] }) p q
-    told_none q a meant_by e same = (
-      record { head = script.Head.DeliverHead from to index None; answer = meant_by; posts = []; ended = None },
-      ap (λ (q : Playing Kind Op Shown). q.lines) e,
-      record { head = (None, refl, refl); answer = same; sent = refl; ended = refl },
-    )
+    module _ (sound : IsView (last_view old.views)) (present : is_member (last_view old.views) to ≡ true) where
+      runs : (node : nodes.Node Kind Op Shown) × (p.world.nodes to ≡ Some node)
+      runs = present_runs spelling old kinds members decls p m to sound present
 
-    -- the model's message
-    pub record IsSent (message : Message T Kind Op Delta ghosts) : Type 0 where
-      pub sent : Sent Op
-      pub is_there : message_at p.world from to index ≡ Some sent
-      pub stands_for : StandsForMessage kind_of IsDataOf kinds logs message sent
+      there : deliver D p from to index ≡ handed (message_at p.world from to index)
+      there = ap by_running runs.1
 
-    pub is_sent : (message : Message T Kind Op Delta ghosts) → message_on (channel_at code.links from to) index ≡ Some message → IsSent message
-    is_sent message e = go (message_on (channel_at code.links from to) index) (message_at p.world from to index) refl (link_message kind_of IsDataOf kinds logs (channel_at code.links from to) (p.world.links from to) index (stands.parts.links from to)) e
-      where
-        go : (o : Option (Message T Kind Op Delta ghosts)) (m : Option (Sent Op)) → message_at p.world from to index ≡ m → IsPair (StandsForMessage kind_of IsDataOf kinds logs) o m → o ≡ Some message → IsSent message
-        go _ _ here (both {y = sent} r) e' = record { sent = sent; is_there = here; stands_for = subst (λ (m : Message T Kind Op Delta ghosts). StandsForMessage kind_of IsDataOf kinds logs m sent) (cc e') r }
-        go _ _ here neither e' = absurd (cc e')
+      pair_in : (logs : Text → History Op) → StandsForWorld spelling kinds logs old p.world → IsPair (StandsForMessage ghosts.kind_of ghosts.IsDataOf kinds logs) (message_on here index) (message_at p.world from to index)
+      pair_in logs now = link_message kinds logs here (p.world.links from to) index (now.links from to small few)
 
-    -- no message is of a sender that never was
-    pub no_sender : identity_limit ≤ from → message_on (channel_at code.links from to) index ≡ None
-    no_sender past = go (channel_at code.links from to) (stands.parts.linked from to ∙ ap (λ b. b && nat_lt to (length code.nodes.items)) beyond)
-      where
-        beyond : nat_lt from (length code.nodes.items) ≡ false
-        beyond = let few = stands.parts.few in grind (arith, nat_tests)
+      pub reaches_unsent : message_on here index ≡ None → Reaches spelling kinds members decls p (deliver D p from to index) (λ k. []) old (record { head = head.Deliver from to index None; answer = answer.NoSuchMessage; sent = [] } ∷ [])
+      reaches_unsent none =
+          let logged = way_logs D members decls p m.run in
+          let unsent = pair_none (StandsForMessage ghosts.kind_of ghosts.IsDataOf kinds logged.0) (message_on here index) (message_at p.world from to index) (pair_in logged.0 (m.stands logged.0 logged.1)) none in
+          reaches_told spelling kinds members decls p old (deliver D p from to index) (head.Deliver from to index None) answer.NoSuchMessage (script.Head.DeliverHead from to index None) script.Answer.NoSuchMessage (there ∙ ap handed unsent) m (None, refl, refl) refl
 
-        go : (o : Option (Channel (Message T Kind Op Delta ghosts))) → is_some o ≡ false → message_on o index ≡ None
-        go None e = refl
-        go (Some channel) e = absurd (cc e)
+      module _ (message : Message T Kind Op Delta ghosts) (is : message_on here index ≡ Some message) where
+        sent : (sent : Sent Op) × (message_at p.world from to index ≡ Some sent)
+        sent =
+            let logged = way_logs D members decls p m.run in
+            pair_some (StandsForMessage ghosts.kind_of ghosts.IsDataOf kinds logged.0) (message_on here index) (message_at p.world from to index) message (pair_in logged.0 (m.stands logged.0 logged.1)) is
 
-    module _ (within : to < length code.nodes.items) (old : Node T Kind Op Delta ghosts) (is : old ≡ get_or code.nodes.items to old) where
-      pub running : IsRunning kind_of IsDataOf kinds logs ghosts p.world to old
-      running = running_at kind_of IsDataOf kinds logs ghosts code.nodes.items code.links p.world stands.parts to old within is
+        stands_in : (logs : Text → History Op) → StandsForWorld spelling kinds logs old p.world → StandsForMessage ghosts.kind_of ghosts.IsDataOf kinds logs message sent.0
+        stands_in logs now = pair_both (StandsForMessage ghosts.kind_of ghosts.IsDataOf kinds logs) (message_on here index) (message_at p.world from to index) message sent.0 (pair_in logs now) is sent.1
 
-      there : deliver D p from to index ≡ message_handed (message_at p.world from to index)
-      there = ap (λ (o : Option (nodes.Node Kind Op Shown)). if is_some o then message_handed (message_at p.world from to index) else told p (script.Head.DeliverHead from to index None) script.Answer.Gone) running.runs
+        abbrev sent_head : script.Head Op
+        sent_head = script.Head.DeliverHead from to index (Some sent.0)
 
-      -- no such message
-      undelivered_at : message_on (channel_at code.links from to) index ≡ None → deliver D p from to index ≡ told p (script.Head.DeliverHead from to index None) script.Answer.NoSuchMessage
-      undelivered_at none = there ∙ ap message_handed (unsent (message_on (channel_at code.links from to) index) (message_at p.world from to index) (link_message kind_of IsDataOf kinds logs (channel_at code.links from to) (p.world.links from to) index (stands.parts.links from to)) none)
-        where
-          unsent : (o : Option (Message T Kind Op Delta ghosts)) (m : Option (Sent Op)) → IsPair (StandsForMessage kind_of IsDataOf kinds logs) o m → o ≡ None → m ≡ None
-          unsent _ _ (both r) e = absurd (cc e)
-          unsent _ _ neither e = refl
+        abbrev handing : Playing Kind Op Shown
+        handing = given D p sent_head (Delivery from to index)
 
-      module _ (message : Message T Kind Op Delta ghosts) (found : IsSent message) where
-        abbrev pub handed : Playing Kind Op Shown
-        handed = given D p (script.Head.DeliverHead from to index (Some found.sent)) (Delivery from to index)
+        is_given : deliver D p from to index ≡ handing
+        is_given = there ∙ ap handed sent.1
 
-        -- the receiver takes it
-        pub receives : turn_of p.world (Delivery from to index NoStore) ≡ turn_at p.world to (Input.Take from found.sent) NoStore
-        receives = ap (option_and_then (λ (message : Sent Op). turn_at p.world to (Input.Take from message) NoStore)) found.is_there
+        is_head : IsHead (head.Deliver from to index (Some (sketch_of message))) sent_head
+        is_head = let logged = way_logs D members decls p m.run in (Some sent.0, refl, ap Some (same_sketch kinds logged.0 message sent.0 (stands_in logged.0 (m.stands logged.0 logged.1))))
 
-        pub is_handed : deliver D p from to index ≡ handed
-        is_handed = there ∙ ap message_handed found.is_there
+        at_delivery : IsEventAt D p (Delivery from to index) to (Input.Take from sent.0) (moved_on p.world.links from to index)
+        at_delivery = delivery_at D p from to index sent.0 sent.1
 
-        pub is_head : IsHead (head.Deliver from to index (Some (sketch_of message))) (script.Head.DeliverHead from to index (Some found.sent))
-        is_head = (Some found.sent, refl, ap Some (same_sketch message found.sent found.stands_for))
+        run_handing : IsRun D members decls handing.events handing.world
+        run_handing = subst (λ (q : Playing Kind Op Shown). IsRun D members decls q.events q.world) is_given (deliver_is_run D members decls p from to index m.run)
 
-        -- a full receiver
-        pub full_stands : old.steps ≡ 16384 → StandsForWorld kind_of IsDataOf kinds logs code (deliver D p from to index).world
-        full_stands full =
-            gone_stands (deliver D p from to index) (script.Head.DeliverHead from to index (Some found.sent)) script.Answer.HistoryFull
-            (is_handed ∙ full_tells kind_of IsDataOf kinds logs ghosts D code.nodes.items code.links p stands.parts (script.Head.DeliverHead from to index (Some found.sent)) (Delivery from to index) to (Input.Take from found.sent) receives old old within is full)
+        more_handing : IsPrefix p.events handing.events
+        more_handing = subst (λ (q : Playing Kind Op Shown). IsPrefix p.events q.events) is_given (deliver_appends D p from to index)
 
-        pub full_told : old.steps ≡ 16384 → IsNextLine (record { head = head.Deliver from to index (Some (sketch_of message)); answer = answer.HistoryFull; sent = [] }) p (deliver D p from to index)
-        full_told full =
-            told_plainly kind_of IsDataOf kinds logs ghosts D code.nodes.items code.links p stands.parts (script.Head.DeliverHead from to index (Some found.sent)) (Delivery from to index) to (Input.Take from found.sent) receives (deliver D p from to index) (head.Deliver from to index (Some (sketch_of message))) answer.HistoryFull script.Answer.HistoryFull
-            (is_handed ∙ full_tells kind_of IsDataOf kinds logs ghosts D code.nodes.items code.links p stands.parts (script.Head.DeliverHead from to index (Some found.sent)) (Delivery from to index) to (Input.Take from found.sent) receives old old within is full) refl is_head
+        module _ (alike : (a b : K) → is_some (keeping.table a) ≡ is_some (keeping.table b)) (new : World T K Kind Op Delta ghosts keeping) where
+          pub reaches_handed_gone : seat_of (last_view old.views) to ≡ None → IsSame old new → Reaches spelling kinds members decls p (deliver D p from to index) (λ k. []) new (record { head = head.Deliver from to index (Some (sketch_of message)); answer = answer.Gone; sent = [] } ∷ [])
+          reaches_handed_gone none same =
+              reaches_gone spelling alike old new kinds members decls p (deliver D p from to index) m sent_head (Delivery from to index) to (Input.Take from sent.0) (moved_on p.world.links from to index) at_delivery is_given (head.Deliver from to index (Some (sketch_of message))) is_head none same
 
-    pub undelivered_none : to < length code.nodes.items → message_on (channel_at code.links from to) index ≡ None → deliver D p from to index ≡ told p (script.Head.DeliverHead from to index None) script.Answer.NoSuchMessage
-    undelivered_none within none = let here = item_at code.nodes.items to within in undelivered_at within here.0 here.1 none
+          pub reaches_handed_full : (r : Refuses to old new) → r.before.steps ≡ 16384 → Reaches spelling kinds members decls p (deliver D p from to index) (λ k. []) new (record { head = head.Deliver from to index (Some (sketch_of message)); answer = answer.HistoryFull; sent = [] } ∷ [])
+          reaches_handed_full r steps =
+              reaches_full spelling alike old new kinds members decls p (deliver D p from to index) m sent_head (Delivery from to index) to (Input.Take from sent.0) (moved_on p.world.links from to index) at_delivery is_given (head.Deliver from to index (Some (sketch_of message))) is_head r steps
 
-    -- the number that is given, or that of the next message due
-    pub index_given : (o : Option ℕ) (i : ℕ) → o ≡ Some i → played D p (script.ScriptStep.Deliver from to o) ≡ deliver D p from to i
-    index_given o i e = ap (λ (o : Option ℕ). played D p (script.ScriptStep.Deliver from to o)) e
+          module _ (mid : World T K Kind Op Delta ghosts keeping) (answered : Answered) (mk : Makes spelling to (input.Take from message) answered old mid) (same : IsAlikeButLinks mid new) (passes : index < count_on (channel_at mid.links from to) → ChangesOne (passed index) from to mid.links new.links) where
+            changes_on : ChangesAt to mk.place mk.before mk.after old new
+            changes_on =
+                let c = mk.changes in
+                record { views = same.views ∙ c.views; keys = same.keys ∙ c.keys; spare = same.spare ∙ c.spare; sound = c.sound; seat = c.seat; within = c.within; was = c.was; nodes = same.nodes ∙ c.nodes }
 
-    pub index_due : (o : Option ℕ) (i : ℕ) → o ≡ None → i ≡ next_on (channel_at code.links from to) → played D p (script.ScriptStep.Deliver from to o) ≡ deliver D p from to i
-    index_due o i e due =
-        ap (λ (o : Option ℕ). played D p (script.ScriptStep.Deliver from to o)) e
-        ∙ ap (deliver D p from to) (link_next kind_of IsDataOf kinds logs (channel_at code.links from to) (p.world.links from to) (stands.parts.links from to) ∙ sym due)
+            linked : (logs : Text → History Op) (sents : List (sending.Post Op)) → StandsForWorld spelling kinds logs old p.world → StandsForPosts ghosts.kind_of ghosts.IsDataOf kinds logs mk.steps.posts sents → length mk.steps.posts ≤ length mk.before.view.members
+                → (a b : ℕ) → a < identity_limit → b < identity_limit → StandsForLink {ghosts = ghosts} kinds logs (channel_at new.links a b) (with_posts (moved_on p.world.links from to index) to sents a b)
+            linked logs sents now posts bounded a b ok fine =
+                let sends = mk.steps.sends bounded in
+                let passed_there = λ (a b : ℕ). if (a == from) && (b == to) then option_map (passed index) (channel_at old.links a b) else channel_at old.links a b in
+                let within : index < count_on (channel_at mid.links from to) =
+                let first = sent_within here index message is in
+                let more : count_on here ≤ count_on (channel_at mid.links from to) = subst (λ o. count_on here ≤ count_on o) (sym (sends from to)) (count_extended here (messages_to mk.steps.posts to) (from == to)) in omega arith in
+                links_sent kinds logs passed_there (channel_at new.links) (moved_on p.world.links from to index) to mk.steps.posts sents posts
+                (passed_first (channel_at old.links) (channel_at mid.links) (channel_at new.links) to (messages_to mk.steps.posts) from to index sends (passes within)) a b
+                (links_moved kinds logs (channel_at old.links) passed_there p.world.links from to index (λ a b. refl) a b (now.links a b ok fine))
+
+            pub reaches_handed : Foretells p (given_at mk.place (answers_of (meant_fate mk.steps.fate)))
+                → Reaches spelling kinds members decls p (deliver D p from to index) (given_at mk.place (answers_of (meant_fate mk.steps.fate))) new (record { head = head.Deliver from to index (Some (sketch_of message)); answer = answer.Reply answered.reply; sent = answered.sent } ∷ [])
+            reaches_handed foretold =
+                subst (λ (q : Playing Kind Op Shown). Reaches spelling kinds members decls p q (given_at mk.place (answers_of (meant_fate mk.steps.fate))) new (record { head = head.Deliver from to index (Some (sketch_of message)); answer = answer.Reply answered.reply; sent = answered.sent } ∷ [])) (sym is_given)
+                (reaches_made spelling alike kinds members decls old new p m sent_head (Delivery from to index) run_handing more_handing to (Input.Take from sent.0) (moved_on p.world.links from to index) at_delivery mk.place mk.before mk.after changes_on (input.Take from message) mk.steps.fate
+                (record { reply = answered.reply; posts = mk.steps.posts }) mk.steps.makes
+                (λ logs now. record { told = sent.0; is = refl; message_stands = taken_whole kinds logs mk.before.keys.items message sent.0 (stands_in logs now) })
+                foretold (head.Deliver from to index (Some (sketch_of message))) is_head answered.sent mk.steps.tells linked)
+
+  -- WHAT A CALL DOES
+
+  pub does_absent : is_member (last_view old.views) to ≡ false → Does spelling (delivers ghosts spelling from to index) old old (record { head = head.Deliver from to index None; answer = answer.Gone; sent = [] } ∷ [])
+  does_absent absent =
+      record { given = λ k. []; kept = λ k. not_called_at keeping (keeper_of old.nodes.items old.spare.items k); undamaged = refl; leads = λ kinds members decls p m foretold. reaches_absent kinds members decls p m absent }
+
+  module _ (sound : IsView (last_view old.views)) (present : is_member (last_view old.views) to ≡ true) where
+    pub does_unsent : message_on here index ≡ None → Does spelling (delivers ghosts spelling from to index) old old (record { head = head.Deliver from to index None; answer = answer.NoSuchMessage; sent = [] } ∷ [])
+    does_unsent none =
+        record {
+          given = λ k. [];
+          kept = λ k. not_called_at keeping (keeper_of old.nodes.items old.spare.items k);
+          undamaged = refl;
+          leads = λ kinds members decls p m foretold. reaches_unsent kinds members decls p m sound present none;
+        }
+
+    module _ (message : Message T Kind Op Delta ghosts) (is : message_on here index ≡ Some message) (alike : (a b : K) → is_some (keeping.table a) ≡ is_some (keeping.table b)) (mid new : World T K Kind Op Delta ghosts keeping) where
+      abbrev DoesIt : Event → Type 0
+      DoesIt event = Does spelling (delivers ghosts spelling from to index) old new (event ∷ [])
+
+      abbrev sent_line : Head
+      sent_line = head.Deliver from to index (Some (sketch_of message))
+
+      gone_handed : seat_of (last_view old.views) to ≡ None → IsSame old new → DoesIt (record { head = sent_line; answer = answer.Gone; sent = [] })
+      gone_handed none same =
+          record { given = λ k. []; kept = kept_same spelling alike old new same; undamaged = refl; leads = λ kinds members decls p m foretold. reaches_handed_gone kinds members decls p m sound present message is alike new none same }
+
+      full_handed : (r : Refuses to old new) → r.before.steps ≡ 16384 → DoesIt (record { head = sent_line; answer = answer.HistoryFull; sent = [] })
+      full_handed r steps =
+          record { given = λ k. []; kept = kept_refused spelling alike old new to r; undamaged = refl; leads = λ kinds members decls p m foretold. reaches_handed_full kinds members decls p m sound present message is alike new r steps }
+
+      made_handed : (answered : Answered) → Makes spelling to (input.Take from message) answered old mid → IsAlikeButLinks mid new → (index < count_on (channel_at mid.links from to) → ChangesOne (passed index) from to mid.links new.links)
+          → DoesIt (record { head = sent_line; answer = answer.Reply answered.reply; sent = answered.sent })
+      made_handed answered mk same passes =
+          let c = mk.changes in
+          let on : ChangesAt to mk.place mk.before mk.after old new = record { views = same.views ∙ c.views; keys = same.keys ∙ c.keys; spare = same.spare ∙ c.spare; sound = c.sound; seat = c.seat; within = c.within; was = c.was; nodes = same.nodes ∙ c.nodes } in
+          record {
+            given = given_at mk.place (answers_of (meant_fate mk.steps.fate));
+            kept = kept_changed keeping alike to mk.place mk.before mk.after old new on (answers_of (meant_fate mk.steps.fate)) (called_keeps keeping alike mk.steps.fate mk.before.keeper mk.after.keeper mk.steps.makes.called);
+            undamaged = refl;
+            leads = λ kinds members decls p m foretold. reaches_handed kinds members decls p m sound present message is alike new mid answered mk same passes foretold;
+          }
+
+      -- the receiver answered no reply
+      pub does_other : (event : Event) → Gives spelling to sent_line (input.Take from message) old mid event → IsSame mid new → ((r : Reply) → event.answer ≡ answer.Reply r → ⊥) → DoesIt event
+      does_other event (gone none same line) then_same no_reply =
+          subst DoesIt (sym line)
+          (gone_handed none (record { views = then_same.views ∙ same.views; keys = then_same.keys ∙ same.keys; spare = then_same.spare ∙ same.spare; nodes = then_same.nodes ∙ same.nodes; links = then_same.links ∙ same.links }))
+      does_other event (full r steps line) then_same no_reply =
+          let c = r.changes in
+          subst DoesIt (sym line)
+          (full_handed (record {
+            place = r.place;
+            before = r.before;
+            after = r.after;
+            changes = record { views = then_same.views ∙ c.views; keys = then_same.keys ∙ c.keys; spare = then_same.spare ∙ c.spare; sound = c.sound; seat = c.seat; within = c.within; was = c.was; nodes = then_same.nodes ∙ c.nodes };
+            links = then_same.links ∙ r.links;
+            unchanged = r.unchanged;
+          }) steps)
+      does_other event (made answered mk line) then_same no_reply = absurd (no_reply answered.reply (ap (λ (e : Event). e.answer) line))
+
+      -- the receiver replied
+      pub does_reply : (event : Event) (r : Reply) → event.answer ≡ answer.Reply r → Gives spelling to sent_line (input.Take from message) old mid event → IsAlikeButLinks mid new → (index < count_on (channel_at mid.links from to) → ChangesOne (passed index) from to mid.links new.links)
+          → DoesIt event
+      does_reply event r replied (gone none same line) then_same passes = absurd (let e : answer.Gone ≡ answer.Reply r = sym (ap (λ (e : Event). e.answer) line) ∙ replied in cc e)
+      does_reply event r replied (full refused steps line) then_same passes = absurd (let e : answer.HistoryFull ≡ answer.Reply r = sym (ap (λ (e : Event). e.answer) line) ∙ replied in cc e)
+      does_reply event r replied (made answered mk line) then_same passes = subst DoesIt (sym line) (made_handed answered mk then_same passes)
+
+-- where nothing is done
+pub nothing_yet : {T K Kind Delta : Type 0} {ghosts : Ghosts T Kind Op Delta} {keeping : Keeping K} (spelling : Spelling T Kind Op Delta) (old : World T K Kind Op Delta ghosts keeping) → IsAsBefore spelling old old
+nothing_yet {keeping = keeping} spelling old = record { kept = λ k. keeper_same keeping (keeper_of old.nodes.items old.spare.items k); stays = λ kinds members decls p m. m }
+
+-- what the code has at hand: the message that was found, its copy, and its sketch
+module _ {T K Kind Delta : Type 0} {ghosts : Ghosts T Kind Op Delta} {keeping : Keeping K} (spelling : Spelling T Kind Op Delta) (old : World T K Kind Op Delta ghosts keeping) (from to index : ℕ) (small : from < identity_limit) (few : to < identity_limit) (are : AreViews old.views) (here_is : Bool) (contains : here_is ≡ is_member (last_view old.views) to) where
+  pub call_absent : here_is ≡ false → (event : Event) → event ≡ record { head = head.Deliver from to index None; answer = answer.Gone; sent = [] } → Does spelling (delivers ghosts spelling from to index) old old (event ∷ [])
+  call_absent absent event line = subst (λ (e : Event). Does spelling (delivers ghosts spelling from to index) old old (e ∷ [])) (sym line) (does_absent spelling old from to index small few (sym contains ∙ absent))
+
+  module _ (present : here_is ≡ true) (asked : Option (Message T Kind Op Delta ghosts)) (asks : asked ≡ message_on (channel_at old.links from to) index) where
+    pub call_unsent : asked ≡ None → (event : Event) → event ≡ record { head = head.Deliver from to index None; answer = answer.NoSuchMessage; sent = [] } → Does spelling (delivers ghosts spelling from to index) old old (event ∷ [])
+    call_unsent none event line =
+        subst (λ (e : Event). Does spelling (delivers ghosts spelling from to index) old old (e ∷ [])) (sym line) (does_unsent spelling old from to index small few (last_sound old.views are) (sym contains ∙ present) (sym asks ∙ none))
+
+    module _ (message copy : Message T Kind Op Delta ghosts) (found : asked ≡ Some message) (same : copy ≡ message) (sketch : Sketch) (sketches : sketch ≡ sketch_of message) (alike : (a b : K) → is_some (keeping.table a) ≡ is_some (keeping.table b)) (mid : World T K Kind Op Delta ghosts keeping) (event : Event)
+        (gives : Gives spelling to (head.Deliver from to index (Some sketch)) (input.Take from copy) old mid event) where
+      gives_so : Gives spelling to (head.Deliver from to index (Some (sketch_of message))) (input.Take from message) old mid event
+      gives_so =
+          subst (λ (s : Sketch). Gives spelling to (head.Deliver from to index (Some s)) (input.Take from message) old mid event) sketches
+          (subst (λ (c : Message T Kind Op Delta ghosts). Gives spelling to (head.Deliver from to index (Some sketch)) (input.Take from c) old mid event) same gives)
+
+      pub call_reply : (r : Reply) → event.answer ≡ answer.Reply r → (new self : World T K Kind Op Delta ghosts keeping) → self ≡ new → IsAlikeButLinks mid new → (index < count_on (channel_at mid.links from to) → ChangesOne (passed index) from to mid.links new.links)
+          → Does spelling (delivers ghosts spelling from to index) old self (event ∷ [])
+      call_reply r replied new self is alike_but passes =
+          subst (λ (s : World T K Kind Op Delta ghosts keeping). Does spelling (delivers ghosts spelling from to index) old s (event ∷ [])) (sym is)
+          (does_reply spelling old from to index small few (last_sound old.views are) (sym contains ∙ present) message (sym asks ∙ found) alike mid new event r replied gives_so alike_but passes)
+
+      pub call_other : ((r : Reply) → event.answer ≡ answer.Reply r → ⊥) → (new self : World T K Kind Op Delta ghosts keeping) → self ≡ new → IsSame mid new → Does spelling (delivers ghosts spelling from to index) old self (event ∷ [])
+      call_other no_reply new self is same_world =
+          subst (λ (s : World T K Kind Op Delta ghosts keeping). Does spelling (delivers ghosts spelling from to index) old s (event ∷ [])) (sym is)
+          (does_other spelling old from to index small few (last_sound old.views are) (sym contains ∙ present) message (sym asks ∙ found) alike mid new event gives_so same_world no_reply)

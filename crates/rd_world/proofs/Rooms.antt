@@ -1,5 +1,5 @@
 -- Links with room for more messages, one message later.
-use Rattle.std.proofs.Common.{◌≡◌, ◌≢◌, ℕ, ◌+◌, ◌<◌, ◌≤◌, List, [], ◌∷◌, ◌++◌, length, map, get_or, set, refl, sym, ap, subst, ◌∙◌, arith, Bool, true, false, Option, Some, None, inl, inr, Vec, Global, append_assoc}
+use Rattle.std.proofs.Common.{◌≡◌, ℕ, ◌+◌, ◌<◌, ◌≤◌, List, [], ◌∷◌, ◌++◌, length, map, get_or, set, refl, sym, ap, subst, ◌∙◌, arith, Bool, true, false, Option, Some, None, inl, inr, Vec, Global, append_assoc}
 use Rattle.std.specs.Prelude.{if◌then◌else◌, slice_get, option_map, ◌==◌, vec_len, vec_capacity, filter}
 use Rattle.std.proofs.lemmas.Bool.Decides.{eqb_tells}
 use Rattle.std.proofs.lemmas.Option.{slice_get-get_or, slice_get_within}
@@ -11,10 +11,11 @@ use Rattle.rd_messages.specs.declared.message.Message.{Message}
 use Rattle.rd_messages.specs.declared.message.Post.{Post}
 use Rattle.rd_world.specs.declared.links.Link.{Link}
 use Rattle.rd_world.specs.Channels.{Channel, channel_of, row_of}
-use Rattle.rd_world.specs.Sending.{extended, HasRoom, messages_to}
+use Rattle.rd_world.specs.Channels.{extended}
+use Rattle.rd_world.specs.Sending.{HasRoom, messages_to}
 use Rattle.std.proofs.Math.Seq.{map-set_same}
 use Rattle.rd_history.proofs.HistoryLaws.{append_nothing}
-use Rattle.rd_world.proofs.Places.{slice_get-set_same, slice_get-set_other}
+use Rattle.rd_world.proofs.Lists.{slice_get-set_same, slice_get-set_other}
 
 module _ {M : Type 0} where
   pub less_room : (row : Vec (Link M) Global) (more room : ℕ) → room ≤ more → HasRoom more row → HasRoom room row

@@ -4,7 +4,7 @@ use Rattle.std.specs.Prelude.{if◌then◌else◌, slice_get, option_map, option
 use Rattle.std.proofs.lemmas.Bool.Decides.{eqb_tells}
 use Rattle.std.proofs.lemmas.Option.{slice_get-map, slice_get-get_or, slice_get_past}
 use Rattle.rd_world.specs.Channels.{Channel, channel_at, ChangesOne}
-use Rattle.rd_world.proofs.Places.{slice_get-set_same, slice_get-set_other, slice_get-replicate}
+use Rattle.rd_world.proofs.Lists.{slice_get-set_same, slice_get-set_other, slice_get-replicate}
 
 module _ {R M : Type 0} (seen : R → List (Channel M)) where
   in_row : (o : Option R) (rows : List R) (a b : ℕ) → slice_get rows a ≡ o → channel_at (map seen rows) a b ≡ option_and_then (λ (row : R). slice_get (seen row) b) o

@@ -1,6 +1,6 @@
 -- How far a member's posts have come to the ends of its links.
 use Rattle.std.proofs.Common.{◌≡◌, ℕ, ◌+◌, ◌<◌, ◌≤◌, Bool, true, append_assoc, length-append, List, [], ◌∷◌, ◌++◌, length, get_or, set, inl, inr, Result, Ok, Err, map, sym, ap, ◌∙◌, arith, Vec, Global}
-use Rattle.std.specs.Prelude.{OnErr, IfOk, slice_get, option_map, vec_len, vec_capacity, if◌then◌else◌, ◌==◌}
+use Rattle.std.specs.Prelude.{OnErr, slice_get, option_map, vec_len, vec_capacity, if◌then◌else◌, ◌==◌}
 use Rattle.std.proofs.lemmas.List.{map-append}
 use Rattle.rd_history.proofs.HistoryLaws.{append_nothing}
 use Rattle.rd_lattice.specs.declared.replica.Replica.{Ghosts}
@@ -11,7 +11,8 @@ use Rattle.rd_world.specs.declared.event.SentTo.{SentTo}
 use Rattle.std.proofs.lemmas.Bool.Decides.{eqb_tells}
 use Rattle.std.proofs.Math.Seq.{map-set_same}
 use Rattle.rd_world.specs.Channels.{channel_at, row_of}
-use Rattle.rd_world.specs.Sending.{extended, HasRoom, messages_to, told_of, Sends}
+use Rattle.rd_world.specs.Channels.{extended}
+use Rattle.rd_world.specs.Sending.{HasRoom, messages_to, told_of, Sends}
 use Rattle.rd_world.proofs.Rows.{row_at, row_set, row_kept}
 use Rattle.rd_world.proofs.Rooms.{less_room, extended_none, sends_more}
 
@@ -89,3 +90,9 @@ module _ {T Kind Op Delta : Type 0} {ghosts : Ghosts T Kind Op Delta} where
 
   pub same_rows : (rows : List (Vec (Link (Message T Kind Op Delta ghosts)) Global)) (from : ℕ) (old new : Vec (Link (Message T Kind Op Delta ghosts)) Global) → old ≡ get_or rows from old → row_of new ≡ row_of old → map row_of (set rows from new) ≡ map row_of rows
   same_rows rows from old new is same = map-set_same row_of rows from new old (same ∙ ap row_of is)
+
+module _ {T Kind Op Delta : Type 0} {ghosts : Ghosts T Kind Op Delta} where
+  -- a row that was given room, and then these posts
+  pub row_extended : (old roomy new : Vec (Link (Message T Kind Op Delta ghosts)) Global) (these posts : List (Post T Kind Op Delta ghosts)) → these ≡ posts → row_of roomy ≡ row_of old
+      → ((b : ℕ) → slice_get (row_of new) b ≡ option_map (extended (messages_to these b)) (slice_get (row_of roomy) b)) → (b : ℕ) → slice_get (row_of new) b ≡ option_map (extended (messages_to posts b)) (slice_get (row_of old) b)
+  row_extended old roomy new these posts e same sends b = sends b ∙ (λ i. option_map (extended (messages_to (e i) b)) (slice_get (same i) b))

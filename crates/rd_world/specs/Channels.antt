@@ -1,12 +1,12 @@
--- Links as contracts see them: for each member the channels to all members.
+-- Links as contracts see them: for each identity the channels to all identities.
 --     channel_at        the channel from one to another
 --     next_on, count_on, message_on        what is asked of a channel, where there may be none
 --     ChangesOne        what a write to one channel leaves
-use Rattle.std.specs.Prelude.{◌≡◌, ◌&&◌, ℕ, suc, Vec, List, [], map, length, option_and_then, option_map, slice_get, Option, Some, None, ◌==◌, if◌then◌else◌}
+use Rattle.std.specs.Prelude.{◌≡◌, ◌&&◌, ℕ, suc, Vec, List, [], ◌++◌, map, length, take, option_and_then, option_map, slice_get, Option, Some, None, ◌==◌, if◌then◌else◌}
 use Rattle.std.specs.declared.alloc.Global.{Global}
 use Rattle.rd_world.specs.declared.links.Link.{Link}
 
--- all messages ever sent from one member to another, and the number of the next one due
+-- all messages ever sent from one identity to another, and the number of the next one due
 pub record Channel (M : Type 0) : Type 0 where
   pub messages : List M
   pub next : ℕ
@@ -42,6 +42,18 @@ module _ {M : Type 0} where
   -- the message of this number was taken or lost
   abbrev pub passed : ℕ → Channel M → Channel M
   passed index channel = record channel { next = if channel.next == index then suc index else channel.next }
+
+  -- messages at the end of a channel
+  abbrev pub extended : List M → Channel M → Channel M
+  extended messages channel = record channel { messages = channel.messages ++ messages }
+
+  -- another message is due next
+  abbrev pub due_from : ℕ → Channel M → Channel M
+  due_from next channel = record channel { next = next }
+
+  -- the first messages alone
+  abbrev pub cut_to : ℕ → Channel M → Channel M
+  cut_to sent channel = record channel { messages = take sent channel.messages }
 
   -- one channel is changed, if it is there, and the others stay
   abbrev pub ChangesOne : (Channel M → Channel M) → ℕ → ℕ → Channels M → Channels M → Type 0

@@ -1,6 +1,12 @@
 pub mod Channels
+pub mod Places
+pub mod Keeping
+pub mod Seating
+pub mod Reloading
 pub mod Standing
 pub mod Lines
 pub mod Ways
 pub mod Sending
-pub mod Dues
+pub mod Steps
+pub mod Giving
+pub mod Rounds

@@ -1,15 +1,11 @@
 -- Which lines of the model's report events are.
-use Rattle.std.specs.Prelude.{◌≡◌, List, Result, Ok, Err, ◌∷◌, [], ◌++◌, map, length, Option, None, option_map}
+use Rattle.std.specs.Prelude.{◌≡◌, List, ◌∷◌, [], ◌++◌, map, length, Bool, true, false, Option, None, option_map}
 use Rattle.std.specs.List.{AllZip}
 use Rattle.rd_kinds.specs.declared.shown.Shown.{Shown}
 use Rattle.rd_model.specs.Message as model
 use Rattle.rd_model.specs.Script as script
 use Rattle.rd_model.specs.Script.{Told, Playing}
 use Rattle.rd_node.specs.Members.{meant}
-use Rattle.rd_bytes.specs.declared.memory.Memory.{Memory}
-use Rattle.rd_node.specs.declared.reply.Reply.{Reply}
-use Rattle.rd_node.specs.declared.reply.StepError.{StepError}
-use Rattle.rd_node.specs.declared.reply.StepError.TheVariants as failed
 use Rattle.rd_messages.specs.declared.sketch.MessageKind.TheVariants as kind
 use Rattle.rd_messages.specs.declared.sketch.Sketch.{Sketch}
 use Rattle.rd_world.specs.declared.event.Head.{Head}
@@ -34,19 +30,32 @@ sketched (model.Message.ReadAnswer op key entry) = record { kind = kind.ReadAnsw
 abbrev pub sketched_post : {Op : Type 0} → model.Post Op → SentTo
 sketched_post post = record { to = post.to; sketch = sketched post.message }
 
-abbrev pub meant_answer : Answer → script.Answer Shown
-meant_answer (answer.Reply reply) = script.Answer.Replied (meant reply)
-meant_answer answer.Gone = script.Answer.Gone
-meant_answer answer.HistoryFull = script.Answer.HistoryFull
-meant_answer answer.NoSuchMessage = script.Answer.NoSuchMessage
-meant_answer answer.Lost = script.Answer.Lost
-meant_answer answer.Nothing = script.Answer.Nothing
+-- the model has no word for what is damaged
+abbrev pub IsAnswer : Answer → script.Answer Shown → Type 0
+IsAnswer (answer.Reply reply) told = told ≡ script.Answer.Replied (meant reply)
+IsAnswer answer.Gone told = told ≡ script.Answer.Gone
+IsAnswer answer.HistoryFull told = told ≡ script.Answer.HistoryFull
+IsAnswer answer.NoSuchView told = told ≡ script.Answer.NoSuchView
+IsAnswer answer.NoSuchMessage told = told ≡ script.Answer.NoSuchMessage
+IsAnswer answer.Lost told = told ≡ script.Answer.Lost
+IsAnswer answer.Nothing told = told ≡ script.Answer.Nothing
+IsAnswer (answer.View view) told = told ≡ script.Answer.NewView view
+IsAnswer (answer.NewId id view) told = told ≡ script.Answer.NewIdentity id view
+IsAnswer answer.LastMember told = told ≡ script.Answer.LastMember
+IsAnswer answer.PlaceTaken told = told ≡ script.Answer.PlaceTaken
+IsAnswer answer.TooManyIdentities told = told ≡ script.Answer.TooManyIdentities
+IsAnswer answer.ClearFailed told = told ≡ script.Answer.ClearFailed
+IsAnswer answer.LoadFailed told = told ≡ script.Answer.LoadFailed
+IsAnswer (answer.Damaged key) told = ⊥
 
--- what a member's step answers. Want of memory is no answer
-abbrev pub answer_of : Result Reply StepError → Result Answer Memory
-answer_of (Ok reply) = Ok (answer.Reply reply)
-answer_of (Err failed.HistoryFull) = Ok answer.HistoryFull
-answer_of (Err failed.Memory) = Err (record {})
+abbrev pub is_damage : Answer → Bool
+is_damage (answer.Damaged key) = true
+is_damage _ = false
+
+-- a restart answered so
+abbrev pub are_damaged : List Event → Bool
+are_damaged (event ∷ []) = is_damage event.answer
+are_damaged _ = false
 
 module _ {Op : Type 0} where
   -- of a delivered message the sketch is told
@@ -59,18 +68,19 @@ module _ {Op : Type 0} where
       (message : Option (model.Message Op)) × (told ≡ script.Head.DeliverHead from to index message) × (sketch ≡ option_map sketched message)
   IsHead (head.Lose from to index) told = told ≡ script.Head.LoseHead from to index
   IsHead head.Round told = told ≡ script.Head.RoundHead
+  IsHead (head.Remove id) told = told ≡ script.Head.RemoveHead id
+  IsHead (head.Join place) told = told ≡ script.Head.JoinHead place
+  IsHead (head.Restart id) told = told ≡ script.Head.RestartHead id
+  IsHead (head.Install at view) told = told ≡ script.Head.InstallHead at view
 
   -- the event says what the line says
   pub record IsLine (event : Event) (told : Told Op Shown) : Type 0 where
     pub head : IsHead event.head told.head
-    pub answer : told.answer ≡ meant_answer event.answer
+    pub answer : IsAnswer event.answer told.answer
     pub sent : event.sent ≡ map sketched_post told.posts
     pub ended : told.ended ≡ None
 
 module _ {Kind Op : Type 0} where
-  -- a step of a script told this line, or these
-  abbrev pub IsNextLine : Event → Playing Kind Op Shown → Playing Kind Op Shown → Type 0
-  IsNextLine event before after = (told : Told Op Shown) × (after.lines ≡ before.lines ++ told ∷ []) × IsLine event told
-
+  -- what was told between the two
   abbrev pub AreNextLines : List Event → Playing Kind Op Shown → Playing Kind Op Shown → Type 0
   AreNextLines events before after = (told : List (Told Op Shown)) × (after.lines ≡ before.lines ++ told) × AllZip IsLine events told

@@ -1,30 +1,25 @@
--- Posts on their way to the ends of the links.
-use Rattle.std.specs.Prelude.{◌≡◌, ℕ, ◌+◌, ◌≤◌, List, ◌++◌, map, filter, length, option_map, slice_get, Some, Vec, vec_len, vec_capacity, ◌==◌, if◌then◌else◌}
+-- A member's step, whose messages go to the ends of its links.
+--     HasRoom        links that take so many messages more without memory
+--     Sends        each message of a member goes to the end of its channel
+--     IsStepOnRow, IsStepOnLinks        a member makes a step of its contract, and what it says is sent and told
+use Rattle.std.specs.Prelude.{◌≡◌, ℕ, ◌+◌, ◌≤◌, List, map, filter, length, option_map, slice_get, Some, Vec, vec_len, vec_capacity, ◌==◌, if◌then◌else◌}
 use Rattle.std.specs.declared.alloc.Global.{Global}
-use Rattle.rd_history.specs.Texts.{Text}
-use Rattle.rd_history.specs.Vector.{VersionVector, IdentitySet}
-use Rattle.rd_history.specs.History.{History}
-use Rattle.rd_model.specs.Entry.{Entry}
-use Rattle.rd_model.specs.DataType.{DataType}
-use Rattle.rd_model.specs.Message.{Message as Sent}
-use Rattle.rd_model.specs.Node as nodes
-use Rattle.rd_model.specs.Step.{step}
-use Rattle.rd_kinds.specs.declared.shown.Shown.{Shown}
 use Rattle.rd_lattice.specs.declared.replica.Replica.{Ghosts}
+use Rattle.rd_lattice.specs.declared.spelled.SpelledData.{Ghosts as Spelling}
+use Rattle.rd_keeper.specs.declared.keeper.Keeper.{Ghosts as Keeping}
 use Rattle.rd_messages.specs.declared.message.Message.{Message}
 use Rattle.rd_messages.specs.declared.message.Post.{Post}
-use Rattle.rd_node.specs.declared.node.Node.{Node}
-use Rattle.rd_node.specs.Members.{delta_groups, AreTakenFrom, ArePruneFree, StandsForNode, StandsForMessage, StandsForPosts}
 use Rattle.rd_messages.specs.Sketches.{sketch_of}
+use Rattle.rd_node.specs.declared.node.Node.{Node}
+use Rattle.rd_node.specs.declared.input.Input.{Input}
+use Rattle.rd_node.specs.declared.reply.Fate.{Fate}
+use Rattle.rd_node.specs.Steps.{IsStepOf}
 use Rattle.rd_world.specs.declared.links.Link.{Link}
 use Rattle.rd_world.specs.declared.event.SentTo.{SentTo}
-use Rattle.rd_world.specs.Channels.{Channel, Channels, channel_at}
+use Rattle.rd_world.specs.declared.sending.Answered.{Answered}
+use Rattle.rd_world.specs.Channels.{Channel, Channels, channel_at, extended}
 
 module _ {M : Type 0} where
-  -- messages at the end of a channel
-  abbrev pub extended : List M → Channel M → Channel M
-  extended messages channel = record channel { messages = channel.messages ++ messages }
-
   -- each link of a member can take so many messages without memory
   abbrev pub HasRoom : ℕ → Vec (Link M) Global → Type 0
   HasRoom room row = (k : ℕ) (link : Link M) → slice_get row.items k ≡ Some link → vec_len link.messages + room ≤ vec_capacity link.messages
@@ -43,34 +38,18 @@ module _ {T Kind Op Delta : Type 0} {ghosts : Ghosts T Kind Op Delta} where
   Sends from posts old new =
       (a b : ℕ) → channel_at new a b ≡ (if a == from then option_map (extended (messages_to posts b)) (channel_at old a b) else channel_at old a b)
 
--- the posts of a member's flush stand for those of the model's
-abbrev pub AreFlushed : {T Kind Op Delta : Type 0} (data_type : DataType Kind Op Shown) (kind_of : T → Kind) (IsDataOf : T → History Op → VersionVector → IdentitySet → Type 0) {ghosts : Ghosts T Kind Op Delta} → Node T Kind Op Delta ghosts → List (Post T Kind Op Delta ghosts) → Type 0
-AreFlushed {Kind = Kind} {Op = Op} data_type kind_of IsDataOf code posts =
-    (digest : Kind → Entry Op → List ℕ) (kinds : Text → Kind) (logs : Text → History Op) (node : nodes.Node Kind Op Shown) → StandsForNode kind_of IsDataOf kinds logs code node
-    → let next = step (delta_groups data_type digest) node nodes.Input.Flush nodes.Fate.NoStore in
-    AreTakenFrom logs next.node → StandsForPosts kind_of IsDataOf kinds logs posts next.output.posts
+module _ {T K Kind Op Delta : Type 0} {ghosts : Ghosts T Kind Op Delta} {keeping : Keeping K} (spelling : Spelling T Kind Op Delta) where
+  -- the member made the step with some fate, and its posts are sent and told if there is at most one for each member of its view
+  pub record IsStepOnRow (before : Node T K Kind Op Delta ghosts keeping) (input : Input T Kind Op Delta ghosts) (answered : Answered) (after : Node T K Kind Op Delta ghosts keeping) (old new : List (Channel (Message T Kind Op Delta ghosts))) : Type 0 where
+    pub fate : Fate
+    pub posts : List (Post T Kind Op Delta ghosts)
+    pub makes : IsStepOf spelling before input fate (record { reply = answered.reply; posts = posts }) after
+    pub sends : length posts ≤ length before.view.members → (b : ℕ) → slice_get new b ≡ option_map (extended (messages_to posts b)) (slice_get old b)
+    pub tells : length posts ≤ length before.view.members → answered.sent ≡ map told_of posts
 
--- the answers of a member that took a message
-abbrev pub AreAnswers : {T Kind Op Delta : Type 0} (data_type : DataType Kind Op Shown) (digest : Kind → Entry Op → List ℕ) (kind_of : T → Kind) (IsDataOf : T → History Op → VersionVector → IdentitySet → Type 0) {ghosts : Ghosts T Kind Op Delta} → Node T Kind Op Delta ghosts → ℕ → Message T Kind Op Delta ghosts → List (Post T Kind Op Delta ghosts) → Type 0
-AreAnswers {Kind = Kind} {Op = Op} data_type digest kind_of IsDataOf code from message posts =
-    ((kinds : Text → Kind) (logs : Text → History Op) (node : nodes.Node Kind Op Shown) (sent : Sent Op) → StandsForNode kind_of IsDataOf kinds logs code node → ArePruneFree logs → StandsForMessage kind_of IsDataOf kinds logs message sent
-    → let next = step (delta_groups data_type digest) node (nodes.Input.Take from sent) nodes.Fate.NoStore in
-    AreTakenFrom logs next.node → StandsForPosts kind_of IsDataOf kinds logs posts next.output.posts) × (length posts ≤ 2)
-
--- what a member sends that tells another the digests of its entries
-abbrev pub AreGossiped : {T Kind Op Delta : Type 0} (data_type : DataType Kind Op Shown) (digest : Kind → Entry Op → List ℕ) (kind_of : T → Kind) (IsDataOf : T → History Op → VersionVector → IdentitySet → Type 0) {ghosts : Ghosts T Kind Op Delta} → Node T Kind Op Delta ghosts → ℕ → List (Post T Kind Op Delta ghosts) → Type 0
-AreGossiped {Kind = Kind} {Op = Op} data_type digest kind_of IsDataOf code to posts =
-    ((kinds : Text → Kind) (logs : Text → History Op) (node : nodes.Node Kind Op Shown) → StandsForNode kind_of IsDataOf kinds logs code node
-    → let next = step (delta_groups data_type digest) node (nodes.Input.GossipTo to) nodes.Fate.NoStore in
-    AreTakenFrom logs next.node → StandsForPosts kind_of IsDataOf kinds logs posts next.output.posts) × (length posts ≤ 2)
-
-module _ {T Kind Op Delta : Type 0} {ghosts : Ghosts T Kind Op Delta} (Are : List (Post T Kind Op Delta ghosts) → Type 0) where
-  -- a member's posts are told, and stand at the ends of its channels, if they are no more than there is room for
-  abbrev pub IsSentOnRow : ℕ → List (Channel (Message T Kind Op Delta ghosts)) → List (Channel (Message T Kind Op Delta ghosts)) → List SentTo → Type 0
-  IsSentOnRow room old new sent =
-      (posts : List (Post T Kind Op Delta ghosts)) × Are posts
-      × (length posts ≤ room → ((b : ℕ) → slice_get new b ≡ option_map (extended (messages_to posts b)) (slice_get old b)) × (sent ≡ map told_of posts))
-
-  abbrev pub IsSentFrom : ℕ → ℕ → Channels (Message T Kind Op Delta ghosts) → Channels (Message T Kind Op Delta ghosts) → List SentTo → Type 0
-  IsSentFrom from room old new sent =
-      (posts : List (Post T Kind Op Delta ghosts)) × Are posts × (length posts ≤ room → Sends from posts old new × (sent ≡ map told_of posts))
+  pub record IsStepOnLinks (before : Node T K Kind Op Delta ghosts keeping) (input : Input T Kind Op Delta ghosts) (answered : Answered) (after : Node T K Kind Op Delta ghosts keeping) (from : ℕ) (old new : Channels (Message T Kind Op Delta ghosts)) : Type 0 where
+    pub fate : Fate
+    pub posts : List (Post T Kind Op Delta ghosts)
+    pub makes : IsStepOf spelling before input fate (record { reply = answered.reply; posts = posts }) after
+    pub sends : length posts ≤ length before.view.members → Sends from posts old new
+    pub tells : length posts ≤ length before.view.members → answered.sent ≡ map told_of posts

@@ -7,38 +7,55 @@ use rd_vectors::Id;
 pub enum Head {
     /// A member was given an operation on a key.
     Update {
-        at: u8,
+        at: Id,
         key: Text,
     },
     /// A member was asked for a key's value.
     Get {
-        at: u8,
+        at: Id,
         key: Text,
     },
     /// A member sent what it had not sent.
     Flush {
-        at: u8,
+        at: Id,
     },
     /// A member told another the digests of its entries.
     Gossip {
-        at: u8,
-        to: u8,
+        at: Id,
+        to: Id,
     },
     /// A message was handed to its receiver. There is a sketch where there are the receiver and the message.
     Deliver {
-        from: u8,
-        to: u8,
+        from: Id,
+        to: Id,
         index: usize,
         sketch: Option<Sketch>,
     },
-    /// The next message due on a link was dropped.
-    Lose {
-        from: u8,
-        to: u8,
-        index: usize,
-    },
     /// All messages due were to be delivered, and there was none.
     Round,
+    /// The next message due on a link was dropped.
+    Lose {
+        from: Id,
+        to: Id,
+        index: usize,
+    },
+    /// A member was to leave.
+    Remove {
+        id: Id,
+    },
+    /// A new member was to start at a place.
+    Join {
+        place: u8,
+    },
+    /// A member was to come back as a new one.
+    Restart {
+        id: Id,
+    },
+    /// A member was given the view of a number.
+    Install {
+        at: Id,
+        view: u32,
+    },
 }
 
 /// What came of it.
@@ -46,16 +63,34 @@ pub enum Head {
 pub enum Answer {
     /// The member's reply.
     Reply(Reply),
-    /// There is no such member.
+    /// No member runs under the identity.
     Gone,
     /// The member has made as many steps as it may.
     HistoryFull,
+    /// There is no view of this number.
+    NoSuchView,
     /// No such message was sent.
     NoSuchMessage,
     /// The message was lost.
     Lost,
     /// No message was due.
     Nothing,
+    /// The member left. This is the number of the view without it.
+    View(u32),
+    /// A new member runs under this identity, from the view of this number on.
+    NewId { id: Id, view: u32 },
+    /// No other member would be left.
+    LastMember,
+    /// A member runs at the place.
+    PlaceTaken,
+    /// All identities were given.
+    TooManyIdentities,
+    /// The keeper of the place failed when it was to forget all. Nothing changed.
+    ClearFailed,
+    /// The keeper of the place failed when it was to load. Nothing changed.
+    LoadFailed,
+    /// What the keeper of the place gave for this key is nothing that a member stored. Nothing changed.
+    Damaged(Text),
 }
 
 /// A message that was sent: to whom, and what is printed of it.

@@ -1,12 +1,16 @@
-//! Members and the links between them: what a script's steps do to them, as the model says it.
+//! Members, their keepers and the links between them: what a script's steps do to them, as the model says it.
 #![tactic(auto)]
 
 mod event;
 mod links;
+mod membership;
+mod playing;
 mod rounds;
 mod sending;
 mod start;
 mod world;
 
 pub use event::{Answer, Event, Events, Head, SentTo, Sketches};
+pub use links::Links;
+pub use start::StartError;
 pub use world::World;

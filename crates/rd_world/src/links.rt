@@ -1,58 +1,63 @@
 ghost use Rattle.std.specs.Prelude.{◌≡◌, ℕ, ◌<◌, ◌&&◌, ◌==◌, nat_lt, if◌then◌else◌, length, map, replicate, slice_get, Some, None, IfOk, option_copied, option_map};
+ghost use Rattle.rd_history.specs.Table.{identity_limit};
 ghost use Rattle.rd_world.specs.Channels.{channel_at, channel_of, row_of, no_messages, next_on, count_on, message_on, passed, ChangesOne};
 
 use rd_bytes::{Items, Memory};
+use rd_vectors::{IDENTITIES, Id};
 use std::alloc::Global;
 use std::marker::Model;
 
-/// All messages ever sent from one member to another, and the number of the next one due.
+/// All messages ever sent from one identity to another, and the number of the next one due.
 #[derive(Drop)]
 pub(crate) struct Link<M> {
     pub(crate) messages: Vec<M>,
     pub(crate) next: usize,
 }
 
-/// The links from each member to each.
+/// The links from each identity to each.
 #[derive(Drop)]
 pub struct Links<M> {
     pub(crate) rows: Vec<Vec<Link<M>>>,
 }
 
 impl<M> Model for Links<M> {
-    ghost use Rattle.std.specs.Prelude.{map};
+    ghost use Rattle.std.specs.Prelude.{◌≡◌, map, length};
+    ghost use Rattle.rd_history.specs.Table.{identity_limit};
     ghost use Rattle.rd_world.specs.Channels.{Channels, row_of};
 
     ghost Value = { Channels M };
 
     ghost view = { λ links. map row_of links.rows.items };
+
+    ghost invariant = { λ links. length links.rows.items ≡ identity_limit };
 }
 
 impl<M: Drop> Links<M> {
-    /// Links between so many members, without a message.
-    pub fn new(alloc: Global, members: u8) -> Result<Links<M>, Memory>
-        ensures { IfOk result (λ links. (from to : ℕ) → channel_at links from to ≡ (if nat_lt from members && nat_lt to members then Some no_messages else None)) }
+    /// Links without a message.
+    pub(crate) fn new(alloc: Global) -> Result<Links<M>, Memory>
+        ensures { IfOk result (λ links. (from to : ℕ) → channel_at links from to ≡ (if nat_lt from identity_limit && nat_lt to identity_limit then Some no_messages else None)) }
     {
         let mut rows = Items::new(alloc);
-        for _number in 0..members {
-            rows.push(new_row(alloc, members)?)?;
+        for _number in 0..IDENTITIES {
+            rows.push(new_row(alloc)?)?;
         }
         Ok(Links {
             rows: rows.into_vec(),
         })
     }
 
-    /// The link from one member to another.
-    fn link(&self, from: u8, to: u8) -> Option<&Link<M>>
+    /// The link from one identity to another.
+    fn link(&self, from: Id, to: Id) -> Option<&Link<M>>
         ensures { option_map channel_of (option_copied result) ≡ channel_at self.now from to }
     {
-        match self.rows.get(usize::from(from)) {
-            Some(row) => row.get(usize::from(to)),
+        match self.rows.get(usize::from(from.number())) {
+            Some(row) => row.get(usize::from(to.number())),
             None => None,
         }
     }
 
     /// The message of this number on a link, if it was sent.
-    pub fn message(&self, from: u8, to: u8, index: usize) -> Option<&M>
+    pub fn message(&self, from: Id, to: Id, index: usize) -> Option<&M>
         ensures { option_copied result ≡ message_on (channel_at self.now from to) index }
     {
         match self.link(from, to) {
@@ -61,8 +66,8 @@ impl<M: Drop> Links<M> {
         }
     }
 
-    /// The number of the next message due on a link; 0 where there is no link.
-    pub fn next(&self, from: u8, to: u8) -> usize
+    /// The number of the next message due on a link.
+    pub fn next(&self, from: Id, to: Id) -> usize
         ensures { result ≡ next_on (channel_at self.now from to) }
     {
         match self.link(from, to) {
@@ -71,8 +76,8 @@ impl<M: Drop> Links<M> {
         }
     }
 
-    /// How many messages were sent on a link; 0 where there is no link.
-    pub fn count(&self, from: u8, to: u8) -> usize
+    /// How many messages were sent on a link.
+    pub fn sent(&self, from: Id, to: Id) -> usize
         ensures { result ≡ count_on (channel_at self.now from to) }
     {
         match self.link(from, to) {
@@ -82,23 +87,32 @@ impl<M: Drop> Links<M> {
     }
 
     /// The message of this number was taken or lost: where it was the next one due, the one after it is due now.
-    pub fn pass(&mut self, from: u8, to: u8, index: usize)
+    pub(crate) fn pass(&mut self, from: Id, to: Id, index: usize)
+        ensures { index < count_on (channel_at self.old from to) → ChangesOne (passed index) from to self.old self.new }
+    {
+        if index < self.sent(from, to) {
+            self.pass_sent(from, to, index);
+        }
+    }
+
+    /// A message that was sent was taken or lost.
+    fn pass_sent(&mut self, from: Id, to: Id, index: usize)
         requires { index < count_on (channel_at self.old from to) }
         ensures { ChangesOne (passed index) from to self.old self.new }
     {
-        let sender = usize::from(from);
+        let sender = usize::from(from.number());
         if sender < self.rows.len() {
-            pass_in(&mut self.rows[sender], usize::from(to), index);
+            pass_in(&mut self.rows[sender], usize::from(to.number()), index);
         }
     }
 }
 
-/// Links to so many members, without a message.
-fn new_row<M: Drop>(alloc: Global, members: u8) -> Result<Vec<Link<M>>, Memory>
-    ensures { IfOk result (λ row. row_of row ≡ replicate members no_messages) }
+/// Links without a message, to each identity.
+fn new_row<M: Drop>(alloc: Global) -> Result<Vec<Link<M>>, Memory>
+    ensures { IfOk result (λ row. row_of row ≡ replicate identity_limit no_messages) }
 {
     let mut row = Items::new(alloc);
-    for _number in 0..members {
+    for _number in 0..IDENTITIES {
         row.push(Link {
             messages: Vec::new(alloc),
             next: 0,
@@ -107,7 +121,7 @@ fn new_row<M: Drop>(alloc: Global, members: u8) -> Result<Vec<Link<M>>, Memory>
     Ok(row.into_vec())
 }
 
-/// The message of this number on the link to a member was taken or lost.
+/// The message of this number on the link to an identity was taken or lost.
 fn pass_in<M: Drop>(row: &mut Vec<Link<M>>, to: usize, index: usize)
     requires { (link : Link M) → slice_get row.old.items to ≡ Some link → index < length link.messages.items }
     ensures { (b : ℕ) → slice_get (row_of row.new) b ≡ (if b == to then option_map (passed index) (slice_get (row_of row.old) b) else slice_get (row_of row.old) b) }

@@ -1,46 +1,32 @@
-ghost use Rattle.std.specs.Prelude.{◌≡◌, ℕ, List, ◌++◌, ◌∷◌, [], map, OnOk, OnErr, IfOk};
-ghost use Rattle.rd_history.specs.Texts.{Text as Name};
-ghost use Rattle.rd_history.specs.History.{History};
-ghost use Rattle.rd_model.specs.Node.{KeyDecl as Declared};
-ghost use Rattle.rd_model.specs.World.{IsRun};
-ghost use Rattle.rd_model.specs.Script as script;
-ghost use Rattle.rd_model.specs.Script.{Playing, ScriptStep, played};
-ghost use Rattle.rd_kinds.specs.declared.shown.Shown.{Shown};
-ghost use Rattle.rd_node.specs.Members.{spelled_groups};
+ghost use Rattle.std.specs.Prelude.{◌≡◌, ◌++◌, ℕ, IfOk, OnOk, MatchResult};
+ghost use Rattle.rd_model.specs.View.{identities_of};
+ghost use Rattle.rd_views.specs.Sound.{AreViews, last_view};
+ghost use Rattle.rd_script.specs.declared.script.Step.TheVariants as form;
+ghost use Rattle.rd_world.specs.Rounds.{dues_from, dues_of, delivers_due, DoesMore, Halts};
+ghost use Rattle.rd_world.specs.Steps.{Plays, Remains};
 
 use crate::event::{Answer, Events, Head};
 use crate::world::{World, line};
 use rd_bytes::{Items, Memory};
+use rd_keeper::Keeper;
+use rd_kinds::Op;
 use rd_lattice::SpelledData;
+use rd_vectors::Id;
 
 /// Messages that are due on a link: those from one number on, before another.
 #[derive(Clone, Copy, Debug, PartialEq, Eq)]
 pub(crate) struct Due {
-    pub(crate) from: u8,
-    pub(crate) to: u8,
+    pub(crate) from: Id,
+    pub(crate) to: Id,
     pub(crate) first: usize,
     pub(crate) end: usize,
 }
 
-impl<T: SpelledData> World<T> {
-    ghost use Rattle.rd_world.specs.Dues.{dues_from, dues_of, meant_due};
-    ghost use Rattle.rd_world.specs.Standing.{StandsForWorld};
-    ghost use Rattle.rd_world.specs.Lines.{AreNextLines};
-    ghost use Rattle.rd_world.specs.Ways.{Throughout, IsBetween};
-
+impl<T: SpelledData<Op = Op>, K: Keeper + Drop> World<T, K> {
     /// Delivers all messages that are due when the round begins: by senders, then by receivers, each link's in their order.
     /// Where memory is refused, what was delivered stands.
-    pub fn round(&mut self) -> Result<Events, Memory>
-        ensures stands { (kinds : Name → T.Kind) (logs : Name → History T.Op) (members : ℕ) (decls : List (Declared T.Kind)) (p : Playing T.Kind T.Op Shown)
-            → let D = spelled_groups T.data_type T.byte_of T.history_spelled in let q = played D p ScriptStep.Round in
-            IsRun D members decls p.events p.world → Throughout D logs members decls q → StandsForWorld T.kind_of T.IsDataOf kinds logs self.old p.world → OnOk result (StandsForWorld T.kind_of T.IsDataOf kinds logs self.new q.world) }
-        ensures told { (kinds : Name → T.Kind) (logs : Name → History T.Op) (members : ℕ) (decls : List (Declared T.Kind)) (p : Playing T.Kind T.Op Shown)
-            → let D = spelled_groups T.data_type T.byte_of T.history_spelled in let q = played D p ScriptStep.Round in
-            IsRun D members decls p.events p.world → Throughout D logs members decls q → StandsForWorld T.kind_of T.IsDataOf kinds logs self.old p.world → IfOk result (λ events. AreNextLines events p q) }
-        ensures err { (kinds : Name → T.Kind) (logs : Name → History T.Op) (members : ℕ) (decls : List (Declared T.Kind)) (p : Playing T.Kind T.Op Shown)
-            → let D = spelled_groups T.data_type T.byte_of T.history_spelled in let q = played D p ScriptStep.Round in
-            IsRun D members decls p.events p.world → Throughout D logs members decls q → StandsForWorld T.kind_of T.IsDataOf kinds logs self.old p.world
-            → OnErr result ((r : Playing T.Kind T.Op Shown) × IsBetween D members decls p r q × StandsForWorld T.kind_of T.IsDataOf kinds logs self.new r.world) }
+    pub(crate) fn round(&mut self) -> Result<Events, Memory>
+        ensures { MatchResult result (Plays T.SpelledData.own form.Round self.old self.new) (λ _. Remains T.SpelledData.own form.Round self.old self.new) }
     {
         let dues = self.dues()?;
         let mut events = Items::new(self.alloc);
@@ -56,22 +42,25 @@ impl<T: SpelledData> World<T> {
 
     /// What is due on each link.
     fn dues(&self) -> Result<Vec<Due>, Memory>
-        ensures { IfOk result (λ dues. dues.items ≡ dues_of self.now.links self.now.members) }
+        ensures due { IfOk result (λ dues. dues.items ≡ dues_of self.now.links (last_view self.now.views)) }
+        ensures sound { AreViews self.now.views }
     {
         let mut dues = Items::new(self.alloc);
-        for from in 0..self.members {
+        for number in 0..self.views.last().given() {
+            let from = Id::new(number).unwrap();
             self.add_dues_from(from, &mut dues)?;
         }
         Ok(dues.into_vec())
     }
 
-    /// Adds what is due on the links of a sender.
-    fn add_dues_from(&self, from: u8, dues: &mut Items<Due>) -> Result<(), Memory>
-        ensures { OnOk result (dues.new ≡ dues.old ++ dues_from self.now.links self.now.members from) }
+    /// Adds what is due on the links of a sender to the members.
+    fn add_dues_from(&self, from: Id, dues: &mut Items<Due>) -> Result<(), Memory>
+        ensures { OnOk result (dues.new ≡ dues.old ++ dues_from self.now.links (identities_of (last_view self.now.views)) from) }
     {
-        for to in 0..self.members {
+        for member in self.views.last().members() {
+            let to = member.id;
             let first = self.links.next(from, to);
-            let end = self.links.count(from, to);
+            let end = self.links.sent(from, to);
             if first < end {
                 dues.push(Due {
                     from,
@@ -86,19 +75,10 @@ impl<T: SpelledData> World<T> {
 
     /// Delivers what is due on a link, and adds the events.
     fn deliver_due(&mut self, due: Due, events: &mut Events) -> Result<(), Memory>
-        ensures stands { (kinds : Name → T.Kind) (logs : Name → History T.Op) (members : ℕ) (decls : List (Declared T.Kind)) (p : Playing T.Kind T.Op Shown)
-            → let D = spelled_groups T.data_type T.byte_of T.history_spelled in let q = script.deliver_due D p (meant_due due) in
-            IsRun D members decls p.events p.world → Throughout D logs members decls q → StandsForWorld T.kind_of T.IsDataOf kinds logs self.old p.world → OnOk result (StandsForWorld T.kind_of T.IsDataOf kinds logs self.new q.world) }
-        ensures told { (kinds : Name → T.Kind) (logs : Name → History T.Op) (members : ℕ) (decls : List (Declared T.Kind)) (start p : Playing T.Kind T.Op Shown)
-            → let D = spelled_groups T.data_type T.byte_of T.history_spelled in let q = script.deliver_due D p (meant_due due) in
-            IsRun D members decls p.events p.world → Throughout D logs members decls q → StandsForWorld T.kind_of T.IsDataOf kinds logs self.old p.world → AreNextLines events.old start p → OnOk result (AreNextLines events.new start q) }
-        ensures err { (kinds : Name → T.Kind) (logs : Name → History T.Op) (members : ℕ) (decls : List (Declared T.Kind)) (p : Playing T.Kind T.Op Shown)
-            → let D = spelled_groups T.data_type T.byte_of T.history_spelled in let q = script.deliver_due D p (meant_due due) in
-            IsRun D members decls p.events p.world → Throughout D logs members decls q → StandsForWorld T.kind_of T.IsDataOf kinds logs self.old p.world
-            → OnErr result ((r : Playing T.Kind T.Op Shown) × IsBetween D members decls p r q × StandsForWorld T.kind_of T.IsDataOf kinds logs self.new r.world) }
+        ensures { MatchResult result (λ _. DoesMore T.SpelledData.own (delivers_due T.Replica T.SpelledData.own due) self.old self.new events.old events.new) (λ _. Halts T.SpelledData.own (delivers_due T.Replica T.SpelledData.own due) self.old self.new) }
     {
         for index in due.first..due.end {
-            let event = self.deliver_at(due.from, due.to, index)?;
+            let event = self.deliver(due.from, due.to, index)?;
             events.push(event)?;
         }
         Ok(())

@@ -1,22 +1,15 @@
-ghost use Rattle.std.specs.Prelude.{◌≡◌, ℕ, ◌+◌, ◌<◌, ◌≤◌, ◌++◌, ◌∷◌, [], List, length, map, option_map, slice_get, ◌==◌, if◌then◌else◌, OnOk, OnErr, IfOk, Err, vec_len, vec_capacity};
-ghost use Rattle.rd_history.specs.Texts.{Text};
-ghost use Rattle.rd_history.specs.History.{History};
-ghost use Rattle.rd_model.specs.Entry.{Entry};
-ghost use Rattle.rd_model.specs.Node.{Node as Member, Input, Fate};
-ghost use Rattle.rd_model.specs.Step.{step};
-ghost use Rattle.rd_kinds.specs.declared.shown.Shown.{Shown};
+ghost use Rattle.std.specs.Prelude.{◌≡◌, ℕ, ◌+◌, ◌≤◌, ◌++◌, ◌∷◌, [], length, map, option_map, slice_get, ◌==◌, if◌then◌else◌, OnOk, OnErr, IfOk, Err, vec_len, vec_capacity};
 ghost use Rattle.rd_node.specs.declared.reply.StepError.TheVariants as failed;
-ghost use Rattle.rd_model.specs.Message.{Message as Sent};
-ghost use Rattle.rd_node.specs.Members.{delta_groups, spelled_groups, meant, AreTakenFrom, ArePruneFree, StandsForNode, StandsForMessage};
-ghost use Rattle.rd_envelope_codec.specs.Entries.{entry_digest};
-ghost use Rattle.rd_world.specs.Channels.{row_of};
-ghost use Rattle.rd_world.specs.Sending.{extended, HasRoom, messages_to, told_of, AreFlushed, AreAnswers, AreGossiped, IsSentOnRow, IsSentFrom};
+ghost use Rattle.rd_node.specs.Steps.{IsUnchanged};
+ghost use Rattle.rd_world.specs.Channels.{row_of, extended};
+ghost use Rattle.rd_world.specs.Sending.{HasRoom, messages_to, told_of, IsStepOnRow, IsStepOnLinks};
 
 use crate::event::{SentTo, Sketches};
 use crate::links::{Link, Links};
 use rd_bytes::{Items, Memory};
+use rd_keeper::Keeper;
 use rd_lattice::{Replica, SpelledData};
-use rd_node::{Message, Node, Output, Post, Reply, StepError};
+use rd_node::{Input, Message, Node, Output, Post, Reply, StepError};
 use rd_vectors::Id;
 use std::alloc::Global;
 
@@ -58,54 +51,6 @@ fn send<T: Replica>(row: &mut Vec<Link<Message<T>>>, posts: Vec<Post<T>>, sent: 
     }
 }
 
-/// A member's flush: its messages go to the ends of its links, which can take so many more, and are told.
-fn flush_row<T: Replica>(
-    alloc: Global,
-    node: &mut Node<T>,
-    row: &mut Vec<Link<Message<T>>>,
-    room: usize,
-) -> Result<Sketches, StepError>
-    ensures stands { (digest : T.Kind → Entry T.Op → List ℕ) (kinds : Text → T.Kind) (logs : Text → History T.Op) (member : Member T.Kind T.Op Shown) → StandsForNode T.kind_of T.IsDataOf kinds logs node.old member
-        → let next = step (delta_groups T.data_type digest) member Input.Flush Fate.NoStore in
-        AreTakenFrom logs next.node → OnOk result (StandsForNode T.kind_of T.IsDataOf kinds logs node.new next.node) }
-    ensures sends { IfOk result (IsSentOnRow (AreFlushed T.data_type T.kind_of T.IsDataOf node.old) room (row_of row.old) (row_of row.new)) }
-    ensures full { result ≡ Err failed.HistoryFull → node.old.steps ≡ 16384 }
-    ensures room { OnOk result (node.old.steps ≡ 16384 → ⊥) }
-    ensures err { OnErr result ((node.new ≡ node.old) × (row_of row.new ≡ row_of row.old)) }
-{
-    let mut sent = match Vec::with_capacity(alloc, room) {
-        Ok(sent) => sent,
-        Err(_) => return Err(StepError::Memory),
-    };
-    reserve(row, room)?;
-    let posts = node.flush()?;
-    send(row, posts.into_vec(), &mut sent);
-    Ok(Items::from_vec(sent))
-}
-
-/// A member's flush: its messages go to the ends of its links, and are told.
-pub(crate) fn flush<T: Replica>(
-    alloc: Global,
-    node: &mut Node<T>,
-    links: &mut Links<Message<T>>,
-    from: u8,
-    members: u8,
-) -> Result<Sketches, StepError>
-    ensures stands { (digest : T.Kind → Entry T.Op → List ℕ) (kinds : Text → T.Kind) (logs : Text → History T.Op) (member : Member T.Kind T.Op Shown) → from < length links.old → StandsForNode T.kind_of T.IsDataOf kinds logs node.old member
-        → let next = step (delta_groups T.data_type digest) member Input.Flush Fate.NoStore in
-        AreTakenFrom logs next.node → OnOk result (StandsForNode T.kind_of T.IsDataOf kinds logs node.new next.node) }
-    ensures sends { from < length links.old → IfOk result (IsSentFrom (AreFlushed T.data_type T.kind_of T.IsDataOf node.old) from members links.old links.new) }
-    ensures full { result ≡ Err failed.HistoryFull → node.old.steps ≡ 16384 }
-    ensures room { from < length links.old → OnOk result (node.old.steps ≡ 16384 → ⊥) }
-    ensures err { OnErr result ((node.new ≡ node.old) × (links.new ≡ links.old)) }
-{
-    let sender = usize::from(from);
-    if sender >= links.rows.len() {
-        return Ok(Items::new(alloc));
-    }
-    flush_row(alloc, node, &mut links.rows[sender], usize::from(members))
-}
-
 /// What a member answered: its reply, and what it sent.
 #[derive(Drop)]
 pub(crate) struct Answered {
@@ -113,130 +58,43 @@ pub(crate) struct Answered {
     pub(crate) sent: Sketches,
 }
 
-/// A member answers a message with so many messages at most.
-const MOST_ANSWERS: usize = 2;
-
-/// A member takes a message: its answers go to the ends of its links, and are told.
-fn take_row<T: SpelledData>(
+/// A member makes a step: its messages, of which there is at most one for each member of its view, go to the ends of its
+/// links, and are told.
+fn step_on_row<T: SpelledData, K: Keeper + Drop>(
     alloc: Global,
-    node: &mut Node<T>,
+    node: &mut Node<T, K>,
     row: &mut Vec<Link<Message<T>>>,
-    from: Id,
-    message: &Message<T>,
+    input: &Input<T>,
 ) -> Result<Answered, StepError>
-    ensures stands { (kinds : Text → T.Kind) (logs : Text → History T.Op) (member : Member T.Kind T.Op Shown) (given : Sent T.Op)
-        → StandsForNode T.kind_of T.IsDataOf kinds logs node.old member → ArePruneFree logs → StandsForMessage T.kind_of T.IsDataOf kinds logs message.now given
-        → let next = step (spelled_groups T.data_type T.byte_of T.history_spelled) member (Input.Take from given) Fate.NoStore in
-        AreTakenFrom logs next.node → OnOk result (StandsForNode T.kind_of T.IsDataOf kinds logs node.new next.node) }
-    ensures reply { (kinds : Text → T.Kind) (logs : Text → History T.Op) (member : Member T.Kind T.Op Shown) (given : Sent T.Op)
-        → StandsForNode T.kind_of T.IsDataOf kinds logs node.old member → ArePruneFree logs → StandsForMessage T.kind_of T.IsDataOf kinds logs message.now given
-        → let next = step (spelled_groups T.data_type T.byte_of T.history_spelled) member (Input.Take from given) Fate.NoStore in
-        AreTakenFrom logs next.node → IfOk result (λ answered. meant answered.reply ≡ next.output.reply) }
-    ensures sends { IfOk result (λ answered. IsSentOnRow (AreAnswers T.data_type (entry_digest T.byte_of T.history_spelled) T.kind_of T.IsDataOf node.old from message.now) 2 (row_of row.old) (row_of row.new) answered.sent) }
+    ensures ok { IfOk result (λ answered. IsStepOnRow T.SpelledData.own node.old input.now answered node.new (row_of row.old) (row_of row.new)) }
     ensures full { result ≡ Err failed.HistoryFull → node.old.steps ≡ 16384 }
-    ensures room { OnOk result (node.old.steps ≡ 16384 → ⊥) }
-    ensures err { OnErr result ((node.new ≡ node.old) × (row_of row.new ≡ row_of row.old)) }
+    ensures err { OnErr result (IsUnchanged node.old node.new × (row_of row.new ≡ row_of row.old)) }
 {
-    let mut sent = match Vec::with_capacity(alloc, MOST_ANSWERS) {
+    let room = node.view().members().len();
+    let mut sent = match Vec::with_capacity(alloc, room) {
         Ok(sent) => sent,
         Err(_) => return Err(StepError::Memory),
     };
-    reserve(row, MOST_ANSWERS)?;
-    let output = node.take(from, message)?;
+    reserve(row, room)?;
+    let output = node.step(input)?;
     let Output { reply, posts } = output;
     send(row, posts.into_vec(), &mut sent);
     let sent = Items::from_vec(sent);
     Ok(Answered { reply, sent })
 }
 
-/// A member of links takes a message: its answers go to the ends of its links, and are told.
-pub(crate) fn take<T: SpelledData>(
+/// The member of an identity makes a step: its messages go to the ends of its links, and are told.
+pub(crate) fn step_on<T: SpelledData, K: Keeper + Drop>(
     alloc: Global,
-    node: &mut Node<T>,
+    node: &mut Node<T, K>,
     links: &mut Links<Message<T>>,
-    at: u8,
-    from: Id,
-    message: &Message<T>,
+    at: Id,
+    input: &Input<T>,
 ) -> Result<Answered, StepError>
-    ensures stands { (kinds : Text → T.Kind) (logs : Text → History T.Op) (member : Member T.Kind T.Op Shown) (given : Sent T.Op) → at < length links.old
-        → StandsForNode T.kind_of T.IsDataOf kinds logs node.old member → ArePruneFree logs → StandsForMessage T.kind_of T.IsDataOf kinds logs message.now given
-        → let next = step (spelled_groups T.data_type T.byte_of T.history_spelled) member (Input.Take from given) Fate.NoStore in
-        AreTakenFrom logs next.node → OnOk result (StandsForNode T.kind_of T.IsDataOf kinds logs node.new next.node) }
-    ensures reply { (kinds : Text → T.Kind) (logs : Text → History T.Op) (member : Member T.Kind T.Op Shown) (given : Sent T.Op) → at < length links.old
-        → StandsForNode T.kind_of T.IsDataOf kinds logs node.old member → ArePruneFree logs → StandsForMessage T.kind_of T.IsDataOf kinds logs message.now given
-        → let next = step (spelled_groups T.data_type T.byte_of T.history_spelled) member (Input.Take from given) Fate.NoStore in
-        AreTakenFrom logs next.node → IfOk result (λ answered. meant answered.reply ≡ next.output.reply) }
-    ensures sends { at < length links.old → IfOk result (λ answered. IsSentFrom (AreAnswers T.data_type (entry_digest T.byte_of T.history_spelled) T.kind_of T.IsDataOf node.old from message.now) at 2 links.old links.new answered.sent) }
+    ensures ok { IfOk result (λ answered. IsStepOnLinks T.SpelledData.own node.old input.now answered node.new at links.old links.new) }
     ensures full { result ≡ Err failed.HistoryFull → node.old.steps ≡ 16384 }
-    ensures room { at < length links.old → OnOk result (node.old.steps ≡ 16384 → ⊥) }
-    ensures err { OnErr result ((node.new ≡ node.old) × (links.new ≡ links.old)) }
-    ensures gone { length links.old ≤ at → links.new ≡ links.old }
+    ensures err { OnErr result (IsUnchanged node.old node.new × (links.new ≡ links.old)) }
 {
-    let receiver = usize::from(at);
-    if receiver >= links.rows.len() {
-        return Ok(Answered {
-            reply: Reply::NotFromMember,
-            sent: Items::new(alloc),
-        });
-    }
-    take_row(alloc, node, &mut links.rows[receiver], from, message)
-}
-
-/// A member tells another the digests of its entries: its message goes to the end of its link, and is told.
-fn gossip_row<T: SpelledData>(
-    alloc: Global,
-    node: &mut Node<T>,
-    row: &mut Vec<Link<Message<T>>>,
-    to: Id,
-) -> Result<Answered, StepError>
-    ensures stands { (kinds : Text → T.Kind) (logs : Text → History T.Op) (member : Member T.Kind T.Op Shown) → StandsForNode T.kind_of T.IsDataOf kinds logs node.old member
-        → let next = step (spelled_groups T.data_type T.byte_of T.history_spelled) member (Input.GossipTo to) Fate.NoStore in
-        AreTakenFrom logs next.node → OnOk result (StandsForNode T.kind_of T.IsDataOf kinds logs node.new next.node) }
-    ensures reply { (kinds : Text → T.Kind) (logs : Text → History T.Op) (member : Member T.Kind T.Op Shown) → StandsForNode T.kind_of T.IsDataOf kinds logs node.old member
-        → let next = step (spelled_groups T.data_type T.byte_of T.history_spelled) member (Input.GossipTo to) Fate.NoStore in
-        AreTakenFrom logs next.node → IfOk result (λ answered. meant answered.reply ≡ next.output.reply) }
-    ensures sends { IfOk result (λ answered. IsSentOnRow (AreGossiped T.data_type (entry_digest T.byte_of T.history_spelled) T.kind_of T.IsDataOf node.old to) 2 (row_of row.old) (row_of row.new) answered.sent) }
-    ensures full { result ≡ Err failed.HistoryFull → node.old.steps ≡ 16384 }
-    ensures room { OnOk result (node.old.steps ≡ 16384 → ⊥) }
-    ensures err { OnErr result ((node.new ≡ node.old) × (row_of row.new ≡ row_of row.old)) }
-{
-    let mut sent = match Vec::with_capacity(alloc, MOST_ANSWERS) {
-        Ok(sent) => sent,
-        Err(_) => return Err(StepError::Memory),
-    };
-    reserve(row, MOST_ANSWERS)?;
-    let output = node.gossip(to)?;
-    let Output { reply, posts } = output;
-    send(row, posts.into_vec(), &mut sent);
-    let sent = Items::from_vec(sent);
-    Ok(Answered { reply, sent })
-}
-
-/// A member of links tells another the digests of its entries: its message goes to the end of its link, and is told.
-pub(crate) fn gossip<T: SpelledData>(
-    alloc: Global,
-    node: &mut Node<T>,
-    links: &mut Links<Message<T>>,
-    at: u8,
-    to: Id,
-) -> Result<Answered, StepError>
-    ensures stands { (kinds : Text → T.Kind) (logs : Text → History T.Op) (member : Member T.Kind T.Op Shown) → at < length links.old → StandsForNode T.kind_of T.IsDataOf kinds logs node.old member
-        → let next = step (spelled_groups T.data_type T.byte_of T.history_spelled) member (Input.GossipTo to) Fate.NoStore in
-        AreTakenFrom logs next.node → OnOk result (StandsForNode T.kind_of T.IsDataOf kinds logs node.new next.node) }
-    ensures reply { (kinds : Text → T.Kind) (logs : Text → History T.Op) (member : Member T.Kind T.Op Shown) → at < length links.old → StandsForNode T.kind_of T.IsDataOf kinds logs node.old member
-        → let next = step (spelled_groups T.data_type T.byte_of T.history_spelled) member (Input.GossipTo to) Fate.NoStore in
-        AreTakenFrom logs next.node → IfOk result (λ answered. meant answered.reply ≡ next.output.reply) }
-    ensures sends { at < length links.old → IfOk result (λ answered. IsSentFrom (AreGossiped T.data_type (entry_digest T.byte_of T.history_spelled) T.kind_of T.IsDataOf node.old to) at 2 links.old links.new answered.sent) }
-    ensures full { result ≡ Err failed.HistoryFull → node.old.steps ≡ 16384 }
-    ensures room { at < length links.old → OnOk result (node.old.steps ≡ 16384 → ⊥) }
-    ensures err { OnErr result ((node.new ≡ node.old) × (links.new ≡ links.old)) }
-{
-    let sender = usize::from(at);
-    if sender >= links.rows.len() {
-        return Ok(Answered {
-            reply: Reply::NotAPeer,
-            sent: Items::new(alloc),
-        });
-    }
-    gossip_row(alloc, node, &mut links.rows[sender], to)
+    let sender = usize::from(at.number());
+    step_on_row(alloc, node, &mut links.rows[sender], input)
 }

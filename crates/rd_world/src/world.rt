@@ -1,264 +1,228 @@
-ghost use Rattle.std.specs.Prelude.{◌≡◌, ℕ, ◌≤◌, List, map, OnOk, OnErr, IfOk, []};
-ghost use Rattle.rd_history.specs.Texts.{Text as Name};
-ghost use Rattle.rd_history.specs.History.{History, IsHistory};
-ghost use Rattle.rd_model.specs.Entry.{Entry};
-ghost use Rattle.rd_model.specs.Node.{Level, KeyDecl as Declared};
-ghost use Rattle.rd_model.specs.World.{start as at_start, IsRun};
-ghost use Rattle.rd_model.specs.Script.{Playing, ScriptStep, played, deliver};
-ghost use Rattle.rd_kinds.specs.declared.shown.Shown.{Shown};
-ghost use Rattle.rd_world.specs.Lines.{answer_of};
+ghost use Rattle.std.specs.Prelude.{◌≡◌, ℕ, ◌+◌, ◌<◌, ◌≤◌, ◌++◌, ◌∷◌, List, [], map, length, vec_len, vec_capacity, option_copied, option_to_list, MatchResult, None};
+ghost use Rattle.rd_model.specs.Script.{IsStep};
+ghost use Rattle.rd_node.specs.Members.{AreDistinct};
+ghost use Rattle.rd_views.specs.Sound.{last_view};
 ghost use Rattle.rd_world.specs.declared.event.Head.TheVariants as head;
-ghost use Rattle.rd_node.specs.Members.{AreDistinct, AreOfKinds, declared, delta_groups, spelled_groups};
+ghost use Rattle.rd_world.specs.Keeping.{AreSeated};
+ghost use Rattle.rd_world.specs.Places.{item_at, first_keeper, keepers_of};
 
-use crate::event::{Answer, Event, Head, Sketches};
+use crate::event::{Answer, Event, Head};
 use crate::links::Links;
-use crate::sending::{Answered, flush, gossip, take};
-use crate::start::{identities, new_nodes};
-use rd_bytes::{Items, Memory, Text};
+use crate::sending::{Answered, step_on};
+use crate::start::{Parts, StartError, clear_all, first_parts, put_by, refusal, seat_first};
+use rd_bytes::{Items, Memory};
+use rd_keeper::Keeper;
+use rd_kinds::Op;
 use rd_lattice::{Replica, SpelledData};
-use rd_node::{KeyDecl, Message, Node, Reply, StepError};
+use rd_node::{Input, KeyDecl, Message, Node, StepError};
 use rd_vectors::Id;
+use rd_views::ViewList;
 use std::alloc::Global;
 
-/// Members and the links between them. Member `i` has the identity `i`.
+/// Members at places 0 to 7, spare keepers at the places that have none, the views so far, and the links between all
+/// identities.
 #[derive(Drop)]
-pub struct World<T: Replica> {
+pub struct World<T: Replica, K: Keeper> {
     pub(crate) alloc: Global,
-    pub(crate) members: u8,
-    pub(crate) nodes: Vec<Node<T>>,
+    pub(crate) views: ViewList,
+    pub(crate) keys: Vec<KeyDecl<T>>,
+    pub(crate) nodes: Vec<Option<Node<T, K>>>,
+    pub(crate) spare: Vec<Option<K>>,
     pub(crate) links: Links<Message<T>>,
+    pub(crate) room: Vec<K>,
+    ghost eight_nodes: { vec_len nodes ≡ 8 },
+    ghost eight_spare: { vec_len spare ≡ 8 },
+    ghost emptied: { vec_len room ≡ 0 },
+    ghost roomy: { 8 ≤ vec_capacity room },
+    ghost distinct: { AreDistinct (map (λ decl. decl.key) keys.items) },
+    ghost seated: { AreSeated views nodes.items spare.items },
 }
 
-impl<T: Replica> World<T> {
-    ghost use Rattle.rd_world.specs.Standing.{StandsForWorld};
-    ghost use Rattle.rd_world.specs.Lines.{IsNextLine};
-    ghost use Rattle.rd_world.specs.Ways.{Throughout};
+impl<T: SpelledData, K: Keeper + Drop> World<T, K> {
+    ghost use Rattle.rd_world.specs.Places.{member_of, keepers_of};
+    ghost use Rattle.rd_world.specs.Steps.{Starts, RefusesStart};
 
-    /// The members, by their identities.
-    pub fn nodes(&self) -> &[Node<T>]
-        ensures { result.now ≡ self.now.nodes.items }
-    {
-        self.nodes.as_slice()
-    }
-
-    /// From 1 to 8 members, 0 and up, each with these keys, which are distinct, and no record; and no message between them.
-    pub fn start(alloc: Global, members: u8, keys: &[KeyDecl<T>]) -> Result<World<T>, Memory>
+    /// From 1 to 8 members, 0 and up, each at the place of its number with these keys and no record; and no message. Each of
+    /// the eight keepers has forgotten all, in the order of the places.
+    ///
+    /// # Errors
+    ///
+    /// A keeper failed, or memory was refused.
+    pub fn start(
+        alloc: Global,
+        members: u8,
+        keys: Vec<KeyDecl<T>>,
+        keepers: Vec<K>,
+    ) -> Result<World<T, K>, StartError<K>>
         requires some { 1 ≤ members }
         requires few { members ≤ 8 }
-        requires distinct { AreDistinct (map (λ decl. decl.key) keys.now) }
-        ensures { (kinds : Name → T.Kind) (logs : Name → History T.Op) → ((key : Name) → IsHistory (logs key)) → AreOfKinds kinds keys.now
-            → IfOk result (λ world. StandsForWorld T.kind_of T.IsDataOf kinds logs world (at_start members (map declared keys.now))) }
+        requires distinct { AreDistinct (map (λ decl. decl.key) keys.items) }
+        requires eight { vec_len keepers ≡ 8 }
+        ensures { MatchResult result (Starts T.SpelledData.own members keys.items keepers.items) (RefusesStart K.Keeper keepers.items) }
     {
-        let ids = identities(alloc, members)?;
-        let nodes = new_nodes(alloc, &ids, keys)?;
-        let links = Links::new(alloc, members)?;
-        Ok(World {
-            alloc,
-            members,
-            nodes,
+        let mut keepers = keepers;
+        if let Some(refused) = clear_all(&mut keepers) {
+            return Err(refusal(refused.0, refused.1, keepers));
+        }
+        let parts = match first_parts(alloc, members) {
+            Ok(parts) => parts,
+            Err(_) => return Err(StartError::Memory { keepers }),
+        };
+        let Parts {
+            views,
             links,
-        })
+            nodes,
+            spare,
+        } = parts;
+        let mut nodes = nodes;
+        let mut spare = spare;
+        put_by(&mut keepers, &mut spare);
+        match seat_first(alloc, members, views.last(), &keys, &mut nodes, &mut spare) {
+            Ok(()) => Ok(World {
+                alloc,
+                views,
+                keys,
+                nodes,
+                spare,
+                links,
+                room: keepers,
+            }),
+            Err(_) => Err(StartError::Memory {
+                keepers: gathered(keepers, nodes, spare),
+            }),
+        }
     }
 
-    /// Gives a member an operation on a key.
-    pub fn update(&mut self, at: u8, key: &Text, op: &T::Op) -> Result<Event, Memory>
-        ensures stands { (digest : T.Kind → Entry T.Op → List ℕ) (kinds : Name → T.Kind) (logs : Name → History T.Op) (members : ℕ) (decls : List (Declared T.Kind)) (p : Playing T.Kind T.Op Shown)
-            → let D = delta_groups T.data_type digest in let q = played D p (ScriptStep.Update at key.now op.now Level.Local) in
-            IsRun D members decls p.events p.world → Throughout D logs members decls q → StandsForWorld T.kind_of T.IsDataOf kinds logs self.old p.world → OnOk result (StandsForWorld T.kind_of T.IsDataOf kinds logs self.new q.world) }
-        ensures told { (digest : T.Kind → Entry T.Op → List ℕ) (kinds : Name → T.Kind) (logs : Name → History T.Op) (members : ℕ) (decls : List (Declared T.Kind)) (p : Playing T.Kind T.Op Shown)
-            → let D = delta_groups T.data_type digest in let q = played D p (ScriptStep.Update at key.now op.now Level.Local) in
-            IsRun D members decls p.events p.world → Throughout D logs members decls q → StandsForWorld T.kind_of T.IsDataOf kinds logs self.old p.world → IfOk result (λ event. IsNextLine event p q) }
-        ensures err { OnErr result (self.new ≡ self.old) }
+    /// The views so far.
+    pub fn views(&self) -> &ViewList
+        ensures { result.now ≡ self.now.views }
     {
-        let head = Head::Update {
-            at,
-            key: key.copy(self.alloc)?,
-        };
-        let index = usize::from(at);
-        if index >= self.nodes.len() {
-            return Ok(line(self.alloc, head, Answer::Gone));
-        }
-        let answer = answered(self.nodes[index].update(key, op))?;
-        Ok(line(self.alloc, head, answer))
+        &self.views
     }
 
-    /// Asks a member for the value of a key.
-    pub fn get(&mut self, at: u8, key: &Text) -> Result<Event, Memory>
-        ensures stands { (digest : T.Kind → Entry T.Op → List ℕ) (kinds : Name → T.Kind) (logs : Name → History T.Op) (members : ℕ) (decls : List (Declared T.Kind)) (p : Playing T.Kind T.Op Shown)
-            → let D = delta_groups T.data_type digest in let q = played D p (ScriptStep.Get at key.now Level.Local) in
-            IsRun D members decls p.events p.world → Throughout D logs members decls q → StandsForWorld T.kind_of T.IsDataOf kinds logs self.old p.world → OnOk result (StandsForWorld T.kind_of T.IsDataOf kinds logs self.new q.world) }
-        ensures told { (digest : T.Kind → Entry T.Op → List ℕ) (kinds : Name → T.Kind) (logs : Name → History T.Op) (members : ℕ) (decls : List (Declared T.Kind)) (p : Playing T.Kind T.Op Shown)
-            → let D = delta_groups T.data_type digest in let q = played D p (ScriptStep.Get at key.now Level.Local) in
-            IsRun D members decls p.events p.world → Throughout D logs members decls q → StandsForWorld T.kind_of T.IsDataOf kinds logs self.old p.world → IfOk result (λ event. IsNextLine event p q) }
-        ensures err { OnErr result (self.new ≡ self.old) }
+    /// The declared keys, in the order in which they were given.
+    pub fn keys(&self) -> &[KeyDecl<T>]
+        ensures { result.now ≡ self.now.keys.items }
     {
-        let head = Head::Get {
-            at,
-            key: key.copy(self.alloc)?,
-        };
-        let index = usize::from(at);
-        if index >= self.nodes.len() {
-            return Ok(line(self.alloc, head, Answer::Gone));
+        self.keys.as_slice()
+    }
+
+    /// The links between all identities.
+    pub fn links(&self) -> &Links<Message<T>>
+        ensures { result.now ≡ self.now.links }
+    {
+        &self.links
+    }
+
+    /// The member of an identity, and none where the last view lacks it.
+    pub fn node(&self, id: Id) -> Option<&Node<T, K>>
+        ensures { option_copied result ≡ member_of (last_view self.now.views) self.now.nodes.items id }
+    {
+        match self.views.last().place_of(id) {
+            Some(place) => item_at(&self.nodes, usize::from(place)),
+            None => None,
         }
-        let answer = answered(self.nodes[index].get(key))?;
-        Ok(line(self.alloc, head, answer))
+    }
+
+    /// The keepers in the order of their places, in the vector that the world was started with.
+    pub fn into_keepers(self) -> Vec<K>
+        ensures { result.items ≡ keepers_of self.nodes.items self.spare.items }
+    {
+        gathered(self.room, self.nodes, self.spare)
+    }
+}
+
+impl<T: SpelledData<Op = Op>, K: Keeper + Drop> World<T, K> {
+    ghost use Rattle.rd_world.specs.Giving.{Gives, Refuses, Does, IsAsBefore, delivers};
+    ghost use Rattle.rd_world.specs.Steps.{Plays, MakesStep};
+    ghost use Rattle.rd_script.specs.declared.script.Step.TheVariants as form;
+
+    /// Gives an input to the member of an identity.
+    pub(crate) fn give(&mut self, at: Id, head: Head, input: &Input<T>) -> Result<Event, Memory>
+        ensures { MatchResult result (Gives T.SpelledData.own at head input.now self.old self.new) (λ _. Refuses at self.old self.new) }
+    {
+        let Some(place) = self.views.last().place_of(at) else {
+            return Ok(line(self.alloc, head, Answer::Gone));
+        };
+        match &mut self.nodes[usize::from(place)] {
+            Some(node) => match step_on(self.alloc, node, &mut self.links, at, input) {
+                Ok(answered) => {
+                    let Answered { reply, sent } = answered;
+                    Ok(Event {
+                        head,
+                        answer: Answer::Reply(reply),
+                        sent,
+                    })
+                }
+                Err(StepError::HistoryFull) => Ok(line(self.alloc, head, Answer::HistoryFull)),
+                Err(StepError::Memory) => Err(Memory),
+            },
+            None => Ok(line(self.alloc, head, Answer::Gone)),
+        }
     }
 
     /// Drops the next message due on a link.
-    pub fn lose(&mut self, from: u8, to: u8) -> Result<Event, Memory>
-        ensures stands { (digest : T.Kind → Entry T.Op → List ℕ) (kinds : Name → T.Kind) (logs : Name → History T.Op) (p : Playing T.Kind T.Op Shown)
-            → let D = delta_groups T.data_type digest in let q = played D p (ScriptStep.Lose from to) in
-            StandsForWorld T.kind_of T.IsDataOf kinds logs self.old p.world → OnOk result (StandsForWorld T.kind_of T.IsDataOf kinds logs self.new q.world) }
-        ensures told { (digest : T.Kind → Entry T.Op → List ℕ) (kinds : Name → T.Kind) (logs : Name → History T.Op) (p : Playing T.Kind T.Op Shown)
-            → let D = delta_groups T.data_type digest in let q = played D p (ScriptStep.Lose from to) in
-            StandsForWorld T.kind_of T.IsDataOf kinds logs self.old p.world → IfOk result (λ event. IsNextLine event p q) }
-        ensures err { OnErr result (self.new ≡ self.old) }
+    pub(crate) fn lose(&mut self, from: Id, to: Id) -> Event
+        ensures { Plays T.SpelledData.own (form.Lose from to) self.old self.new (result ∷ []) }
     {
         let index = self.links.next(from, to);
         let head = Head::Lose { from, to, index };
-        if index < self.links.count(from, to) {
+        if index < self.links.sent(from, to) {
             self.links.pass(from, to, index);
-            return Ok(line(self.alloc, head, Answer::Lost));
+            return line(self.alloc, head, Answer::Lost);
         }
-        Ok(line(self.alloc, head, Answer::NoSuchMessage))
+        line(self.alloc, head, Answer::NoSuchMessage)
     }
 
-    /// Makes a member send what it has not sent yet. Each message goes to the end of its link.
-    pub fn flush(&mut self, at: u8) -> Result<Event, Memory>
-        ensures stands { (digest : T.Kind → Entry T.Op → List ℕ) (kinds : Name → T.Kind) (logs : Name → History T.Op) (members : ℕ) (decls : List (Declared T.Kind)) (p : Playing T.Kind T.Op Shown)
-            → let D = delta_groups T.data_type digest in let q = played D p (ScriptStep.Flush at) in
-            IsRun D members decls p.events p.world → Throughout D logs members decls q → StandsForWorld T.kind_of T.IsDataOf kinds logs self.old p.world → OnOk result (StandsForWorld T.kind_of T.IsDataOf kinds logs self.new q.world) }
-        ensures told { (digest : T.Kind → Entry T.Op → List ℕ) (kinds : Name → T.Kind) (logs : Name → History T.Op) (members : ℕ) (decls : List (Declared T.Kind)) (p : Playing T.Kind T.Op Shown)
-            → let D = delta_groups T.data_type digest in let q = played D p (ScriptStep.Flush at) in
-            IsRun D members decls p.events p.world → Throughout D logs members decls q → StandsForWorld T.kind_of T.IsDataOf kinds logs self.old p.world → IfOk result (λ event. IsNextLine event p q) }
-        ensures err { OnErr result (self.new ≡ self.old) }
+    /// Hands the message of this number to its receiver. A message may be handed over any number of times.
+    pub(crate) fn deliver(&mut self, from: Id, to: Id, index: usize) -> Result<Event, Memory>
+        ensures { MatchResult result (λ event. Does T.SpelledData.own (delivers T.Replica T.SpelledData.own from to index) self.old self.new (event ∷ [])) (λ _. IsAsBefore T.SpelledData.own self.old self.new) }
     {
-        let head = Head::Flush { at };
-        let index = usize::from(at);
-        if index >= self.nodes.len() {
-            return Ok(line(self.alloc, head, Answer::Gone));
-        }
-        match flush(
-            self.alloc,
-            &mut self.nodes[index],
-            &mut self.links,
-            at,
-            self.members,
-        ) {
-            Ok(sent) => Ok(Event {
-                head,
-                answer: Answer::Reply(Reply::Done),
-                sent,
-            }),
-            Err(StepError::HistoryFull) => Ok(line(self.alloc, head, Answer::HistoryFull)),
-            Err(StepError::Memory) => Err(Memory),
-        }
-    }
-}
-
-impl<T: SpelledData> World<T> {
-    ghost use Rattle.rd_world.specs.Standing.{StandsForWorld};
-    ghost use Rattle.rd_world.specs.Lines.{IsNextLine};
-    ghost use Rattle.rd_world.specs.Ways.{Throughout};
-
-    /// Makes a member tell another the digests of its entries. The message goes to the end of its link.
-    pub fn gossip(&mut self, at: u8, to: Id) -> Result<Event, Memory>
-        ensures stands { (kinds : Name → T.Kind) (logs : Name → History T.Op) (members : ℕ) (decls : List (Declared T.Kind)) (p : Playing T.Kind T.Op Shown)
-            → let D = spelled_groups T.data_type T.byte_of T.history_spelled in let q = played D p (ScriptStep.Gossip at to) in
-            IsRun D members decls p.events p.world → Throughout D logs members decls q → StandsForWorld T.kind_of T.IsDataOf kinds logs self.old p.world → OnOk result (StandsForWorld T.kind_of T.IsDataOf kinds logs self.new q.world) }
-        ensures told { (kinds : Name → T.Kind) (logs : Name → History T.Op) (members : ℕ) (decls : List (Declared T.Kind)) (p : Playing T.Kind T.Op Shown)
-            → let D = spelled_groups T.data_type T.byte_of T.history_spelled in let q = played D p (ScriptStep.Gossip at to) in
-            IsRun D members decls p.events p.world → Throughout D logs members decls q → StandsForWorld T.kind_of T.IsDataOf kinds logs self.old p.world → IfOk result (λ event. IsNextLine event p q) }
-        ensures err { OnErr result (self.new ≡ self.old) }
-    {
-        let head = Head::Gossip {
-            at,
-            to: to.number(),
-        };
-        let index = usize::from(at);
-        if index >= self.nodes.len() {
-            return Ok(line(self.alloc, head, Answer::Gone));
-        }
-        match gossip(self.alloc, &mut self.nodes[index], &mut self.links, at, to) {
-            Ok(answered) => {
-                let Answered { reply, sent } = answered;
-                Ok(Event {
-                    head,
-                    answer: Answer::Reply(reply),
-                    sent,
-                })
-            }
-            Err(StepError::HistoryFull) => Ok(line(self.alloc, head, Answer::HistoryFull)),
-            Err(StepError::Memory) => Err(Memory),
-        }
-    }
-
-    /// Hands a message to its receiver: the one of this number, or the next one due. A message may be handed over any
-    /// number of times.
-    pub fn deliver(&mut self, from: u8, to: u8, index: Option<u32>) -> Result<Event, Memory>
-        ensures stands { (kinds : Name → T.Kind) (logs : Name → History T.Op) (members : ℕ) (decls : List (Declared T.Kind)) (p : Playing T.Kind T.Op Shown)
-            → let D = spelled_groups T.data_type T.byte_of T.history_spelled in let q = played D p (ScriptStep.Deliver from to index) in
-            IsRun D members decls p.events p.world → Throughout D logs members decls q → StandsForWorld T.kind_of T.IsDataOf kinds logs self.old p.world → OnOk result (StandsForWorld T.kind_of T.IsDataOf kinds logs self.new q.world) }
-        ensures told { (kinds : Name → T.Kind) (logs : Name → History T.Op) (members : ℕ) (decls : List (Declared T.Kind)) (p : Playing T.Kind T.Op Shown)
-            → let D = spelled_groups T.data_type T.byte_of T.history_spelled in let q = played D p (ScriptStep.Deliver from to index) in
-            IsRun D members decls p.events p.world → Throughout D logs members decls q → StandsForWorld T.kind_of T.IsDataOf kinds logs self.old p.world → IfOk result (λ event. IsNextLine event p q) }
-        ensures err { OnErr result (self.new ≡ self.old) }
-    {
-        let index = match index {
-            Some(index) => index as usize,
-            None => self.links.next(from, to),
-        };
-        self.deliver_at(from, to, index)
-    }
-
-    /// Hands the message of this number to its receiver.
-    pub(crate) fn deliver_at(&mut self, from: u8, to: u8, index: usize) -> Result<Event, Memory>
-        ensures stands { (kinds : Name → T.Kind) (logs : Name → History T.Op) (members : ℕ) (decls : List (Declared T.Kind)) (p : Playing T.Kind T.Op Shown)
-            → let D = spelled_groups T.data_type T.byte_of T.history_spelled in let q = deliver D p from to index in
-            IsRun D members decls p.events p.world → Throughout D logs members decls q → StandsForWorld T.kind_of T.IsDataOf kinds logs self.old p.world → OnOk result (StandsForWorld T.kind_of T.IsDataOf kinds logs self.new q.world) }
-        ensures told { (kinds : Name → T.Kind) (logs : Name → History T.Op) (members : ℕ) (decls : List (Declared T.Kind)) (p : Playing T.Kind T.Op Shown)
-            → let D = spelled_groups T.data_type T.byte_of T.history_spelled in let q = deliver D p from to index in
-            IsRun D members decls p.events p.world → Throughout D logs members decls q → StandsForWorld T.kind_of T.IsDataOf kinds logs self.old p.world → IfOk result (λ event. IsNextLine event p q) }
-        ensures err { OnErr result (self.new ≡ self.old) }
-    {
-        let receiver = usize::from(to);
-        if receiver >= self.nodes.len() {
+        if !self.views.last().contains(to) {
             return Ok(undelivered(self.alloc, from, to, index, Answer::Gone));
         }
-        let Some(sender) = Id::new(from) else {
-            return Ok(undelivered(self.alloc, from, to, index, Answer::NoSuchMessage));
-        };
         let Some(message) = self.links.message(from, to, index) else {
             return Ok(undelivered(self.alloc, from, to, index, Answer::NoSuchMessage));
         };
-        let sketch = Some(message.sketch());
         let head = Head::Deliver {
             from,
             to,
             index,
-            sketch,
+            sketch: Some(message.sketch()),
         };
         let message = message.copy(self.alloc)?;
-        match take(
-            self.alloc,
-            &mut self.nodes[receiver],
-            &mut self.links,
-            to,
-            sender,
-            &message,
-        ) {
-            Ok(answered) => {
-                let Answered { reply, sent } = answered;
-                self.links.pass(from, to, index);
-                Ok(Event {
-                    head,
-                    answer: Answer::Reply(reply),
-                    sent,
-                })
-            }
-            Err(StepError::HistoryFull) => Ok(line(self.alloc, head, Answer::HistoryFull)),
-            Err(StepError::Memory) => Err(Memory),
+        let event = self.give(to, head, &Input::Take { from, message })?;
+        if let Answer::Reply(_) = &event.answer {
+            self.links.pass(from, to, index);
         }
+        Ok(event)
+    }
+
+    /// Gives a member the view of a number.
+    pub(crate) fn install(&mut self, at: Id, number: u32) -> Result<Event, Memory>
+        ensures { MakesStep T.SpelledData.own (form.Install at number) self.old self.new result }
+    {
+        let head = Head::Install { at, view: number };
+        if !self.views.last().contains(at) {
+            return Ok(line(self.alloc, head, Answer::Gone));
+        }
+        match self.views.get(number) {
+            Some(view) => {
+                let view = view.copy(self.alloc)?;
+                self.give(at, head, &Input::Install(view))
+            }
+            None => Ok(line(self.alloc, head, Answer::NoSuchView)),
+        }
+    }
+}
+
+/// What stands at a place, where something does.
+fn item_at<X>(items: &[Option<X>], place: usize) -> Option<&X>
+    ensures { option_copied result ≡ item_at items.now place }
+{
+    match items.get(place) {
+        Some(item) => item.as_ref(),
+        None => None,
     }
 }
 
@@ -274,7 +238,7 @@ pub(crate) fn line(alloc: Global, head: Head, answer: Answer) -> Event
 }
 
 /// The event of a message that was not handed over.
-fn undelivered(alloc: Global, from: u8, to: u8, index: usize, answer: Answer) -> Event
+fn undelivered(alloc: Global, from: Id, to: Id, index: usize, answer: Answer) -> Event
     ensures { result ≡ record { head = head.Deliver from to index None; answer = answer; sent = [] } }
 {
     let head = Head::Deliver {
@@ -286,13 +250,38 @@ fn undelivered(alloc: Global, from: u8, to: u8, index: usize, answer: Answer) ->
     line(alloc, head, answer)
 }
 
-/// What a member's step answers. Want of memory is no answer.
-fn answered(outcome: Result<Reply, StepError>) -> Result<Answer, Memory>
-    ensures { result ≡ answer_of outcome }
+/// The keepers of all places, in the vector that has room for them.
+pub(crate) fn gathered<T: SpelledData, K: Keeper + Drop>(
+    room: Vec<K>,
+    nodes: Vec<Option<Node<T, K>>>,
+    spare: Vec<Option<K>>,
+) -> Vec<K>
+    requires roomy { vec_len room + vec_len nodes ≤ vec_capacity room }
+    ensures { result.items ≡ room.items ++ keepers_of nodes.items spare.items }
 {
-    match outcome {
-        Ok(reply) => Ok(Answer::Reply(reply)),
-        Err(StepError::HistoryFull) => Ok(Answer::HistoryFull),
-        Err(StepError::Memory) => Err(Memory),
+    let mut keepers = room;
+    for (node, spare) in nodes.into_iter().zip(spare) {
+        give_back(&mut keepers, node, spare);
+    }
+    keepers
+}
+
+/// Puts the keeper of a place to the others: its member's, or the spare one.
+fn give_back<T: SpelledData, K: Keeper + Drop>(
+    keepers: &mut Vec<K>,
+    node: Option<Node<T, K>>,
+    spare: Option<K>,
+)
+    requires { vec_len keepers.old < vec_capacity keepers.old }
+    ensures items { keepers.new.items ≡ keepers.old.items ++ option_to_list (first_keeper node spare) }
+    ensures len { vec_len keepers.new ≤ vec_len keepers.old + 1 }
+    ensures capacity { vec_capacity keepers.old ≤ vec_capacity keepers.new }
+{
+    let keeper = match node {
+        Some(node) => Some(node.into_keeper()),
+        None => spare,
+    };
+    if let Some(keeper) = keeper {
+        let _ = keepers.push(keeper);
     }
 }

@@ -1,4 +1,4 @@
-//! The program, run on words that it does not know.
+//! The program, run on words of which the first alone would do.
 #![tactic(auto)]
 
 use std::process::ExitCode;

@@ -25,4 +25,4 @@ returns-clause-image g c = λ log before other unpruned kinds s t exact.
     let strange = sym same ∙ sym c.is_strange.ensures ∙ c.if-is_strange.false in
     let mine = subst (λ envelope. StandsFor D (parts_of envelope) log before) (sym c.in_ok-entry.ensures) s in
     subst (λ b. StandsFor D (parts_of c.add_seen.new.self) log (if b then before else seen_by c.args.id c.args.view (merged before other))) (sym strange)
-    (c.add_seen.ensures.image log (merged before other) (c.in_ok-merge.ensures.image log before other mine t exact))
+    (c.add_seen.ensures.image log (merged before other) (c.in_ok-merge.ensures.image log before other mine t (exact strange)))

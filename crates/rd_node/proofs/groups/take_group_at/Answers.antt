@@ -1,13 +1,15 @@
 use Rattle.std.proofs.Common.{◌≡◌, ◌<◌, ◌++◌, length, sym, ap, ◌∙◌, subst, arith, rules}
 use Rattle.std.specs.Prelude.{map}
 use Rattle.std.specs.Str.{bytes_eq}
+use Rattle.std.proofs.lemmas.List.{append-nil}
+use Rattle.rd_node.specs.declared.groups.GroupTaken.{GroupTaken}
 use Rattle.rd_model.specs.Step.{AfterGroups, take_group}
 use Rattle.rd_kinds.specs.declared.shown.Shown.{Shown}
 use Rattle.rd_node.specs.Changes.{AreMade}
-use Rattle.rd_node.specs.Taking.{current_of, IsKept, IsAtWork, gap_told, gaps_at}
+use Rattle.rd_node.specs.Taking.{current_of, put_at, IsKept, IsAtWork, gap_told, gaps_at}
 use Rattle.rd_node.proofs.Lookup.{position-found, position-none}
 use Rattle.rd_node.proofs.Working.{kept_put}
-use Rattle.rd_node.proofs.Takings.{group_passed, group_taken, group_gaps}
+use Rattle.rd_node.proofs.Takings.{group_passed, group_taken, group_gaps, other_delta}
 use Rattle.rd_node.proofs.groups.take_group_at.Goals as goal
 
 pub returns-in_default-clause-image : goal.returns-in_default-clause-image
@@ -66,3 +68,16 @@ bounds-changes-index g c =
     let found = position-found (λ state. bytes_eq state.name c.args.keyed.now.key) c.args.keys.now c.in-Some.index c.in-Some.ensures in
     let inside = found.within in
     omega (arith, inside, c.requires)
+
+pub returns-clause-passed_over : goal.returns-clause-passed_over
+returns-clause-passed_over g c = λ kinds kept passed.
+    let R = g.T.Replica in
+    let at = c.index-keys-index.result in
+    let change = c.index-changes-index.result in
+    let keyed = c.args.keyed.now in
+    let found = position-found (λ state. bytes_eq state.name c.args.keyed.now.key) c.args.keys.now c.in-Some.index c.in-Some.ensures in
+    let other = other_delta R c.args.id c.args.keys.now c.args.changes.now kinds kept keyed.key c.in-Some.index at change found c.index-keys-index.is c.index-changes-index.is c.current-now.result.now (c.current-now.ensures ∙ ap (current_of at) (sym c.index-changes-index.is)) keyed.item passed in
+    let none = c.in_ok-taken.ensures.passed_over other in (
+      c.put.ensures ∙ ap (λ (taken : GroupTaken g.row.T.Denot g.row.T-Kind.Denot g.row.T-Op.Denot g.row.T-Delta.Denot). put_at c.args.changes.now c.in-Some.index taken.entry) none,
+      c.in_ok-add_gap.ensures ∙ ap (λ (taken : GroupTaken g.row.T.Denot g.row.T-Kind.Denot g.row.T-Op.Denot g.row.T-Delta.Denot). c.args.gaps.now ++ gaps_at keyed.key taken.lacking) none ∙ append-nil c.args.gaps.now,
+    )

@@ -1,6 +1,5 @@
 use Rattle.std.proofs.Common.{◌≡◌, ℕ, List, take}
 use Rattle.std.specs.Prelude.{map}
-use Rattle.std.specs.List.{AllZip}
 use Rattle.rd_history.specs.Texts.{Text}
 use Rattle.rd_history.specs.History.{History}
 use Rattle.rd_model.specs.Entry.{Entry, Group}
@@ -8,7 +7,8 @@ use Rattle.rd_model.specs.Message as sending
 use Rattle.rd_model.specs.Node.{Node as Member}
 use Rattle.rd_model.specs.Step.{after_groups}
 use Rattle.rd_kinds.specs.declared.shown.Shown.{Shown}
-use Rattle.rd_messages.specs.Standing.{StandsForKeyedGroup}
+use Rattle.rd_node.specs.Own.{AreOfTheirKinds}
+use Rattle.rd_node.specs.Inputs.{TellsGroups}
 use Rattle.rd_node.specs.Changes.{AreMade}
 use Rattle.rd_node.specs.Taking.{IsKept, AreHeld, IsAtWork, gap_told}
 use Rattle.rd_node.proofs.groups.take_groups.Given as goal
@@ -17,7 +17,7 @@ abbrev pub invariant-loop-keyed : goal.invariant-loop-keyed
 invariant-loop-keyed g l = record {
   kept : AreMade (IsKept g.T.Replica.kind_of l.id) l.keys l.initial.changes → AreMade (IsKept g.T.Replica.kind_of l.id) l.keys l.changes;
   image : (kinds : Text → g.row.T-Kind.Denot) (logs : Text → History g.row.T-Op.Denot) (view : ℕ) (entries : Text → Entry g.row.T-Op.Denot) (node : Member g.row.T-Kind.Denot g.row.T-Op.Denot Shown) (sent : List (sending.Keyed (Group g.row.T-Op.Denot)))
-      → AreHeld g.T.Replica.kind_of g.T.Replica.IsDataOf kinds logs l.id l.keys entries → AreMade (IsKept g.T.Replica.kind_of l.id) l.keys l.initial.changes → AllZip (StandsForKeyedGroup kinds logs) (take l.keyed-index l.groups) sent
+      → AreOfTheirKinds g.T.Replica.kind_of l.keys → AreHeld g.T.Replica.kind_of g.T.Replica.IsDataOf kinds logs l.id l.keys entries → AreMade (IsKept g.T.Replica.kind_of l.id) l.keys l.initial.changes → TellsGroups g.T.Replica kinds logs l.keys (take l.keyed-index l.groups) sent
       → IsAtWork g.T.Replica.kind_of g.T.Replica.IsDataOf kinds logs l.id l.keys view entries l.initial.changes node
       → IsAtWork g.T.Replica.kind_of g.T.Replica.IsDataOf kinds logs l.id l.keys view entries l.changes (after_groups node sent).node × (l.gaps ≡ map gap_told (after_groups node sent).gaps);
 }

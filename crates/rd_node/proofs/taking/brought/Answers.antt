@@ -6,11 +6,12 @@ use Rattle.rd_model.specs.Step.{after_groups, after_entries, is_changed, named_e
 use Rattle.rd_model.proofs.Taking.{after_entries-only}
 use Rattle.rd_kinds.specs.declared.shown.Shown.{Shown}
 use Rattle.rd_messages.specs.Sketches.{names_of}
-use Rattle.rd_messages.specs.Standing.{StandsForKeyed, StandsForKeyedGroup, StandsForPosts}
+use Rattle.rd_messages.specs.Standing.{StandsForKeyed, StandsForPosts}
 use Rattle.rd_node.specs.Replies.{delta_groups}
 use Rattle.rd_node.specs.Changes.{AreMade}
 use Rattle.rd_node.specs.Answers.{reply_to, only_asks, answers_of}
-use Rattle.rd_node.specs.Taking.{IsKept, LeadsTo, IsAtWork}
+use Rattle.rd_node.specs.Inputs.{TellsGroups, TellsEntries}
+use Rattle.rd_node.specs.Taking.{IsKept, LeadsTo, AreExactAt, IsAtWork}
 use Rattle.rd_node.proofs.Working.{kept_first, leads_first, items_back}
 use Rattle.rd_node.proofs.GroupSteps.{groups-only}
 use Rattle.rd_node.proofs.Replying.{brings, replies, answers_stand, changed_is, few_answers}
@@ -30,15 +31,15 @@ returns-clause-kept g c =
     subst (AreMade Kept keys) (sym (items_back Kept keys (with_items first one) two k1' k2)) k2
 
 pub returns-clause-image : goal.returns-clause-image
-returns-clause-image g c = λ digest kinds logs node sent free held identity viewed declares stands other.
+returns-clause-image g c = λ digest kinds logs node sent exact of_kinds held identity viewed declares stands other.
     let R = g.T.Replica in
     let D = delta_groups R.data_type digest in
     let Kept = IsKept R.kind_of c.args.id in
     let keys = c.args.keys.now in
     let message = c.args.message.now in
-    let b = brings D R.kind_of R.IsDataOf kinds logs node c.args.from message sent stands other in
-    let groups = subst (λ gs. AllZip (StandsForKeyedGroup kinds logs) gs b.sent_groups) (sym c.groups.ensures) b.groups_stand in
-    let entries = subst (λ es. AllZip (StandsForKeyed R.kind_of R.IsDataOf kinds logs) es b.sent_entries) (sym c.entries.ensures) b.entries_stand in
+    let b = brings D kinds logs keys node c.args.from message sent stands other in
+    let groups = subst (λ gs. TellsGroups R kinds logs keys gs b.sent_groups) (sym c.groups.ensures) b.groups_stand in
+    let entries = subst (λ es. TellsEntries R kinds logs keys es b.sent_entries) (sym c.entries.ensures) b.entries_stand in
     let first = c.in_ok-changes.changes in
     let one = c.take_groups.new.changes in
     let two = c.take_entries.new.changes in
@@ -53,10 +54,10 @@ returns-clause-image g c = λ digest kinds logs node sent free held identity vie
     let back2 = items_back Kept keys (with_items first one) two (subst (AreMade Kept keys) (sym back1) k1) k2 in
     let w0 : IsAtWork R.kind_of R.IsDataOf kinds logs c.args.id keys c.args.view node.entries c.as_mut_slice.result.now node =
     record { identity = identity; viewed = viewed; declares = declares; leads = subst (AreMade (LeadsTo R.IsDataOf logs node.entries node.entries) keys) (sym c.as_mut_slice.ensures.value) (leads_first R.IsDataOf logs node.entries keys first.items c.in_ok-changes.ensures) } in
-    let w1 = c.in_ok-gaps.ensures.image kinds logs c.args.view node.entries node b.sent_groups held k0 groups w0 in
-    let gaps = c.in_ok-gaps.ensures.gaps kinds logs c.args.view node.entries node b.sent_groups held k0 groups w0 in
+    let w1 = c.in_ok-gaps.ensures.image kinds logs c.args.view node.entries node b.sent_groups of_kinds held k0 groups w0 in
+    let gaps = c.in_ok-gaps.ensures.gaps kinds logs c.args.view node.entries node b.sent_groups of_kinds held k0 groups w0 in
     let w1' = subst (λ cs. IsAtWork R.kind_of R.IsDataOf kinds logs c.args.id keys c.args.view node.entries cs mid.node) (sym e1) w1 in
-    let w2 = c.in_ok-take_entries.ensures.image kinds logs node.entries mid.node b.sent_entries free held k1' entries w1' in
+    let w2 = c.in_ok-take_entries.ensures.image kinds logs node.entries mid.node b.sent_entries (subst (λ (n : Member g.row.T-Kind.Denot g.row.T-Op.Denot Shown). AreExactAt keys n.entries) b.takes.next exact) of_kinds held k1' entries w1' in
     let e2 = c.deref.ensures.value ∙ back2 in
     let named = c.in_ok-entries.ensures digest kinds logs c.args.id c.args.view node.entries after held (subst (AreMade Kept keys) (sym e2) k2) (subst (λ cs. IsAtWork R.kind_of R.IsDataOf kinds logs c.args.id keys c.args.view node.entries cs after) (sym e2) w2) in
     let named' = subst (λ names. AllZip (StandsForKeyed R.kind_of R.IsDataOf kinds logs) c.in_ok-entries.entries (named_entries D after names)) c.names.ensures named in
@@ -67,6 +68,7 @@ returns-clause-image g c = λ digest kinds logs node sent free held identity vie
       leads = subst (λ (n : Member g.row.T-Kind.Denot g.row.T-Op.Denot Shown). AreMade (LeadsTo R.IsDataOf logs node.entries n.entries) keys (with_items (with_items first one) two).items) (sym b.takes.next)
           (subst (AreMade (LeadsTo R.IsDataOf logs node.entries after.entries) keys) (sym back2) w2.leads);
       reply = c.reply-reply.ensures ∙ (λ i. reply_to (only_asks message) (c.as_slice.ensures i) (test i)) ∙ replies D (only_asks message) (is_changed node after) c.in_ok-gaps.gaps mid.gaps gaps ∙ sym b.takes.reply;
+      ended = b.takes.ends;
       posts = subst (λ ps. StandsForPosts R.kind_of R.IsDataOf kinds logs c.in_ok-posts.posts ps) (sym b.takes.posts)
           (subst (λ posts. StandsForPosts R.kind_of R.IsDataOf kinds logs posts (nack_to D c.args.from mid.gaps ++ gossip_to D c.args.from (named_entries D after (names_of message)) []))
           (sym (c.in_ok-posts.ensures ∙ (λ i. answers_of c.args.from (c.as_slice-2.ensures i) c.in_ok-entries.entries)))

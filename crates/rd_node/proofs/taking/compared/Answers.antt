@@ -16,5 +16,6 @@ returns-clause-image g c = λ kinds logs node held declares.
       only = refl;
       leads = leads_first R.IsDataOf logs node.entries keys c.in_ok-changes.changes.items c.in_ok-changes.ensures;
       reply = refl;
+      ended = refl;
       posts = c.in_ok-posts.ensures.image D kinds logs node refl (holds_held R.kind_of R.IsDataOf kinds logs c.args.id keys node held) declares;
     }

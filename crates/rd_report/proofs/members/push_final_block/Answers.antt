@@ -1,24 +1,24 @@
-use Rattle.std.proofs.Common.{◌≡◌, ◌<◌, length, get_or, sym, ap, subst, ◌∙◌, string_bytes, arith}
+use Rattle.std.proofs.Common.{◌<◌, ◌≤◌, ◌++◌, length, flat_map, sym, ap, ◌∙◌, string_bytes, arith}
+use Rattle.std.proofs.lemmas.List.{take_all}
 use Rattle.rd_model.specs.Report.{member_text}
 use Rattle.rd_kinds.specs.ShownText.{shown_text}
 use Rattle.rd_node.specs.Members.{delta_groups}
-use Rattle.rd_report.proofs.FinalBlocks.{place_told, block_told, grown_by_place}
+use Rattle.rd_report.specs.Finals.{view_line}
+use Rattle.rd_report.proofs.FinalBlocks.{last_is, block_told, grown_by_one}
 use Rattle.rd_report.proofs.members.push_final_block.Goals as goal
 
-pub loop-place-preserved : goal.loop-place-preserved
-loop-place-preserved g c = λ digest kinds logs end stands.
-    let place = c.loop-place.place in
-    let member = c.member-item.result in
-    let members = c.nodes-member-items.result.now in
-    let here : place < length members = omega (arith, c.loop-place-test.true) in
-    let told = place_told g.T.Replica.kind_of g.T.Replica.IsDataOf kinds logs g.T.Replica.data_type digest c.args.world.now end place member stands
-    (subst (λ ms. place < length ms) c.nodes-member-items.ensures here) (c.member-item.is ∙ ap (λ ms. get_or ms place member) c.nodes-member-items.ensures) in
-    grown_by_place (λ i. member_text (delta_groups g.T.Replica.data_type digest) shown_text end (record { identity = i; place = i })) place (string_bytes c.push_str.new.self) (string_bytes c.loop-place.text) (string_bytes c.push_member.new.text) _
-    (c.loop-place.invariant digest kinds logs end stands) (c.in_ok-push_member.ensures digest kinds logs told.0 told.1) (sym told.2)
+pub loop-member-preserved : goal.loop-member-preserved
+loop-member-preserved g c = λ digest kinds logs end stands.
+    let members = c.members-member-items.result.now in
+    let here : c.loop-member.member-index < length members = omega (arith, c.loop-member-test.true) in
+    grown_by_one (member_text (delta_groups g.T.Replica.data_type digest) shown_text end) members c.loop-member.member-index c.member-item.result (string_bytes c.push_view_line.new.text) (string_bytes c.loop-member.text) (string_bytes c.push_seat.new.text) _ here c.member-item.is
+    (c.loop-member.invariant digest kinds logs end stands) (c.in_ok-push_seat.ensures digest kinds logs end stands) (ap (member_text (delta_groups g.T.Replica.data_type digest) shown_text end) c.member.view_is)
 
 pub returns : goal.returns
 returns g c = λ digest kinds logs end stands.
-    let members = c.nodes-member-items.result.now in
-    let done : c.loop-place.place ≡ length members = omega (arith, c.loop-place-test.false) in
-    block_told g.T.Replica.kind_of g.T.Replica.IsDataOf kinds logs g.T.Replica.data_type digest c.args.world.now end c.loop-place.place (string_bytes c.args.text.now) (string_bytes c.push_str.new.self) (string_bytes c.loop-place.text) stands
-    (done ∙ ap length c.nodes-member-items.ensures) c.in_ok-push_str.ensures.bytes (c.loop-place.invariant digest kinds logs end stands)
+    let members = c.members-member-items.result.now in
+    let done : length members ≤ c.loop-member.member-index = omega (arith, c.loop-member-test.false) in
+    block_told (delta_groups g.T.Replica.data_type digest) end c.last-view.result.now (string_bytes c.args.text.now) (string_bytes c.push_view_line.new.text) (string_bytes c.loop-member.text)
+    (sym (last_is end c.views.result.now (stands.views ∙ sym c.views.ensures)) ∙ sym c.last-view.ensures.last)
+    (c.in_ok-push_view_line.ensures ∙ ap (λ n. string_bytes c.args.text.now ++ view_line n) c.number.ensures.number)
+    (c.loop-member.invariant digest kinds logs end stands ∙ ap (λ ms. string_bytes c.push_view_line.new.text ++ flat_map (member_text (delta_groups g.T.Replica.data_type digest) shown_text end) ms) (take_all c.loop-member.member-index members done ∙ c.members-member-items.ensures.members))

@@ -1,5 +1,4 @@
-use Rattle.std.proofs.Common.{◌≡◌, ℕ, List, ◌++◌, flat_map, string_bytes}
-use Rattle.std.specs.List.{range_with_len}
+use Rattle.std.proofs.Common.{◌≡◌, ℕ, List, ◌++◌, flat_map, take, string_bytes}
 use Rattle.rd_history.specs.Texts.{Text}
 use Rattle.rd_history.specs.History.{History}
 use Rattle.rd_model.specs.Entry.{Entry}
@@ -11,8 +10,8 @@ use Rattle.rd_node.specs.Members.{delta_groups}
 use Rattle.rd_world.specs.Standing.{StandsForWorld}
 use Rattle.rd_report.proofs.members.push_final_block.Given as goal
 
-abbrev pub invariant-loop-place : goal.invariant-loop-place
-invariant-loop-place g l =
+abbrev pub invariant-loop-member : goal.invariant-loop-member
+invariant-loop-member g l =
     (digest : g.row.T-Kind.Denot → Entry g.row.T-Op.Denot → List ℕ) (kinds : Text → g.row.T-Kind.Denot) (logs : Text → History g.row.T-Op.Denot) (end : World g.row.T-Kind.Denot g.row.T-Op.Denot Shown)
-    → StandsForWorld g.T.Replica.kind_of g.T.Replica.IsDataOf kinds logs l.world end
-    → string_bytes l.text ≡ string_bytes l.initial.text ++ flat_map (λ i. member_text (delta_groups g.T.Replica.data_type digest) shown_text end (record { identity = i; place = i })) (range_with_len 0 l.place)
+    → StandsForWorld g.T.SpelledData kinds logs l.world end
+    → string_bytes l.text ≡ string_bytes l.initial.text ++ flat_map (member_text (delta_groups g.T.Replica.data_type digest) shown_text end) (take l.member-index l.member-items)

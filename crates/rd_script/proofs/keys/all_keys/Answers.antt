@@ -9,6 +9,5 @@ unfolding keys_after
 loop-value-preserved c = (
   grind (arith, common_steps),
   rw c.in_ok-push.ensures.ok (new_name _ _ c.loop-value.invariant.1 (rw (← c.as_slice.ensures) c.in_ok-key.ensures.new)),
-  grind (arith, common_steps, c.in_ok-key.ensures.plain, c.in_ok-push.ensures.ok, c.loop-value.invariant.2),
-  grind (arith, common_steps, c.in_ok-key.ensures.value, c.in_ok-push.ensures.ok, c.loop-value.invariant.3, c.as_slice.ensures),
+  grind (arith, common_steps, c.in_ok-key.ensures.value, c.in_ok-push.ensures.ok, c.loop-value.invariant.2, c.as_slice.ensures),
 )

@@ -1,4 +1,4 @@
-use Rattle.std.proofs.Common.{◌≡◌, ◌≢◌, drop, [], length, false, All, AllPairs}
+use Rattle.std.proofs.Common.{◌≡◌, ◌≢◌, drop, [], length, AllPairs}
 use Rattle.serde_json.specs.View.{items_view}
 use Rattle.rd_script.specs.Reading.{keys_after}
 use Rattle.rd_script.proofs.keys.all_keys.Given as goal
@@ -7,5 +7,4 @@ abbrev pub invariant-loop-value : goal.invariant-loop-value
 invariant-loop-value l =
     (length l.keys ≡ l.value-index)
     × AllPairs (λ a b. a.key ≢ b.key) l.keys
-    × All (λ k. k.durable ≡ false) l.keys
     × (keys_after l.keys (items_view (drop l.value-index l.list)) ≡ keys_after [] (items_view l.list))

@@ -1,6 +1,6 @@
 use Rattle.std.proofs.Common.{arith}
 use Rattle.rd_world.specs.Channels.{channel_of, passed}
-use Rattle.rd_world.proofs.Places.{mapped_set, mapped_past, passed_next, passed_other}
+use Rattle.rd_world.proofs.Lists.{mapped_set, mapped_past, passed_next, passed_other}
 use Rattle.rd_world.proofs.links.pass_in.Goals as goal
 
 pub returns-then-link-index : goal.returns-then-link-index

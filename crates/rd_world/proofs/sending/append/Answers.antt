@@ -3,8 +3,8 @@ use Rattle.std.specs.Prelude.{if◌then◌else◌}
 use Rattle.std.specs.Vec.{with_item}
 use Rattle.rd_world.specs.declared.links.Link.{Link}
 use Rattle.rd_world.specs.Channels.{channel_of}
-use Rattle.rd_world.specs.Sending.{extended}
-use Rattle.rd_world.proofs.Places.{mapped_set, mapped_past}
+use Rattle.rd_world.specs.Channels.{extended}
+use Rattle.rd_world.proofs.Lists.{mapped_set, mapped_past}
 use Rattle.rd_world.proofs.Rooms.{room_at, room_after}
 use Rattle.rd_world.proofs.sending.append.Goals as goal
 

@@ -4,7 +4,8 @@ use Rattle.std.proofs.lemmas.Iterator.Adapters.{YieldsList-from_vec}
 use Rattle.std.proofs.lemmas.Iterator.Consumers.{YieldsList-end}
 use Rattle.rd_messages.specs.declared.message.Post.{Post}
 use Rattle.rd_world.specs.Channels.{row_of}
-use Rattle.rd_world.specs.Sending.{extended, messages_to, told_of}
+use Rattle.rd_world.specs.Channels.{extended}
+use Rattle.rd_world.specs.Sending.{messages_to, told_of}
 use Rattle.rd_world.proofs.Rooms.{less_room}
 use Rattle.rd_world.proofs.Sendings.{none_yet, sent_more, told_more}
 use Rattle.rd_world.proofs.sending.send.Goals as goal

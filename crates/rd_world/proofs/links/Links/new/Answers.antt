@@ -1,9 +1,10 @@
 use Rattle.std.proofs.Common.{◌≡◌, ◌∙◌, ap, List, map, replicate, arith}
+use Rattle.rd_history.specs.Table.{identity_limit}
 use Rattle.rd_world.specs.Channels.{Channel, row_of, channel_at, no_messages}
 use Rattle.rd_world.proofs.Rows.{channel_at-replicate}
 use Rattle.rd_world.proofs.links.Links.new.Goals as goal
 
 pub returns : goal.returns
 returns g c from to =
-    let all : c.loop-number._number ≡ c.args.members = omega arith in
-    ap (λ (rows : List (List (Channel g.row.M.Denot))). channel_at rows from to) (ap (map (row_of {M = g.row.M.Denot})) c.into_vec.ensures ∙ c.loop-number.invariant ∙ ap (λ n. replicate n (replicate c.args.members no_messages)) all) ∙ channel_at-replicate c.args.members no_messages from to
+    let all : c.loop-number._number ≡ identity_limit = omega arith in
+    ap (λ (rows : List (List (Channel g.row.M.Denot))). channel_at rows from to) (ap (map (row_of {M = g.row.M.Denot})) c.into_vec.ensures ∙ c.loop-number.invariant ∙ ap (λ n. replicate n (replicate identity_limit no_messages)) all) ∙ channel_at-replicate identity_limit no_messages from to

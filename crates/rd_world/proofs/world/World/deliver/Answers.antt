@@ -1,39 +1,40 @@
-use Rattle.std.proofs.Common.{◌≡◌, ◌∙◌, sym, ap, subst, Some}
-use Rattle.std.specs.Prelude.{OnOk, IfOk}
-use Rattle.rd_model.specs.Script as script
-use Rattle.rd_model.specs.Script.{Playing, deliver, played}
-use Rattle.rd_kinds.specs.declared.shown.Shown.{Shown}
-use Rattle.rd_node.specs.Members.{delta_groups}
-use Rattle.rd_envelope_codec.specs.Entries.{entry_digest}
-use Rattle.rd_world.specs.Standing.{StandsForWorld}
-use Rattle.rd_world.specs.Lines.{IsNextLine}
-use Rattle.rd_world.specs.Ways.{Throughout}
-use Rattle.rd_world.proofs.Delivering.{index_given, index_due}
+use Rattle.std.proofs.Common.{◌∙◌, ◌<◌, ap, refl, arith}
+use Rattle.std.specs.Prelude.{option_copied}
+use Rattle.rd_history.specs.Table.{identity_limit}
+use Rattle.rd_model.specs.View.{is_member}
+use Rattle.rd_world.proofs.Delivering.{call_absent, call_unsent, call_reply, call_other}
+use Rattle.rd_world.proofs.Answering.{as_before}
+use Rattle.rd_world.proofs.Stays.{match_err}
 use Rattle.rd_world.proofs.world.World.deliver.Goals as goal
-use Rattle.rd_world.proofs.world.World.deliver.Goals.{in-Some, in-None}
+use Rattle.rd_world.proofs.world.World.deliver.Goals.{in-Reply, in_default-answer}
 
-pub returns-clause-stands : goal.returns-clause-stands
-returns-clause-stands g c = λ kinds logs members decls p run through stands.
-    let digest = entry_digest g.T.SpelledData.byte_of g.T.SpelledData.history_spelled in
-    let D = delta_groups g.T.Replica.data_type digest in
-    let code = c.args.self.now in
-    let same : played D p (script.ScriptStep.Deliver c.args.from c.args.to c.args.index) ≡ deliver D p c.args.from c.args.to c.match-index.index =
-    elim c.match-index.branch [
-      | in-Some w ↦ index_given g.T.Replica.kind_of g.T.Replica.IsDataOf kinds logs g.T.Replica D code p stands c.args.from c.args.to c.match-index.index c.args.index c.match-index.index (w.in-Some.is ∙ ap Some (sym w.index-is))
-      | in-None w ↦ index_due g.T.Replica.kind_of g.T.Replica.IsDataOf kinds logs g.T.Replica D code p stands c.args.from c.args.to c.match-index.index c.args.index c.match-index.index w.in-None.is (w.index-is ∙ w.next-index.ensures)
-    ] in
-    subst (λ (q : Playing g.row.T-Kind.Denot g.row.T-Op.Denot Shown). OnOk c.deliver_at.result (StandsForWorld g.T.Replica.kind_of g.T.Replica.IsDataOf kinds logs c.deliver_at.new.self q.world)) (sym same)
-    (c.deliver_at.ensures.stands kinds logs members decls p run (subst (Throughout D logs members decls) same through) stands)
+pub returns-then-not-contains : goal.returns-then-not-contains
+returns-then-not-contains g c =
+    let small : c.args.from < identity_limit = omega arith in
+    let few : c.args.to < identity_limit = omega arith in
+    call_absent g.T.SpelledData c.args.self.now c.args.from c.args.to c.args.index small few c.last.ensures.sound c.contains.result (c.contains.ensures ∙ ap (λ v. is_member v c.args.to) c.last.ensures.last) c.if-not-contains.true c.undelivered.result c.undelivered.ensures
 
-pub returns-clause-told : goal.returns-clause-told
-returns-clause-told g c = λ kinds logs members decls p run through stands.
-    let digest = entry_digest g.T.SpelledData.byte_of g.T.SpelledData.history_spelled in
-    let D = delta_groups g.T.Replica.data_type digest in
-    let code = c.args.self.now in
-    let same : played D p (script.ScriptStep.Deliver c.args.from c.args.to c.args.index) ≡ deliver D p c.args.from c.args.to c.match-index.index =
-    elim c.match-index.branch [
-      | in-Some w ↦ index_given g.T.Replica.kind_of g.T.Replica.IsDataOf kinds logs g.T.Replica D code p stands c.args.from c.args.to c.match-index.index c.args.index c.match-index.index (w.in-Some.is ∙ ap Some (sym w.index-is))
-      | in-None w ↦ index_due g.T.Replica.kind_of g.T.Replica.IsDataOf kinds logs g.T.Replica D code p stands c.args.from c.args.to c.match-index.index c.args.index c.match-index.index w.in-None.is (w.index-is ∙ w.next-index.ensures)
-    ] in
-    subst (λ (q : Playing g.row.T-Kind.Denot g.row.T-Op.Denot Shown). IfOk c.deliver_at.result (λ event. IsNextLine event p q)) (sym same)
-    (c.deliver_at.ensures.told kinds logs members decls p run (subst (Throughout D logs members decls) same through) stands)
+pub returns-in_default : goal.returns-in_default
+returns-in_default g c =
+    let small : c.args.from < identity_limit = omega arith in
+    let few : c.args.to < identity_limit = omega arith in
+    call_unsent g.T.SpelledData c.args.self.now c.args.from c.args.to c.args.index small few c.last.ensures.sound c.contains.result (c.contains.ensures ∙ ap (λ v. is_member v c.args.to) c.last.ensures.last) c.if-not-contains.false (option_copied c.message.result) c.message.ensures
+    (ap option_copied c.in_default.is) c.undelivered-in_default.result c.undelivered-in_default.ensures
+
+pub returns-in_err-event : goal.returns-in_err-event
+returns-in_err-event g c = match_err _ _ c.from_residual-in_err-event.result c.from_residual-in_err-event.ensures.0 (as_before g.T.SpelledData g.met.K.Keeper.tells_alike c.args.self.now c.give.new.self c.args.to c.in_err-event.ensures)
+
+pub returns : goal.returns
+returns g c =
+    let small : c.args.from < identity_limit = omega arith in
+    let few : c.args.to < identity_limit = omega arith in
+    elim c.match-event.branch [
+      | in-Reply w ↦
+          call_reply g.T.SpelledData c.args.self.now c.args.from c.args.to c.args.index small few c.last.ensures.sound c.contains.result (c.contains.ensures ∙ ap (λ v. is_member v c.args.to) c.last.ensures.last) c.if-not-contains.false (option_copied c.message.result) c.message.ensures
+          c.in-Some.message.now c.in_ok-message.message (ap option_copied c.in-Some.is) c.in_ok-message.ensures c.sketch.result c.sketch.ensures g.met.K.Keeper.tells_alike c.give.new.self c.in_ok-event.event c.in_ok-event.ensures
+          w.in-Reply.field-0 w.in-Reply.is _ c.match-event.self w.self-is (record { views = refl; keys = refl; spare = refl; nodes = refl }) w.pass.ensures
+      | in_default-answer w ↦
+          call_other g.T.SpelledData c.args.self.now c.args.from c.args.to c.args.index small few c.last.ensures.sound c.contains.result (c.contains.ensures ∙ ap (λ v. is_member v c.args.to) c.last.ensures.last) c.if-not-contains.false (option_copied c.message.result) c.message.ensures
+          c.in-Some.message.now c.in_ok-message.message (ap option_copied c.in-Some.is) c.in_ok-message.ensures c.sketch.result c.sketch.ensures g.met.K.Keeper.tells_alike c.give.new.self c.in_ok-event.event c.in_ok-event.ensures
+          w.in_default-answer.not-Reply c.give.new.self c.match-event.self w.self-is (record { views = refl; keys = refl; spare = refl; nodes = refl; links = refl })
+    ]

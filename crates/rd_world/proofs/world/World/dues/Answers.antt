@@ -1,7 +1,13 @@
-use Rattle.std.proofs.Common.{[]}
-use Rattle.rd_world.specs.Dues.{dues_from}
-use Rattle.rd_world.proofs.DueLists.{more_of}
+use Rattle.std.proofs.Common.{◌∙◌, ◌++◌, [], ap}
+use Rattle.rd_model.specs.View.{identities_of}
+use Rattle.rd_views.specs.Sound.{last_view}
+use Rattle.rd_world.specs.Rounds.{dues_from}
+use Rattle.rd_world.proofs.DueLists.{more_of, id_is}
 use Rattle.rd_world.proofs.world.World.dues.Goals as goal
 
-pub loop-from-preserved : goal.loop-from-preserved
-loop-from-preserved g c = more_of (dues_from c.args.self.now.links c.args.self.now.members) [] c.loop-from.dues c.add_dues_from.new.dues c.loop-from.from c.loop-from.invariant c.in_ok-add_dues_from.ensures
+pub loop-number-preserved : goal.loop-number-preserved
+loop-number-preserved g c =
+    let world = c.args.self.now in
+    let each = dues_from world.links (identities_of (last_view world.views)) in
+    more_of each [] c.loop-number.dues c.add_dues_from.new.dues c.loop-number.number c.loop-number.invariant
+    (c.in_ok-add_dues_from.ensures ∙ ap (λ n. c.loop-number.dues ++ each n) (id_is c.new.result c.unwrap-from.result c.loop-number.number c.unwrap-from.ensures c.new.ensures.value))

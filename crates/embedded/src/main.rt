@@ -1,0 +1,153 @@
+//! Two members in a service that has a transport of its own: here a loop that hands each message to its receiver.
+#![tactic(auto)]
+
+use rd_embedding::{
+    Data, Id, Input, Items, KeyDecl, Kind, Memory, MemoryKeeper, Node, Op, Output, Post, Posts,
+    Reply, StepError, Text, TextError, View, ViewList, are_distinct, push_shown,
+};
+use std::alloc::Global;
+use std::process::ExitCode;
+use thiserror::Error;
+
+/// A member of the service, which keeps nothing beyond its run.
+type Member = Node<Data, MemoryKeeper>;
+
+/// Why the service stops.
+#[derive(Debug, Drop, Error)]
+enum Stopped {
+    #[error("out of memory")]
+    Memory,
+    #[error("a member has made as many steps as it may")]
+    Full,
+    #[error("two keys have one name, a name is too long, or the identity is no member")]
+    Misused,
+}
+
+impl From<Memory> for Stopped {
+    fn from(_refused: Memory) -> Stopped {
+        Stopped::Memory
+    }
+}
+
+impl From<TextError> for Stopped {
+    fn from(refused: TextError) -> Stopped {
+        match refused {
+            TextError::TooLong => Stopped::Misused,
+            TextError::Memory => Stopped::Memory,
+        }
+    }
+}
+
+impl From<StepError> for Stopped {
+    fn from(refused: StepError) -> Stopped {
+        match refused {
+            StepError::HistoryFull => Stopped::Full,
+            StepError::Memory => Stopped::Memory,
+        }
+    }
+}
+
+/// A member of the view with these keys.
+fn member(
+    alloc: Global,
+    number: u8,
+    view: &View,
+    keys: &[KeyDecl<Data>],
+) -> Result<Member, Stopped> {
+    let id = Id::new(number).ok_or(Stopped::Misused)?;
+    if !view.contains(id) || !are_distinct(keys) {
+        return Err(Stopped::Misused);
+    }
+    let view = view.copy(alloc)?;
+    let keeper = MemoryKeeper::new(alloc, Vec::new(alloc));
+    match Node::new(alloc, id, view, keys, keeper) {
+        Ok(member) => Ok(member),
+        Err((_, Memory)) => Err(Stopped::Memory),
+    }
+}
+
+/// Hands the messages of one member to another, and then what this answers back. A service would send and receive them.
+fn hand(from: &mut Member, to: &mut Member, posts: Posts<Data>) -> Result<(), Stopped> {
+    for Post { to: _, message } in posts.into_vec() {
+        let heard = Input::Take {
+            from: from.id(),
+            message,
+        };
+        for Post { to: _, message } in to.step(&heard)?.posts.into_vec() {
+            let answered = Input::Take {
+                from: to.id(),
+                message,
+            };
+            from.step(&answered)?;
+        }
+    }
+    Ok(())
+}
+
+/// What a member shows of a key.
+fn shown(alloc: Global, member: &mut Member, key: Text) -> Result<String, Stopped> {
+    let mut text = String::new(alloc);
+    let Output { reply, posts: _ } = member.step(&Input::Get { key })?;
+    if let Reply::Value(value) = reply {
+        push_shown(alloc, &mut text, &value)?;
+    }
+    Ok(text)
+}
+
+/// The one key of the members: a cart.
+fn cart(alloc: Global) -> Result<Text, Stopped> {
+    Ok(Text::new(alloc, "cart")?)
+}
+
+/// The keys of the members.
+fn keys(alloc: Global) -> Result<Items<KeyDecl<Data>>, Stopped> {
+    let key = cart(alloc)?;
+    let mut keys = Items::new(alloc);
+    keys.push(KeyDecl {
+        key,
+        kind: Kind::OrSet,
+        durable: false,
+    })?;
+    Ok(keys)
+}
+
+/// A member puts something into its cart.
+fn add(alloc: Global, member: &mut Member, element: &str) -> Result<(), Stopped> {
+    let key = cart(alloc)?;
+    let op = Op::Add(Text::new(alloc, element)?);
+    member.step(&Input::Update { key, op })?;
+    Ok(())
+}
+
+/// One of the two members adds milk and sends what it has, and the other shows its cart.
+fn shop(alloc: Global, first: &mut Member, second: &mut Member) -> Result<String, Stopped> {
+    add(alloc, first, "milk")?;
+    let posts = first.step(&Input::Flush)?.posts;
+    hand(first, second, posts)?;
+    shown(alloc, second, cart(alloc)?)
+}
+
+/// Two members of one view.
+fn pair(alloc: Global) -> Result<(Member, Member), Stopped> {
+    let views = ViewList::new(alloc, 2)?;
+    let keys = keys(alloc)?;
+    let first = member(alloc, 0, views.last(), keys.as_slice())?;
+    let second = member(alloc, 1, views.last(), keys.as_slice())?;
+    Ok((first, second))
+}
+
+/// What the second member's cart shows.
+fn run(alloc: Global) -> Result<String, Stopped> {
+    let (mut first, mut second) = pair(alloc)?;
+    shop(alloc, &mut first, &mut second)
+}
+
+fn main(rt: HostRuntime) -> ExitCode {
+    match run(rt.alloc()) {
+        Ok(cart) => match println!(rt; "{cart}") {
+            Ok(()) => ExitCode::SUCCESS,
+            Err(_) => ExitCode::FAILURE,
+        },
+        Err(_) => ExitCode::FAILURE,
+    }
+}

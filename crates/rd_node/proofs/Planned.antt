@@ -1,0 +1,203 @@
+-- Plans that can be carried out, and what a member keeps under them.
+use Rattle.std.proofs.Common.{◌≡◌, ◌≢◌, ℕ, ◌+◌, ◌<◌, ◌≤◌, List, length, get_or, set, refl, sym, ap, ◌∙◌, subst, arith, false, Some, None, inl, inr, ◌==◌, eq-eqb}
+use Rattle.std.specs.Prelude.{map, All, if◌then◌else◌}
+use Rattle.std.specs.Global.{Vec}
+use Rattle.std.proofs.lemmas.Bool.{cases_eq}
+use Rattle.std.proofs.lemmas.List.{get_or-set_same, get_or-set_other, get_or_default, length-set}
+use Rattle.std.proofs.Math.Seq.{map-set_same}
+use Rattle.rd_history.specs.Texts.{Text}
+use Rattle.rd_history.specs.Vector.{VersionVector}
+use Rattle.rd_history.specs.History.{History}
+use Rattle.rd_model.specs.Entry as model
+use Rattle.rd_model.specs.Node as nodes
+use Rattle.rd_markers.specs.Marks.{performed_in}
+use Rattle.rd_kinds.specs.declared.shown.Shown.{Shown}
+use Rattle.rd_lattice.specs.declared.replica.Replica.{Ghosts}
+use Rattle.rd_envelope.specs.declared.envelope.Envelope.{Envelope}
+use Rattle.rd_envelope.specs.Words.{parts_of}
+use Rattle.rd_deltalog.specs.declared.delta_log.NextRecord.{NextRecord}
+use Rattle.rd_node.specs.declared.key.KeyState.{KeyState}
+use Rattle.rd_node.specs.declared.change.Change.{Change}
+use Rattle.rd_node.specs.declared.change.Change.TheVariants.{Same, Entry, Flushed}
+use Rattle.rd_node.specs.declared.plan.Plan.TheVariants.{Nothing, At, Each}
+use Rattle.rd_node.specs.Own.{IsLogged, AreOfTheirKinds}
+use Rattle.rd_node.specs.Keys.{AreDistinct, declared_by}
+use Rattle.rd_node.specs.Sending.{own_number}
+use Rattle.rd_node.specs.Changes.{changed, AreChanged, AreMade}
+use Rattle.rd_node.specs.Members.{StandsForKey}
+use Rattle.rd_node.specs.Taking.{StandsAfter}
+use Rattle.rd_node.specs.Planning.{recorded, IsPlanned, new_entry, entry_in, CanRecord, AreOwned, IsSoundPlan, LeadsOn}
+use Rattle.rd_node.proofs.Stepping.{map-places, same_name, same_declared, few_changed, unpruned_changed, logged_changed}
+
+module _ {T Kind Op Delta : Type 0} (ghosts : Ghosts T Kind Op Delta) (id steps : ℕ) (keys : List (KeyState T Kind Op Delta)) (own : AreOwned ghosts id steps keys) where
+  -- one step later they are kept
+  owned_later : AreOwned ghosts id (steps + 1) keys
+  owned_later = record { few = λ k d within. let few = own.few k d within in omega arith; unpruned = own.unpruned; logged = own.logged; of_kinds = own.of_kinds; distinct = own.distinct }
+
+  pub sound_nothing : IsSoundPlan ghosts id steps keys Nothing
+  sound_nothing = record {
+    can = tt;
+    owned = λ after is. subst (AreOwned ghosts id (steps + 1)) (sym is) owned_later;
+    declared = λ after is. ap (map declared_by) is;
+    kinds = λ k d entry within is. absurd (cc is);
+  }
+
+  -- A CHANGE FOR EACH
+
+  module _ (Makes : KeyState T Kind Op Delta → Change T Kind Op Delta → Type 0)
+      (same : (state : KeyState T Kind Op Delta) (change : Change T Kind Op Delta) → Makes state change → performed_in (parts_of state.entry).marks id ≡ false → own_number id (changed state change) ≡ own_number id state)
+      (kind : (state : KeyState T Kind Op Delta) (change : Change T Kind Op Delta) → Makes state change → ghosts.kind_of (changed state change).entry.value ≡ ghosts.kind_of state.entry.value)
+      (stays : (state : KeyState T Kind Op Delta) (change : Change T Kind Op Delta) → Makes state change → performed_in (parts_of state.entry).marks id ≡ false → performed_in (parts_of (changed state change).entry).marks id ≡ false)
+      (changes : Vec (Change T Kind Op Delta)) (made : AreMade Makes keys changes.items) where
+    same_kinds : (after : List (KeyState T Kind Op Delta)) → AreChanged keys changes.items after → AreOfTheirKinds ghosts.kind_of after
+    same_kinds after is k d within =
+        let inside : k < length keys = (let l = is.same_length in omega arith) in
+        let state = get_or keys k d in
+        let change = get_or changes.items k Same in
+        subst (λ (state : KeyState T Kind Op Delta). ghosts.kind_of state.entry.value ≡ state.kind) (sym (is.each k d Same inside))
+        (kind (get_or keys k d) (get_or changes.items k Same) (made.made k d Same inside) ∙ own.of_kinds k d inside ∙ sym (ap (λ (decl : nodes.KeyDecl Kind). decl.kind) (same_declared (get_or keys k d) (get_or changes.items k Same))))
+
+    changed_entry : (state : KeyState T Kind Op Delta) (change : Change T Kind Op Delta) (entry : Envelope T Kind Op Delta) → new_entry change ≡ Some entry → (changed state change).entry ≡ entry
+    changed_entry state Same entry is = absurd (cc is)
+    changed_entry state (Entry e) entry is = cc is
+    changed_entry state (Flushed flushed) entry is = absurd (cc is)
+
+    pub sound_each : IsSoundPlan ghosts id steps keys (Each changes)
+    sound_each = record {
+      can = made.one_each;
+      owned = λ after is. record {
+        few = few_changed Makes id steps (steps + 1) keys after changes.items (omega arith) same made is own.unpruned own.few;
+        unpruned = unpruned_changed Makes id keys after changes.items stays made is own.unpruned;
+        logged = logged_changed ghosts.kind_of Makes id keys after changes.items same kind made is own.unpruned own.logged;
+        of_kinds = same_kinds after is;
+        distinct = subst AreDistinct (sym (map-places (λ (state : KeyState T Kind Op Delta). state.name) keys after is.same_length
+            (λ k d within. ap (λ (state : KeyState T Kind Op Delta). state.name) (is.each k d Same within) ∙ same_name _ _))) own.distinct;
+      };
+      declared = λ after is. map-places declared_by keys after is.same_length (λ k d within. ap declared_by (is.each k d Same within) ∙ same_declared _ _);
+      kinds = λ k d entry within is.
+          let state = get_or keys k d in
+          let change = get_or changes.items k Same in
+          ap (λ (e : Envelope T Kind Op Delta). ghosts.kind_of e.value) (sym (changed_entry (get_or keys k d) (get_or changes.items k Same) entry is))
+          ∙ kind (get_or keys k d) (get_or changes.items k Same) (made.made k d Same within) ∙ own.of_kinds k d within;
+    }
+
+  -- ONE OWN RECORD
+
+  module _ (index : ℕ) (at : KeyState T Kind Op Delta) (entry : Envelope T Kind Op Delta) (next : NextRecord Delta) (can : CanRecord ghosts keys index next) (is : at ≡ get_or keys index at)
+      (number : own_number id (recorded at entry next) ≡ own_number id at + 1) (marks : (parts_of entry).marks ≡ (parts_of at.entry).marks) (kind : ghosts.kind_of entry.value ≡ ghosts.kind_of at.entry.value) where
+    here : KeyState T Kind Op Delta
+    here = get_or keys index at
+
+    -- a fact of each key after the record
+    each_after : (P : KeyState T Kind Op Delta → Type 0) → P (recorded at entry next) → ((k : ℕ) (d : KeyState T Kind Op Delta) → k < length keys → P (get_or keys k d)) → All P (set keys index (recorded at entry next))
+    each_after P new others k d within = elim (cases_eq k index) [
+      | inl e ↦ subst P (sym (ap (λ j. get_or (set keys index (recorded at entry next)) j d) e ∙ get_or-set_same keys index (recorded at entry next) d can.within)) new
+      | inr ne ↦ subst P (sym (get_or-set_other keys index k (recorded at entry next) d ne)) (others k d (let l = length-set keys index (recorded at entry next) in omega arith))
+    ]
+
+    at_fact : (P : KeyState T Kind Op Delta → Type 0) → ((k : ℕ) (d : KeyState T Kind Op Delta) → k < length keys → P (get_or keys k d)) → P at
+    at_fact P each = subst P (sym is) (each index at can.within)
+
+    owned_set : AreOwned ghosts id (steps + 1) (set keys index (recorded at entry next))
+    owned_set = record {
+      few = each_after (λ state. own_number id state ≤ steps + 1) (let few = at_fact (λ state. own_number id state ≤ steps) own.few in let n = number in omega (arith, n, few)) (λ k d within. let few = own.few k d within in omega arith);
+      unpruned = each_after (λ state. performed_in (parts_of state.entry).marks id ≡ false) (ap (λ m. performed_in m id) marks ∙ at_fact (λ state. performed_in (parts_of state.entry).marks id ≡ false) own.unpruned) own.unpruned;
+      logged = each_after (IsLogged ghosts.kind_of id) (let l = at_fact (IsLogged ghosts.kind_of id) own.logged in record { origin = l.origin; kind = l.kind ∙ sym kind; last = ap (λ n. n + 1) l.last ∙ sym number }) own.logged;
+      of_kinds = each_after (λ state. ghosts.kind_of state.entry.value ≡ state.kind) (kind ∙ at_fact (λ state. ghosts.kind_of state.entry.value ≡ state.kind) own.of_kinds) own.of_kinds;
+      distinct = subst AreDistinct (sym (map-set_same (λ (state : KeyState T Kind Op Delta). state.name) keys index (recorded at entry next) at (ap (λ (state : KeyState T Kind Op Delta). state.name) is))) own.distinct;
+    }
+
+    -- the key that is found there is this one
+    same_there : (state : KeyState T Kind Op Delta) → state ≡ get_or keys index state → state ≡ at
+    same_there state there = there ∙ get_or_default keys index state at can.within ∙ sym is
+
+    set_is : (after : List (KeyState T Kind Op Delta)) → IsPlanned keys (At index entry next) after → after ≡ set keys index (recorded at entry next)
+    set_is after p = p.2 ∙ ap (λ state. set keys index (recorded state entry next)) (same_there p.0 p.1)
+
+    pub sound_at : IsSoundPlan ghosts id steps keys (At index entry next)
+    sound_at = record {
+      can = can;
+      owned = λ after p. subst (AreOwned ghosts id (steps + 1)) (sym (set_is after p)) owned_set;
+      declared = λ after p. ap (map declared_by) (set_is after p) ∙ map-set_same declared_by keys index (recorded at entry next) at (ap declared_by is);
+      kinds = λ k d e within found. elim (cases_eq index k) [
+        | inl same ↦
+            let this : Some entry ≡ Some e = sym (ap (λ b. if b then Some entry else None) (eq-eqb index k same)) ∙ found in
+            let that : entry ≡ e = cc this in
+            ap (λ (envelope : Envelope T Kind Op Delta). ghosts.kind_of envelope.value) (sym that) ∙ kind
+            ∙ subst (λ (state : KeyState T Kind Op Delta). ghosts.kind_of at.entry.value ≡ state.kind) (is ∙ get_or_default keys index at d can.within ∙ ap (λ j. get_or keys j d) same) (at_fact (λ state. ghosts.kind_of state.entry.value ≡ state.kind) own.of_kinds)
+        | inr apart ↦ absurd (let test : (index == k) ≡ false = grind arith in cc (found, ap (λ b. if b then Some entry else None) test))
+      ];
+    }
+
+    -- AND WHAT IT LEADS TO
+
+    module _ (kinds : Text → Kind) (logs : Text → History Op) (old later : nodes.Node Kind Op Shown)
+        (others : (k : ℕ) (d : KeyState T Kind Op Delta) → k < length keys → k ≢ index → (later.entries (get_or keys k d).name ≡ old.entries (get_or keys k d).name) × (later.flushed (get_or keys k d).name ≡ old.flushed (get_or keys k d).name))
+        (held : All (λ (state : KeyState T Kind Op Delta). StandsForKey ghosts.kind_of ghosts.IsDataOf ghosts.IsDeltaOf kinds logs state (old.entries state.name) (old.flushed state.name)) keys)
+        (new : StandsForKey ghosts.kind_of ghosts.IsDataOf ghosts.IsDeltaOf kinds logs (recorded at entry next) (later.entries at.name) (later.flushed at.name)) where
+      abbrev Stands : KeyState T Kind Op Delta → Type 0
+      Stands state = StandsForKey ghosts.kind_of ghosts.IsDataOf ghosts.IsDeltaOf kinds logs state (later.entries state.name) (later.flushed state.name)
+
+      stands_set : All (λ (state : KeyState T Kind Op Delta). StandsForKey ghosts.kind_of ghosts.IsDataOf ghosts.IsDeltaOf kinds logs state (later.entries state.name) (later.flushed state.name)) (set keys index (recorded at entry next))
+      stands_set k d within = elim (cases_eq k index) [
+        | inl e ↦ subst Stands (sym (ap (λ j. get_or (set keys index (recorded at entry next)) j d) e ∙ get_or-set_same keys index (recorded at entry next) d can.within)) new
+        | inr ne ↦
+            let inside : k < length keys = (let l = length-set keys index (recorded at entry next) in omega arith) in
+            let still = others k d inside ne in
+            subst Stands (sym (get_or-set_other keys index k (recorded at entry next) d ne))
+            (subst (λ e. StandsForKey ghosts.kind_of ghosts.IsDataOf ghosts.IsDeltaOf kinds logs (get_or keys k d) e (later.flushed (get_or keys k d).name)) (sym still.0)
+            (subst (λ f. StandsForKey ghosts.kind_of ghosts.IsDataOf ghosts.IsDeltaOf kinds logs (get_or keys k d) (old.entries (get_or keys k d).name) f) (sym still.1) (held k d inside)))
+      ]
+
+      leads_set : (k : ℕ) (d : KeyState T Kind Op Delta) → k < length keys → StandsAfter ghosts.IsDataOf (logs (get_or keys k d).name) (entry_in (At index entry next) k) (old.entries (get_or keys k d).name) (later.entries (get_or keys k d).name)
+      leads_set k d within = elim (cases_eq index k) [
+        | inl same ↦
+            let there : at ≡ get_or keys k d = is ∙ get_or_default keys index at d can.within ∙ ap (λ j. get_or keys j d) same in
+            subst (λ o. StandsAfter ghosts.IsDataOf (logs (get_or keys k d).name) o (old.entries (get_or keys k d).name) (later.entries (get_or keys k d).name)) (sym (ap (λ b. if b then Some entry else None) (eq-eqb index k same)))
+            (subst (λ (state : KeyState T Kind Op Delta). StandsAfter ghosts.IsDataOf (logs state.name) (Some entry) (old.entries state.name) (later.entries state.name)) there new.held.image)
+        | inr apart ↦
+            let test : (index == k) ≡ false = grind arith in
+            subst (λ o. StandsAfter ghosts.IsDataOf (logs (get_or keys k d).name) o (old.entries (get_or keys k d).name) (later.entries (get_or keys k d).name)) (sym (ap (λ b. if b then Some entry else None) test))
+            (others k d within (λ e. apart (sym e))).0
+      ]
+
+      pub leads_at : LeadsOn ghosts kinds logs keys old later (At index entry next)
+      leads_at = record {
+        stands = λ after p. subst (All (λ (state : KeyState T Kind Op Delta). StandsForKey ghosts.kind_of ghosts.IsDataOf ghosts.IsDeltaOf kinds logs state (later.entries state.name) (later.flushed state.name))) (sym (set_is after p)) stands_set;
+        leads = leads_set;
+      }
+
+-- WHAT PLANS LEAD TO
+
+module _ {T Kind Op Delta : Type 0} (ghosts : Ghosts T Kind Op Delta) (kinds : Text → Kind) (logs : Text → History Op) (keys : List (KeyState T Kind Op Delta)) (old next : nodes.Node Kind Op Shown)
+    (held : All (λ (state : KeyState T Kind Op Delta). StandsForKey ghosts.kind_of ghosts.IsDataOf ghosts.IsDeltaOf kinds logs state (old.entries state.name) (old.flushed state.name)) keys) where
+  -- where nothing changes
+  pub leads_nothing : next.entries ≡ old.entries → next.flushed ≡ old.flushed → LeadsOn ghosts kinds logs keys old next Nothing
+  leads_nothing same flushed = record {
+    stands = λ after is. subst (All (λ (state : KeyState T Kind Op Delta). StandsForKey ghosts.kind_of ghosts.IsDataOf ghosts.IsDeltaOf kinds logs state (next.entries state.name) (next.flushed state.name))) (sym is)
+        (subst (λ (f : Text → VersionVector). All (λ (state : KeyState T Kind Op Delta). StandsForKey ghosts.kind_of ghosts.IsDataOf ghosts.IsDeltaOf kinds logs state (next.entries state.name) (f state.name)) keys) (sym flushed)
+        (subst (λ (e : Text → model.Entry Op). All (λ (state : KeyState T Kind Op Delta). StandsForKey ghosts.kind_of ghosts.IsDataOf ghosts.IsDeltaOf kinds logs state (e state.name) (old.flushed state.name)) keys) (sym same) held));
+    leads = λ k d within. ap (λ (e : Text → model.Entry Op). e (get_or keys k d).name) same;
+  }
+
+  -- where each has a change
+  pub leads_each : (changes : Vec (Change T Kind Op Delta))
+      → ((k : ℕ) (d : KeyState T Kind Op Delta) → k < length keys → StandsForKey ghosts.kind_of ghosts.IsDataOf ghosts.IsDeltaOf kinds logs (get_or keys k d) (old.entries (get_or keys k d).name) (old.flushed (get_or keys k d).name)
+      → StandsForKey ghosts.kind_of ghosts.IsDataOf ghosts.IsDeltaOf kinds logs (changed (get_or keys k d) (get_or changes.items k Same)) (next.entries (get_or keys k d).name) (next.flushed (get_or keys k d).name))
+      → ((k : ℕ) (d : KeyState T Kind Op Delta) → k < length keys → new_entry (get_or changes.items k Same) ≡ None → next.entries (get_or keys k d).name ≡ old.entries (get_or keys k d).name)
+      → LeadsOn ghosts kinds logs keys old next (Each changes)
+  leads_each changes each still = record {
+    stands = λ after is k d within.
+        let inside : k < length keys = (let l = is.same_length in omega arith) in
+        subst (λ (state : KeyState T Kind Op Delta). StandsForKey ghosts.kind_of ghosts.IsDataOf ghosts.IsDeltaOf kinds logs state (next.entries state.name) (next.flushed state.name)) (sym (is.each k d Same inside))
+        (subst (λ name. StandsForKey ghosts.kind_of ghosts.IsDataOf ghosts.IsDeltaOf kinds logs (changed (get_or keys k d) (get_or changes.items k Same)) (next.entries name) (next.flushed name)) (sym (same_name (get_or keys k d) (get_or changes.items k Same)))
+        (each k d inside (held k d inside)));
+    leads = λ k d within. after_by (get_or keys k d) (get_or changes.items k Same) (each k d within (held k d within)) (still k d within);
+  }
+    where
+      after_by : (state : KeyState T Kind Op Delta) (change : Change T Kind Op Delta)
+          → StandsForKey ghosts.kind_of ghosts.IsDataOf ghosts.IsDeltaOf kinds logs (changed state change) (next.entries state.name) (next.flushed state.name)
+          → (new_entry change ≡ None → next.entries state.name ≡ old.entries state.name) → StandsAfter ghosts.IsDataOf (logs state.name) (new_entry change) (old.entries state.name) (next.entries state.name)
+      after_by state Same s still = still refl
+      after_by state (Entry entry) s still = s.held.image
+      after_by state (Flushed flushed) s still = still refl

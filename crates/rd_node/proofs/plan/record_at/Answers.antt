@@ -1,0 +1,8 @@
+use Rattle.std.proofs.Common.{set, sym, ap, ◌∙◌}
+use Rattle.rd_node.specs.Planning.{recorded}
+use Rattle.rd_node.proofs.plan.record_at.Goals as goal
+
+pub returns : goal.returns
+returns g c =
+    let at = c.index-keys-index.result in
+    (at, c.index-keys-index.is, ap (set c.args.keys.now c.args.index) (c.record.ensures ∙ ap (λ state. recorded state c.args.entry c.args.next) (sym c.index-keys-index.is)))

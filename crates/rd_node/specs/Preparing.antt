@@ -1,0 +1,27 @@
+-- What preparing a step answers.
+use Rattle.rd_history.specs.Texts.{Text}
+use Rattle.rd_history.specs.History.{History}
+use Rattle.rd_model.specs.Node as nodes
+use Rattle.rd_model.specs.Step.{step}
+use Rattle.rd_kinds.specs.declared.shown.Shown.{Shown}
+use Rattle.rd_lattice.specs.declared.replica.Replica.{Ghosts}
+use Rattle.rd_lattice.specs.declared.spelled.SpelledData.{Ghosts as Spelling}
+use Rattle.rd_keeper.specs.declared.keeper.Keeper.{Ghosts as Keeping}
+use Rattle.rd_node.specs.declared.node.Node.{Node}
+use Rattle.rd_node.specs.declared.input.Input.{Input}
+use Rattle.rd_node.specs.declared.plan.Prepared.{Prepared}
+use Rattle.rd_node.specs.Members.{IsSafe, StandsForNode}
+use Rattle.rd_node.specs.Inputs.{StandsForInput}
+use Rattle.rd_node.specs.Steps.{replication}
+use Rattle.rd_node.specs.Planning.{IsSoundPlan, IsPrepared}
+
+module _ {T K Kind Op Delta : Type 0} {ghosts : Ghosts T Kind Op Delta} {keeping : Keeping K} where
+  -- the plan can be carried out by this member
+  abbrev pub IsSoundFor : Node T K Kind Op Delta ghosts keeping → Prepared T Kind Op Delta ghosts → Type 0
+  IsSoundFor node prepared = IsSoundPlan ghosts node.id node.steps node.keys.items prepared.plan
+
+  -- it is that of the model's step for the input, as if the store worked
+  abbrev pub Prepares : Spelling T Kind Op Delta → Node T K Kind Op Delta ghosts keeping → Input T Kind Op Delta ghosts → Prepared T Kind Op Delta ghosts → Type 0
+  Prepares spelling code input prepared =
+      (kinds : Text → Kind) (logs : Text → History Op) (node : nodes.Node Kind Op Shown) (sent : nodes.Input Op) → StandsForNode ghosts.kind_of ghosts.IsDataOf kinds logs code node → StandsForInput kinds logs code.keys.items input sent
+      → IsSafe logs (step (replication ghosts spelling) node sent nodes.Fate.NoStore).node → IsPrepared kinds logs code.keys.items node (step (replication ghosts spelling) node sent nodes.Fate.NoStore) prepared

@@ -1,0 +1,40 @@
+-- What of a plan has to be stored.
+use Rattle.std.specs.Prelude.{◌≡◌, List, [], ◌∷◌, ◌&&◌, not, map, if◌then◌else◌, All}
+use Rattle.rd_history.specs.Texts.{Text}
+use Rattle.rd_history.specs.History.{History}
+use Rattle.rd_model.specs.Entry as model
+use Rattle.rd_model.specs.Entry.{is_unchanged}
+use Rattle.rd_model.specs.Node as nodes
+use Rattle.rd_model.specs.Step.{to_store}
+use Rattle.rd_kinds.specs.declared.shown.Shown.{Shown}
+use Rattle.rd_lattice.specs.declared.replica.Replica.{Ghosts}
+use Rattle.rd_lattice.specs.declared.spelled.SpelledData.{Ghosts as Spelling}
+use Rattle.rd_keeper.specs.declared.stored.Stored.{Stored}
+use Rattle.rd_node.specs.declared.key.KeyState.{KeyState}
+use Rattle.rd_node.specs.declared.plan.Plan.{Plan}
+use Rattle.rd_node.specs.Keys.{declared_by}
+use Rattle.rd_node.specs.Members.{StandsForKey}
+use Rattle.rd_node.specs.Stores.{spelled_entry, IsKept}
+use Rattle.rd_node.specs.Planning.{LeadsOn}
+
+module _ {T Kind Op Delta : Type 0} where
+  -- the key, with this entry in the model
+  abbrev pub holding : KeyState T Kind Op Delta → model.Entry Op → nodes.KeyState Kind Op
+  holding state entry = record { name = state.name; kind = state.kind; durable = state.durable; entry = entry }
+
+  -- the key, if its entry has to be stored
+  abbrev pub stored_of : KeyState T Kind Op Delta → (old new : model.Entry Op) → List (nodes.KeyState Kind Op)
+  stored_of state old new = if state.durable && not (is_unchanged old new) then holding state new ∷ [] else []
+
+module _ {T Kind Op Delta : Type 0} (ghosts : Ghosts T Kind Op Delta) (spelling : Spelling T Kind Op Delta) where
+  -- each by its spelling
+  pub record AreSpelled (logs : Text → History Op) (items : List Stored) (entries : List (nodes.KeyState Kind Op)) : Type 0 where
+    pub these : items ≡ map (spelled_entry spelling) entries
+    pub kept : All (λ k. IsKept ghosts spelling k.kind (logs k.name) k.entry) entries
+
+  -- whatever members of the model the plan leads from and to
+  abbrev pub AreStores : List (KeyState T Kind Op Delta) → Plan T Kind Op Delta → List Stored → Type 0
+  AreStores keys plan items =
+      (kinds : Text → Kind) (logs : Text → History Op) (old next : nodes.Node Kind Op Shown) → old.keys ≡ map declared_by keys → next.keys ≡ map declared_by keys
+      → All (λ state. StandsForKey ghosts.kind_of ghosts.IsDataOf ghosts.IsDeltaOf kinds logs state (old.entries state.name) (old.flushed state.name)) keys
+      → LeadsOn ghosts kinds logs keys old next plan → AreSpelled logs items (to_store old next)

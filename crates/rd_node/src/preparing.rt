@@ -1,0 +1,175 @@
+ghost use Rattle.std.specs.Prelude.{◌≡◌, ◌<◌, ◌&&◌, ◌==◌, not, IfOk};
+ghost use Rattle.rd_model.specs.View.{is_member, identities_of};
+ghost use Rattle.rd_node.specs.declared.input.Input.TheVariants as input;
+ghost use Rattle.rd_node.specs.Changes.{AreMade};
+ghost use Rattle.rd_node.specs.Preparing.{IsSoundFor, Prepares};
+ghost use Rattle.rd_node.specs.Installing.{IsSeen};
+
+use crate::change::Change;
+use crate::gossip::status;
+use crate::input::Input;
+use crate::key::{KeyState, Updated};
+use crate::node::Node;
+use crate::plan::{Plan, Prepared};
+use crate::reply::{Output, Reply};
+use crate::sending::{flushes, posts};
+use crate::taking::{MessageTaken, taken};
+use rd_bytes::{Items, Memory, Text};
+use rd_keeper::Keeper;
+use rd_lattice::{Replica, SpelledData};
+use rd_messages::Message;
+use rd_vectors::Id;
+use rd_views::View;
+use std::alloc::Global;
+
+/// The identities of the members.
+fn identities(alloc: Global, view: &View) -> Result<Vec<Id>, Memory>
+    ensures { IfOk result (λ ids. ids.items ≡ identities_of view.now) }
+{
+    let ids = view
+        .members()
+        .iter()
+        .map(|member| member.id)
+        .collect(alloc)?;
+    Ok(ids)
+}
+
+/// The entries after a member saw their marks with another view, a change for each.
+fn seen<T: Replica>(
+    alloc: Global,
+    keys: &[KeyState<T>],
+    id: Id,
+    view: u32,
+) -> Result<Vec<Change<T>>, Memory>
+    ensures { IfOk result (λ changes. AreMade (IsSeen T.Replica id view) keys.now changes.items) }
+{
+    let mut changes = Items::new(alloc);
+    for state in keys {
+        let mut entry = state.entry.copy(alloc)?;
+        entry.add_seen(id, view);
+        changes.push(Change::Entry(entry))?;
+    }
+    Ok(changes.into_vec())
+}
+
+impl<T: SpelledData, K: Keeper + Drop> Node<T, K> {
+    /// A step for an input, before it is made. All memory that it needs is taken here, but for what is stored.
+    pub(crate) fn prepare(&self, input: &Input<T>) -> Result<Prepared<T>, Memory>
+        requires { self.now.steps < 16384 }
+        ensures sound { IfOk result (IsSoundFor self.now) }
+        ensures image { IfOk result (Prepares T.SpelledData.own self.now input.now) }
+    {
+        match input {
+            Input::Update { key, op } => self.updated(key, op),
+            Input::Get { key } => self.shown(key),
+            Input::Take { from, message } => self.taken(*from, message),
+            Input::Install(view) => self.installed(view),
+            Input::Flush => self.flushed(),
+            Input::GossipTo(to) => self.gossiped(*to),
+        }
+    }
+
+    fn updated(&self, key: &Text, op: &T::Op) -> Result<Prepared<T>, Memory>
+        requires { self.now.steps < 16384 }
+        ensures sound { IfOk result (IsSoundFor self.now) }
+        ensures image { IfOk result (Prepares T.SpelledData.own self.now (input.Update key.now op.now)) }
+    {
+        let _seats = self.view.members();
+        let Some(index) = self.position(key) else {
+            return Ok(Prepared::reply(self.alloc, Reply::UnknownKey));
+        };
+        match self.keys[index].update(self.alloc, self.id, op)? {
+            Updated::Refused(reply) => Ok(Prepared::reply(self.alloc, reply)),
+            Updated::Recorded { entry, next } => Ok(Prepared {
+                view: None,
+                plan: Plan::At { index, entry, next },
+                output: Output::told(self.alloc, Reply::Done),
+            }),
+        }
+    }
+
+    fn shown(&self, key: &Text) -> Result<Prepared<T>, Memory>
+        ensures sound { IfOk result (IsSoundFor self.now) }
+        ensures image { IfOk result (Prepares T.SpelledData.own self.now (input.Get key.now)) }
+    {
+        let _seats = self.view.members();
+        let Some(index) = self.position(key) else {
+            return Ok(Prepared::reply(self.alloc, Reply::UnknownKey));
+        };
+        let reply = self.keys[index].show(self.alloc)?;
+        Ok(Prepared::reply(self.alloc, reply))
+    }
+
+    fn taken(&self, from: Id, message: &Message<T>) -> Result<Prepared<T>, Memory>
+        ensures sound { IfOk result (IsSoundFor self.now) }
+        ensures image { IfOk result (Prepares T.SpelledData.own self.now (input.Take from message.now)) }
+    {
+        if !self.view.contains(from) {
+            return Ok(Prepared::reply(self.alloc, Reply::NotFromMember));
+        }
+        let view = self.view.number();
+        let taken = taken(self.alloc, &self.keys, self.id, view, from, message)?;
+        let MessageTaken { changes, output } = taken;
+        Ok(Prepared {
+            view: None,
+            plan: Plan::Each(changes),
+            output,
+        })
+    }
+
+    fn installed(&self, view: &View) -> Result<Prepared<T>, Memory>
+        ensures sound { IfOk result (IsSoundFor self.now) }
+        ensures image { IfOk result (Prepares T.SpelledData.own self.now (input.Install view.now)) }
+    {
+        let number = view.number();
+        let own = self.view.number();
+        if number <= own {
+            return Ok(Prepared::reply(self.alloc, Reply::OldView));
+        }
+        let changes = seen(self.alloc, &self.keys, self.id, number)?;
+        let view = view.copy(self.alloc)?;
+        Ok(Prepared {
+            view: Some(view),
+            plan: Plan::Each(changes),
+            output: Output::told(self.alloc, Reply::Installed),
+        })
+    }
+
+    fn flushed(&self) -> Result<Prepared<T>, Memory>
+        ensures sound { IfOk result (IsSoundFor self.now) }
+        ensures image { IfOk result (Prepares T.SpelledData.own self.now input.Flush) }
+    {
+        let members = identities(self.alloc, &self.view)?;
+        let posts = posts(self.alloc, &self.keys, self.id, &members)?;
+        let changes = flushes(self.alloc, &self.keys, self.id, &members)?;
+        let reply = Reply::Done;
+        Ok(Prepared {
+            view: None,
+            plan: Plan::Each(changes),
+            output: Output { reply, posts },
+        })
+    }
+
+    /// Whether this is another member of the view.
+    fn is_peer(&self, id: Id) -> bool
+        ensures { result ≡ (not (id == self.now.id) && is_member self.now.view id) }
+    {
+        id != self.id && self.view.contains(id)
+    }
+
+    fn gossiped(&self, to: Id) -> Result<Prepared<T>, Memory>
+        ensures sound { IfOk result (IsSoundFor self.now) }
+        ensures image { IfOk result (Prepares T.SpelledData.own self.now (input.GossipTo to)) }
+    {
+        if !self.is_peer(to) {
+            return Ok(Prepared::reply(self.alloc, Reply::NotAPeer));
+        }
+        let posts = status(self.alloc, &self.keys, to)?;
+        let reply = Reply::Done;
+        Ok(Prepared {
+            view: None,
+            plan: Plan::Nothing,
+            output: Output { reply, posts },
+        })
+    }
+}

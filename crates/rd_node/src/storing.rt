@@ -1,0 +1,75 @@
+ghost use Rattle.std.specs.Prelude.{◌≡◌, ◌++◌, ℕ, ◌<◌, ◌≤◌, [], ◌∷◌, Some, length, map, slice_index_or, IfOk, OnOk, IfErr, OnErr};
+ghost use Rattle.rd_history.specs.History.{History};
+ghost use Rattle.rd_model.specs.Entry.{Entry};
+ghost use Rattle.rd_envelope.specs.Images.{StandsFor};
+ghost use Rattle.rd_envelope.specs.Words.{parts_of};
+ghost use Rattle.rd_keeper.specs.Calls.{IsCaused};
+ghost use Rattle.rd_node.specs.Stores.{spelled_entry, IsKept};
+ghost use Rattle.rd_node.specs.Planning.{entry_in};
+ghost use Rattle.rd_node.specs.Storing.{stored_of, AreStores};
+ghost use Rattle.rd_node.specs.Steps.{TellsSame, IsKeptBy};
+
+use crate::key::KeyState;
+use crate::plan::{Plan, entry_at};
+use crate::reply::Fate;
+use rd_bytes::{Items, Memory};
+use rd_envelope::Envelope;
+use rd_envelope_codec::spell;
+use rd_keeper::{Keeper, KeeperError, Stored};
+use rd_lattice::SpelledData;
+use std::alloc::Global;
+
+/// Adds the spelling of a key's new entry, if the key is durable and the entry another than before.
+fn add<T: SpelledData>(
+    alloc: Global,
+    state: &KeyState<T>,
+    entry: &Envelope<T>,
+    stores: &mut Items<Stored>,
+) -> Result<(), Memory>
+    requires { T.kind_of entry.now.value ≡ state.now.kind }
+    ensures spelled { (log : History T.Op) (old new : Entry T.Op) → StandsFor T.IsDataOf (parts_of state.now.entry) log old → StandsFor T.IsDataOf (parts_of entry.now) log new
+        → OnOk result (stores.new ≡ stores.old ++ map (spelled_entry T.SpelledData.own) (stored_of state.now old new)) }
+    ensures kept { (log : History T.Op) (old new : Entry T.Op) (k : ℕ) → StandsFor T.IsDataOf (parts_of state.now.entry) log old → StandsFor T.IsDataOf (parts_of entry.now) log new
+        → k < length (stored_of state.now old new) → OnOk result (IsKept T.Replica T.SpelledData.own state.now.kind log new) }
+{
+    if !state.durable || entry.is_unchanged(&state.entry) {
+        return Ok(());
+    }
+    let key = state.name.copy(alloc)?;
+    let bytes = Items::from_vec(spell(alloc, entry)?);
+    stores.push(Stored { key, bytes })
+}
+
+/// What a plan has to store: the spelling of each durable entry that it changes.
+pub(crate) fn stores<T: SpelledData>(
+    alloc: Global,
+    keys: &[KeyState<T>],
+    plan: &Plan<T>,
+) -> Result<Items<Stored>, Memory>
+    requires { (k : ℕ) (d : KeyState T T.Kind T.Op T.Delta) (entry : Envelope T T.Kind T.Op T.Delta) → k < length keys.now → entry_in plan.now k ≡ Some entry → T.kind_of entry.value ≡ (slice_index_or keys.now k d).kind }
+    ensures { IfOk result (AreStores T.Replica T.SpelledData.own keys.now plan.now) }
+{
+    let mut stores = Items::new(alloc);
+    for (index, state) in keys.iter().enumerate() {
+        if let Some(entry) = entry_at(plan, index) {
+            add(alloc, state, entry, &mut stores)?;
+        }
+    }
+    Ok(stores)
+}
+
+/// Gives the keeper what is to be stored, in one call, if there is anything.
+pub(crate) fn keep<K: Keeper>(keeper: &mut K, stores: &[Stored]) -> Result<Fate, Memory>
+    ensures kept { IfOk result (λ fate. IsKeptBy K.Keeper stores.now fate keeper.old keeper.new) }
+    ensures refused { OnErr result (TellsSame K.Keeper keeper.old keeper.new) }
+    ensures later { K.faults keeper.old ≤ K.faults keeper.new }
+{
+    if stores.is_empty() {
+        return Ok(Fate::NoStore);
+    }
+    match keeper.store(stores) {
+        Ok(()) => Ok(Fate::Stored),
+        Err(KeeperError::Failed) => Ok(Fate::StoreFailed),
+        Err(KeeperError::Memory) => Err(Memory),
+    }
+}

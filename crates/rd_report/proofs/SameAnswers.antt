@@ -1,0 +1,99 @@
+-- The steps of a script leave the keepers' answers as they are.
+use Rattle.std.proofs.Common.{◌≡◌, ℕ, ◌+◌, List, [], ◌∷◌, map, refl, Bool, true, false, Option, Some, None}
+use Rattle.std.specs.Prelude.{if◌then◌else◌, nat_lt, length, is_some, not, slice_get}
+use Rattle.std.specs.List.{range_with_len}
+use Rattle.rd_history.specs.Table.{identity_limit}
+use Rattle.rd_model.specs.View.{View, is_member, is_taken, place_of}
+use Rattle.rd_model.specs.DataType.{Replication}
+use Rattle.rd_model.specs.Message.{Message}
+use Rattle.rd_model.specs.Node.{Fate, Input, Level}
+use Rattle.rd_model.specs.Node.Fate.{NoStore, Stored, StoreFailed}
+use Rattle.rd_model.specs.Step.{is_full}
+use Rattle.rd_model.specs.World.{Event, Turn, turn_of, output_of, message_at, stores, views_of}
+use Rattle.rd_model.specs.Script.{KeeperAnswers, Playing, Head, Answer, Due, did, told, with_call, next_answer, output_lines, take_turn, given, deliver, deliver_due, due_now, round_of, lose, remove, called, join, restart, install, played, played_all}
+use Rattle.rd_runs.proofs.Keeping.{if_holds, fold_all}
+use Rattle.rd_kinds.specs.declared.operation.Op.{Op}
+use Rattle.rd_script.specs.declared.script.Step.{Step}
+use Rattle.rd_script.specs.declared.script.Step.TheVariants as form
+use Rattle.rd_world.specs.Steps.{step_of}
+
+module _ {Kind Shown : Type 0} (D : Replication Kind Op Shown) (answers : KeeperAnswers) where
+  abbrev Has : Playing Kind Op Shown → Type 0
+  Has p = p.answers ≡ answers
+
+  turn_has : (p : Playing Kind Op Shown) (h : Head Op) (event : Fate → Event Op) (turn : Turn Kind Op Shown) → Has p → Has (take_turn D p h event turn)
+  turn_has p h event turn has = by_test (nat_lt 0 (length (stores D turn.before turn.input)))
+    where
+      by_test : (b : Bool) → Has (let fate = if b then (if next_answer p (place_of p.world.view turn.at) then Stored else StoreFailed) else NoStore in did D (if b then with_call p (place_of p.world.view turn.at) else p) (event fate) (output_lines D h (output_of D p.world (event fate))))
+      by_test true = has
+      by_test false = has
+
+  given_has : (p : Playing Kind Op Shown) (h : Head Op) (event : Fate → Event Op) → Has p → Has (given D p h event)
+  given_has p h event has = by_turn (turn_of p.world (event NoStore))
+    where
+      by_turn : (o : Option (Turn Kind Op Shown)) → Has (elim o [ None ↦ told p h Answer.Gone | Some turn ↦ if is_full turn.before then told p h Answer.HistoryFull else take_turn D p h event turn ])
+      by_turn None = has
+      by_turn (Some turn) = if_holds Has (is_full turn.before) (told p h Answer.HistoryFull) (take_turn D p h event turn) has (turn_has p h event turn has)
+
+  deliver_has : (p : Playing Kind Op Shown) (from to index : ℕ) → Has p → Has (deliver D p from to index)
+  deliver_has p from to index has = if_holds Has (is_some (p.world.nodes to)) _ (told p (Head.DeliverHead from to index None) Answer.Gone) (by_message (message_at p.world from to index)) has
+    where
+      by_message : (o : Option (Message Op)) → Has (elim o [ None ↦ told p (Head.DeliverHead from to index None) Answer.NoSuchMessage | Some message ↦ given D p (Head.DeliverHead from to index (Some message)) (Event.Delivery from to index) ])
+      by_message None = has
+      by_message (Some message) = given_has p (Head.DeliverHead from to index (Some message)) (Event.Delivery from to index) has
+
+  due_has : (p : Playing Kind Op Shown) (due : Due) → Has p → Has (deliver_due D p due)
+  due_has p due has = fold_all Has (λ q index. deliver D q due.from due.to index) (λ q index h. deliver_has q due.from due.to index h) (range_with_len due.first due.count) p has
+
+  round_has : (p : Playing Kind Op Shown) (dues : List Due) → Has p → Has (round_of D p dues)
+  round_has p [] has = has
+  round_has p (due ∷ dues) has = fold_all Has (deliver_due D) due_has (due ∷ dues) p has
+
+  lose_has : (p : Playing Kind Op Shown) (from to : ℕ) → Has p → Has (lose D p from to)
+  lose_has p from to has = if_holds Has (nat_lt (p.world.links from to).next (length (p.world.links from to).messages)) _ _ has has
+
+  remove_has : (p : Playing Kind Op Shown) (i : ℕ) → Has p → Has (remove D p i)
+  remove_has p i has = if_holds Has (not (is_member p.world.view i)) _ _ has (if_holds Has (nat_lt 1 (length p.world.view.members)) _ _ has has)
+
+  called_has : (p : Playing Kind Op Shown) (place : ℕ) (e : Event Op) (h : Head Op) (answer failed : Answer Shown) → Has p → Has (called D p place e h answer failed)
+  called_has p place e h answer failed has = if_holds Has (next_answer p place) _ _ has has
+
+  join_has : (p : Playing Kind Op Shown) (place : ℕ) → Has p → Has (join D p place)
+  join_has p place has =
+      if_holds Has (is_taken p.world.view place) _ _ has
+      (if_holds Has (nat_lt p.world.view.given identity_limit) _ _ (called_has p place (Event.Joining place) (Head.JoinHead place) (Answer.NewIdentity p.world.view.given (p.world.view.number + 1)) Answer.ClearFailed has) has)
+
+  restart_has : (p : Playing Kind Op Shown) (i : ℕ) → Has p → Has (restart D p i)
+  restart_has p i has =
+      if_holds Has (not (is_member p.world.view i)) _ _ has
+      (if_holds Has (nat_lt p.world.view.given identity_limit) _ _ (called_has p (place_of p.world.view i) (Event.Restart i) (Head.RestartHead i) (Answer.NewIdentity p.world.view.given (p.world.view.number + 1)) Answer.LoadFailed has) has)
+
+  install_has : (p : Playing Kind Op Shown) (i number : ℕ) → Has p → Has (install D p i number)
+  install_has p i number has = if_holds Has (is_some (p.world.nodes i)) _ (told p (Head.InstallHead i number) Answer.Gone) (by_view (slice_get (views_of p.world) number)) has
+    where
+      by_view : (o : Option View) → Has (elim o [ None ↦ told p (Head.InstallHead i number) Answer.NoSuchView | Some view ↦ given D p (Head.InstallHead i number) (Event.InputAt i (Input.Install view)) ])
+      by_view None = has
+      by_view (Some view) = given_has p (Head.InstallHead i number) (Event.InputAt i (Input.Install view)) has
+
+  step_has : (p : Playing Kind Op Shown) (step : Step) → Has p → Has (played D p (step_of step))
+  step_has p (form.Update at key op) has = given_has p (Head.UpdateHead at key) (Event.InputAt at (Input.Update key op Level.Local)) has
+  step_has p (form.Get at key) has = given_has p (Head.GetHead at key) (Event.InputAt at (Input.Get key Level.Local)) has
+  step_has p (form.Flush at) has = given_has p (Head.FlushHead at) (Event.InputAt at Input.Flush) has
+  step_has p (form.Gossip at to) has = given_has p (Head.GossipHead at to) (Event.InputAt at (Input.GossipTo to)) has
+  step_has p (form.Deliver from to None) has = deliver_has p from to (p.world.links from to).next has
+  step_has p (form.Deliver from to (Some index)) has = deliver_has p from to index has
+  step_has p (form.Lose from to) has = lose_has p from to has
+  step_has p form.Round has = round_has p (due_now D p) has
+  step_has p (form.Remove id) has = remove_has p id has
+  step_has p (form.Join place) has = join_has p place has
+  step_has p (form.Restart id) has = restart_has p id has
+  step_has p (form.Install at view) has = install_has p at view has
+
+  all_have : (p : Playing Kind Op Shown) (steps : List Step) → Has p → Has (played_all D p (map step_of steps))
+  all_have p [] has = has
+  all_have p (step ∷ steps) has = all_have (record (played D p (step_of step)) { lines = [] }) steps (step_has p step has)
+
+module _ {Kind Shown : Type 0} (D : Replication Kind Op Shown) where
+  -- a script's answers are those that it began with
+  pub same_answers : (p : Playing Kind Op Shown) (steps : List Step) → (played_all D p (map step_of steps)).answers ≡ p.answers
+  same_answers p steps = all_have D p.answers p steps refl

@@ -1,0 +1,71 @@
+-- What the steps of a script do to a world, and the text that tells of them.
+--     SetsOut, Follows        a world before and after some steps, as the model has them
+--     TellsAll        all steps were played, and the text is that of the model's run with the answers that the keepers gave
+use Rattle.std.specs.Prelude.{◌≡◌, ℕ, List, [], ◌++◌, map, All, false, Some, IsSome, ◌⊎◌}
+use Rattle.rd_history.specs.Texts.{Text}
+use Rattle.rd_model.specs.DataType.{Replication}
+use Rattle.rd_model.specs.Node.{KeyDecl}
+use Rattle.rd_model.specs.Script.{Playing, played_all, lines_of}
+use Rattle.rd_model.specs.Report.{steps_text, final_block}
+use Rattle.rd_kinds.specs.ShownText.{shown_text}
+use Rattle.rd_kinds.specs.declared.kind.Kind.{Kind}
+use Rattle.rd_kinds.specs.declared.operation.Op.{Op}
+use Rattle.rd_kinds.specs.declared.shown.Shown.{Shown}
+use Rattle.rd_lattice.specs.declared.replica.Replica.{Ghosts}
+use Rattle.rd_lattice.specs.declared.spelled.SpelledData.{Ghosts as Spelling}
+use Rattle.rd_keeper.specs.declared.keeper.Keeper.{Ghosts as Keeping}
+use Rattle.rd_node.specs.Steps.{replication}
+use Rattle.rd_script.specs.declared.script.Step.{Step}
+use Rattle.rd_world.specs.declared.world.World.{World}
+use Rattle.rd_world.specs.Places.{keeper_of}
+use Rattle.rd_world.specs.Keeping.{Given, KeepsAt}
+use Rattle.rd_world.specs.Steps.{step_of, Foretells, HaveAnswered}
+use Rattle.rd_world.specs.Ways.{Means}
+use Rattle.rd_report.specs.Run.{is_restart, until_restart}
+
+module _ {T K Delta : Type 0} {ghosts : Ghosts T Kind Op Delta} {keeping : Keeping K} where
+  -- each keeper tells its table
+  abbrev pub AllTell : World T K Kind Op Delta ghosts keeping → Type 0
+  AllTell world = (place : ℕ) (keeper : K) → keeper_of world.nodes.items world.spare.items place ≡ Some keeper → IsSome (keeping.table keeper)
+
+  -- what the steps load is what was stored: keepers tell their tables, or nothing is loaded
+  abbrev pub LoadAll : List Step → World T K Kind Op Delta ghosts keeping → Type 0
+  LoadAll steps world = AllTell world ⊎ All (λ step. is_restart step ≡ false) steps
+
+module _ (D : Replication Kind Op Shown) (p : Playing Kind Op Shown) where
+  -- where the script is after these steps
+  abbrev pub played_so_far : List Step → Playing Kind Op Shown
+  played_so_far steps = played_all D p (map step_of steps)
+
+  -- what it has told
+  abbrev pub told_so_far : List Step → List ℕ
+  told_so_far steps = steps_text D shown_text 1 (lines_of D p (map step_of steps))
+
+  -- all lines, and then the final block
+  abbrev pub whole_text : List Step → List ℕ
+  whole_text steps = told_so_far steps ++ final_block D shown_text (played_so_far steps).world
+
+  -- the text begins with the lines of the steps before the first restart
+  abbrev pub BeginsSo : List Step → List ℕ → Type 0
+  BeginsSo steps text = (rest : List ℕ) × (text ≡ told_so_far (until_restart steps) ++ rest)
+
+module _ {T K Delta : Type 0} {ghosts : Ghosts T Kind Op Delta} {keeping : Keeping K} (spelling : Spelling T Kind Op Delta) (kinds : Text → Kind) (members : ℕ) (decls : List (KeyDecl Kind)) (p : Playing Kind Op Shown) (given : Given) where
+  -- a script that tells nothing yet, in a world, with keepers that are to give these answers
+  pub record SetsOut (old : World T K Kind Op Delta ghosts keeping) : Type 0 where
+    pub means : Means spelling kinds members decls p old
+    pub silent : p.lines ≡ []
+    pub foretold : Foretells p given
+
+  -- the world means where the script is after these steps, and the keepers were called as often
+  pub record Follows (steps : List Step) (new : World T K Kind Op Delta ghosts keeping) : Type 0 where
+    pub means : Means spelling kinds members decls (played_so_far (replication ghosts spelling) p steps) new
+    pub calls : HaveAnswered p (played_so_far (replication ghosts spelling) p steps) given
+
+module _ {T K Delta : Type 0} {ghosts : Ghosts T Kind Op Delta} {keeping : Keeping K} (spelling : Spelling T Kind Op Delta) where
+  -- The keepers gave these answers, and wherever a script sets out with them, its first lines are told, and all of it where what is loaded is what was stored
+  pub record TellsAll (steps : List Step) (old new : World T K Kind Op Delta ghosts keeping) (text : List ℕ) : Type 0 where
+    pub given : Given
+    pub kept : (place : ℕ) → KeepsAt keeping (given place) (keeper_of old.nodes.items old.spare.items place) (keeper_of new.nodes.items new.spare.items place)
+    pub begun : (kinds : Text → Kind) (members : ℕ) (decls : List (KeyDecl Kind)) (p : Playing Kind Op Shown) → SetsOut spelling kinds members decls p given old → BeginsSo (replication ghosts spelling) p steps text
+    pub whole : LoadAll steps old → (kinds : Text → Kind) (members : ℕ) (decls : List (KeyDecl Kind)) (p : Playing Kind Op Shown) → SetsOut spelling kinds members decls p given old
+        → Follows spelling kinds members decls p given steps new × (text ≡ whole_text (replication ghosts spelling) p steps)

@@ -1,0 +1,75 @@
+-- Each step of one event, by its form.
+use Rattle.std.proofs.Common.{◌≡◌, ℕ, List, [], ◌∷◌, refl, sym, ap, subst, ◌∙◌, Option, Some, None, Result, Ok, Err}
+use Rattle.std.specs.Prelude.{is_some, MatchResult}
+use Rattle.rd_history.specs.Table.{identity_limit}
+use Rattle.std.specs.Prelude.{◌<◌}
+use Rattle.rd_history.specs.Texts.{Text}
+use Rattle.rd_model.specs.Node.{Input, Level}
+use Rattle.rd_model.specs.Script as script
+use Rattle.rd_model.specs.Script.{Playing, ScriptStep, deliver}
+use Rattle.rd_kinds.specs.declared.operation.Op.{Op}
+use Rattle.rd_lattice.specs.declared.replica.Replica.{Ghosts}
+use Rattle.rd_lattice.specs.declared.spelled.SpelledData.{Ghosts as Spelling}
+use Rattle.rd_keeper.specs.declared.keeper.Keeper.{Ghosts as Keeping}
+use Rattle.rd_bytes.specs.declared.memory.Memory.{Memory}
+use Rattle.rd_script.specs.declared.script.Step.{Step}
+use Rattle.rd_script.specs.declared.script.Step.TheVariants as form
+use Rattle.rd_node.specs.declared.input.Input.TheVariants as input
+use Rattle.rd_node.specs.Steps.{replication}
+use Rattle.rd_world.specs.declared.world.World.{World}
+use Rattle.rd_world.specs.declared.event.Head.TheVariants as head
+use Rattle.rd_world.specs.declared.event.Event.{Event}
+use Rattle.rd_world.specs.Channels.{channel_at, next_on}
+use Rattle.rd_world.specs.Steps.{Plays, Remains, Reaches}
+use Rattle.rd_world.specs.Giving.{Gives, Refuses, Does, IsAsBefore, delivers}
+use Rattle.rd_world.proofs.Forms.{step_does, plays_does, remains_as, outcome_given, update, get, flush, gossip, deliver as whole_deliver}
+use Rattle.rd_world.proofs.Losing.{same_next}
+
+module _ {T K Kind Delta : Type 0} {ghosts : Ghosts T Kind Op Delta} {keeping : Keeping K} (spelling : Spelling T Kind Op Delta) (old new : World T K Kind Op Delta ghosts keeping) where
+  abbrev PlaysOr : Step → Result Event Memory → Type 0
+  PlaysOr step outcome = MatchResult outcome (λ event. Plays spelling step old new (event ∷ [])) (λ e. Remains spelling step old new)
+
+  module _ (alike : (a b : K) → is_some (keeping.table a) ≡ is_some (keeping.table b)) (outcome : Result Event Memory) where
+    pub updates : (at : ℕ) (key told taken : Text) (op copy : Op) → told ≡ key → taken ≡ key → copy ≡ op → MatchResult outcome (Gives spelling at (head.Update at told) (input.Update taken copy) old new) (λ e. Refuses at old new) → PlaysOr (form.Update at key op) outcome
+    updates at key told taken op copy same_told same_taken same_op gives =
+        step_does spelling (form.Update at key op) (update at key op) old new outcome
+        (outcome_given spelling alike (ScriptStep.Update at key op Level.Local) tt (script.Head.UpdateHead at key) at (Input.Update key op Level.Local) (head.Update at told) (ap (script.Head.UpdateHead at) (sym same_told)) (input.Update taken copy) old new
+        (λ kinds members decls p m. refl) (λ kinds logs keys. λ i. Input.Update (sym same_taken i) (sym same_op i) Level.Local) outcome gives)
+
+    pub gets : (at : ℕ) (key told taken : Text) → told ≡ key → taken ≡ key → MatchResult outcome (Gives spelling at (head.Get at told) (input.Get taken) old new) (λ e. Refuses at old new) → PlaysOr (form.Get at key) outcome
+    gets at key told taken same_told same_taken gives =
+        step_does spelling (form.Get at key) (get at key) old new outcome
+        (outcome_given spelling alike (ScriptStep.Get at key Level.Local) tt (script.Head.GetHead at key) at (Input.Get key Level.Local) (head.Get at told) (ap (script.Head.GetHead at) (sym same_told)) (input.Get taken) old new
+        (λ kinds members decls p m. refl) (λ kinds logs keys. ap (λ key. Input.Get key Level.Local) (sym same_taken)) outcome gives)
+
+    pub flushes : (at : ℕ) → MatchResult outcome (Gives spelling at (head.Flush at) input.Flush old new) (λ e. Refuses at old new) → PlaysOr (form.Flush at) outcome
+    flushes at gives =
+        step_does spelling (form.Flush at) (flush at) old new outcome
+        (outcome_given spelling alike (ScriptStep.Flush at) tt (script.Head.FlushHead at) at Input.Flush (head.Flush at) refl input.Flush old new (λ kinds members decls p m. refl) (λ kinds logs keys. refl) outcome gives)
+
+    pub gossips : (at to : ℕ) → MatchResult outcome (Gives spelling at (head.Gossip at to) (input.GossipTo to) old new) (λ e. Refuses at old new) → PlaysOr (form.Gossip at to) outcome
+    gossips at to gives =
+        step_does spelling (form.Gossip at to) (gossip at to) old new outcome
+        (outcome_given spelling alike (ScriptStep.Gossip at to) tt (script.Head.GossipHead at to) at (Input.GossipTo to) (head.Gossip at to) refl (input.GossipTo to) old new (λ kinds members decls p m. refl) (λ kinds logs keys. refl) outcome gives)
+
+  module _ (outcome : Result Event Memory) (from to : ℕ) where
+    abbrev Delivers : ℕ → Type 0
+    Delivers index = MatchResult outcome (λ event. Does spelling (delivers ghosts spelling from to index) old new (event ∷ [])) (λ e. IsAsBefore spelling old new)
+
+    pub delivers_this : (index : Option ℕ) (number : ℕ) → index ≡ Some number → Delivers number → PlaysOr (form.Deliver from to index) outcome
+    delivers_this index number is d = subst (λ (o : Option ℕ). PlaysOr (form.Deliver from to o) outcome) (sym is) (step_does spelling (form.Deliver from to (Some number)) (whole_deliver from to (Some number)) old new outcome d)
+
+  module _ (from to : ℕ) (small : from < identity_limit) (few : to < identity_limit) (number : ℕ) (due : number ≡ next_on (channel_at old.links from to)) where
+    next_does : (events : List Event) → Does spelling (delivers ghosts spelling from to number) old new events → Does spelling (λ p. deliver (replication ghosts spelling) p from to (p.world.links from to).next) old new events
+    next_does events d =
+        record {
+          given = d.given;
+          kept = d.kept;
+          undamaged = d.undamaged;
+          leads = λ kinds members decls p m foretold.
+              subst (λ (n : ℕ). Reaches spelling kinds members decls p (deliver (replication ghosts spelling) p from to n) d.given new events) (due ∙ sym (same_next spelling old from to small few kinds members decls p m)) (d.leads kinds members decls p m foretold);
+        }
+
+    pub delivers_next : (outcome : Result Event Memory) (index : Option ℕ) → index ≡ None → MatchResult outcome (λ event. Does spelling (delivers ghosts spelling from to number) old new (event ∷ [])) (λ e. IsAsBefore spelling old new) → PlaysOr (form.Deliver from to index) outcome
+    delivers_next (Ok event) index is d = subst (λ (o : Option ℕ). Plays spelling (form.Deliver from to o) old new (event ∷ [])) (sym is) (plays_does spelling (form.Deliver from to None) old new (event ∷ []) (next_does (event ∷ []) d))
+    delivers_next (Err e) index is b = subst (λ (o : Option ℕ). Remains spelling (form.Deliver from to o) old new) (sym is) (remains_as spelling (form.Deliver from to None) (whole_deliver from to None) old new b)
