@@ -89,7 +89,7 @@ fn is_after(before: Option<&Text>, text: &str) -> bool
 /// A text behind the number of its bytes, which comes after the text before it, where there is one; and the bytes after it.
 #[tactic(auto, unfolding(crate::specs::Fields::text_in))]
 pub fn read_text<'a>(
-    alloc: Global,
+    _alloc: Global,
     before: Option<&Text>,
     bytes: &'a [u8],
 ) -> Result<(Text, &'a [u8]), FieldError>
@@ -106,7 +106,7 @@ pub fn read_text<'a>(
         return Err(FieldError::Fault(Fault::BadByte(rest.len())));
     };
     keep(is_after(before, text), rest)?;
-    Ok((Text::of_short(alloc, text)?, after))
+    Ok((Text::of_short(text), after))
 }
 
 /// Appends the spelling of a text. After a refusal nothing was appended.

@@ -3,26 +3,25 @@ ghost use Rattle.rd_bytes.specs.Refusals.{IsTooLong};
 ghost use Rattle.rd_bytes.specs.Spelling.{IsText};
 
 use crate::memory::Memory;
+use arrayvec::ArrayString;
 use std::alloc::Global;
 use std::marker::Model;
 
 /// A text has at most so many bytes.
 pub const MOST_BYTES: usize = 64;
 
-/// A text of at most 64 bytes of UTF-8, which contracts see as its bytes.
+/// A text of at most 64 bytes of UTF-8, which contracts see as its bytes. They lie in the value, so a copy takes no memory.
 #[derive(Drop)]
 pub struct Text {
-    text: String,
+    text: ArrayString<MOST_BYTES>,
 }
 
 impl Model for Text {
-    ghost use Rattle.std.specs.Prelude.{ℕ, List, ◌≤◌, length, string_bytes};
+    ghost use Rattle.std.specs.Prelude.{ℕ, List};
 
     ghost Value = { List ℕ };
 
-    ghost view = { λ t. string_bytes t.text };
-
-    ghost invariant = { λ t. length (string_bytes t.text) ≤ 64 };
+    ghost view = { λ t. t.text.bytes };
 }
 
 /// Why no text was made.
@@ -34,7 +33,7 @@ pub enum TextError {
 
 impl Text {
     /// A text with these bytes, unless they are more than 64.
-    pub fn new(alloc: Global, text: &str) -> Result<Text, TextError>
+    pub fn new(_alloc: Global, text: &str) -> Result<Text, TextError>
         ensures value { IfOk result (λ made. made ≡ text.now) }
         ensures within { IfOk result (λ made. length text.now ≤ MOST_BYTES) }
         ensures refused { IfErr result (IsTooLong (MOST_BYTES < length text.now)) }
@@ -42,21 +41,17 @@ impl Text {
         if text.len() > MOST_BYTES {
             return Err(TextError::TooLong);
         }
-        match Text::of_short(alloc, text) {
-            Ok(text) => Ok(text),
-            Err(Memory) => Err(TextError::Memory),
-        }
+        Ok(Text::of_short(text))
     }
 
     /// A text with these bytes, which are no more than 64.
-    pub(crate) fn of_short(alloc: Global, text: &str) -> Result<Text, Memory>
+    pub(crate) fn of_short(text: &str) -> Text
         requires { length text.now ≤ MOST_BYTES }
-        ensures { IfOk result (λ made. made ≡ text.now) }
+        ensures { result ≡ text.now }
     {
-        match String::from_str(alloc, text) {
-            Ok(text) => Ok(Text { text }),
-            Err(_) => Err(Memory),
-        }
+        let mut bytes = ArrayString::new();
+        bytes.push_str(text);
+        Text { text: bytes }
     }
 
     /// The text as a string slice.
@@ -69,12 +64,16 @@ impl Text {
     }
 
     /// An equal text.
-    pub fn copy(&self, alloc: Global) -> Result<Text, Memory>
+    pub fn copy(&self, _alloc: Global) -> Result<Text, Memory>
         ensures { IfOk result (λ copy. copy ≡ self.now) }
     {
-        match self.text.clone() {
-            Ok(text) => Ok(Text { text }),
-            Err(_) => Err(Memory),
-        }
+        Ok(self.copied())
+    }
+
+    /// An equal text, which takes no memory.
+    pub fn copied(&self) -> Text
+        ensures { result ≡ self.now }
+    {
+        Text { text: self.text }
     }
 }

@@ -1,7 +1,8 @@
 -- Counters that are read are spelled so, what is spelled so is read again, and the history says the spelling.
 use Rattle.std.proofs.Common.{◌≡◌, ℕ, Bool, true, false, not, cond, nat_eq, List, ◌++◌, Result, Ok, refl, sym, ap, subst, ◌∙◌, append_assoc, arith, inl, inr}
-use Rattle.std.specs.Prelude.{◌||◌, ◌==◌}
+use Rattle.std.specs.Prelude.{◌≤◌, ◌||◌, ◌==◌}
 use Rattle.std.proofs.lemmas.Bool.{cases_Bool, eqb-true, or_parts}
+use Rattle.rd_history.specs.Table.{identity_limit}
 use Rattle.rd_history.specs.Vector.{VersionVector, IdentitySet}
 use Rattle.rd_history.specs.History.{History, cut, is_pruned}
 use Rattle.rd_history.specs.Cuts.{IsPrunedCut}
@@ -15,6 +16,7 @@ use Rattle.rd_bytes.specs.Spelling.{AreBytes, Takes}
 use Rattle.rd_bytes.specs.FieldLaws.{bind_ok, ok_is, takes_then}
 use Rattle.rd_vectors.specs.Vectors.{Numbers, number_at}
 use Rattle.rd_vectors.specs.Spelling.{numbers_spelled, numbers_in, AreFree}
+use Rattle.rd_vectors.proofs.Laws.{number_at_above}
 use Rattle.rd_vectors.proofs.Spellings.{numbers_takes, numbers_again, numbers_spelled-same}
 use Rattle.rd_kinds.specs.SixKinds.{increment, decrement}
 use Rattle.rd_kinds.specs.declared.operation.Op.{Op}
@@ -56,6 +58,9 @@ growing_takes kind barred bytes x rest known fits e =
 pub growing_again : (x : GCounter) (barred : IdentitySet) (rest : List ℕ) → IsSoundCounter x → ((i : ℕ) → barred i ≡ true → counter_mentioned x i ≡ false) → counter_in barred (counter_spelled x ++ rest) ≡ Ok (x, rest)
 growing_again x barred rest sound free = counter_again barred x rest sound (λ i bar. is_zero (number_at x.shares i) (free i bar))
 
+pub growing_few : (x : GCounter) (id : ℕ) → IsSoundCounter x → identity_limit ≤ id → counter_mentioned x id ≡ false
+growing_few x id sound many = unmentioned x id (number_at_above x.shares sound.normal id many)
+
 pub shares_mean : {Op : Type 0} (amount : Op → ℕ) (state : GCounter) (log : History Op) (held : VersionVector) (gone : IdentitySet) → IsPrunedCut log held gone → AreShares amount state log held gone
     → counter_spelled state ≡ numbers_spelled (share_left amount (cut log held))
 shares_mean amount state log held gone h p = numbers_spelled-same (number_at state.shares) (share_left amount (cut log held)) (λ i few.
@@ -82,6 +87,9 @@ pub both_take : (kind : ℕ) (barred : IdentitySet) (bytes : List ℕ) (x : PnCo
 both_take kind barred bytes x rest known fits e =
     let t = signed_takes barred bytes x rest fits e in
     (t.0, t.1, sym (eqb-true kind signed_byte known), λ i bar. ap (λ b. b || counter_mentioned x.minus i) (unmentioned x.plus i (t.2 i bar)) ∙ unmentioned x.minus i (t.3 i bar))
+
+pub both_few : (x : PnCounter) (id : ℕ) → IsSoundSigned x → identity_limit ≤ id → signed_mentioned x id ≡ false
+both_few x id sound many = ap (λ b. b || counter_mentioned x.minus id) (growing_few x.plus id sound.plus many) ∙ growing_few x.minus id sound.minus many
 
 pub both_again : (x : PnCounter) (barred : IdentitySet) (rest : List ℕ) → IsSoundSigned x → ((i : ℕ) → barred i ≡ true → signed_mentioned x i ≡ false) → signed_in barred (signed_spelled x ++ rest) ≡ Ok (x, rest)
 unfolding signed_in

@@ -73,6 +73,8 @@ impl SpelledData for GCounter {
 
     ghost spelled_is_read = { laws.growing_again };
 
+    ghost mentioned_few = { laws.growing_few };
+
     ghost spelling_means = { laws.shares_mean increment };
 }
 
@@ -117,6 +119,8 @@ impl SpelledData for PnCounter {
     ghost read_is_spelled = { laws.both_take };
 
     ghost spelled_is_read = { laws.both_again };
+
+    ghost mentioned_few = { laws.both_few };
 
     ghost spelling_means = { laws.both_mean };
 }

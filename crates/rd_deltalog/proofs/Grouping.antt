@@ -1,9 +1,9 @@
 -- The group that a log answers is the entry's, after the number.
-use Rattle.std.proofs.Common.{◌≡◌, ℕ, zero, suc, ◌+◌, ◌-◌, ◌<◌, ◌≤◌, List, [], ◌∷◌, length, drop, refl, sym, ap, subst, ◌∙◌, arith, Bool, true, false, Some, inl, inr}
+use Rattle.std.proofs.Common.{◌≡◌, ℕ, suc, ◌+◌, ◌-◌, ◌<◌, ◌≤◌, List, [], ◌∷◌, length, drop, refl, sym, ap, subst, ◌∙◌, arith, Bool, true, false, Some, inl, inr}
 use Rattle.std.specs.Prelude.{slice_get, fold}
 use Rattle.std.proofs.lemmas.Bool.{cases_eq, cases_lt}
 use Rattle.rd_model.proofs.GroupLaws.{joined_past, past_in_join}
-use Rattle.rd_history.specs.Vector.{VersionVector, join, none_counted}
+use Rattle.rd_history.specs.Vector.{VersionVector, none_counted}
 use Rattle.rd_history.specs.History.{Record, History, at, HasRecord}
 use Rattle.rd_history.specs.Cuts.{record_at, action_of, past_of, AreOperations}
 use Rattle.rd_history.proofs.HistoryLaws.{with_at_other, slice_get-below}

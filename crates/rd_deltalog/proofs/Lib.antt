@@ -4,3 +4,4 @@ pub mod InOrder
 pub mod Answering
 pub mod Keeping
 pub mod Grouping
+pub mod Following

@@ -82,7 +82,7 @@ impl<T: Replica> DeltaLog<T> {
     ghost use Rattle.rd_deltalog.specs.Contents.{appended, answer_by, IsMadeOf, IsDeltaFor};
     ghost use Rattle.rd_deltalog.specs.Answers.{answer_for};
     ghost use Rattle.rd_deltalog.specs.Answers.Answer.{AsGroup};
-    ghost use Rattle.rd_deltalog.specs.Words.{answer_in, IfGroup, HasRoom};
+    ghost use Rattle.rd_deltalog.specs.Words.{answer_in, IfGroup, HasRoom, all_appended, AreNext};
     ghost use Rattle.rd_deltalog.specs.Images.{StandsForLog};
 
     /// A log without records of an origin, for a key of this kind. Its last number is 0.
@@ -128,6 +128,16 @@ impl<T: Replica> DeltaLog<T> {
     {
         self.records.push(next.record, next.room);
         self.last += 1;
+    }
+
+    /// Adds records that were prepared from the log as it is, in their order, which takes no memory.
+    pub fn add_all(&mut self, records: Vec<NextRecord<T::Delta>>)
+        requires { AreNext T.IsOfOrigin T.delta_fits_kind self.old records.items }
+        ensures { self.new ≡ all_appended self.old records.items }
+    {
+        for next in records {
+            self.add(next);
+        }
     }
 
     /// The records after a number, up to the last, as one group.

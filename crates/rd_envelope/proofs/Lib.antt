@@ -7,3 +7,4 @@ pub mod Reading
 pub mod Judging
 pub mod Groups
 pub mod MarkPrunes
+pub mod Pruned

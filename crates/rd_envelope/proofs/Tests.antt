@@ -1,5 +1,5 @@
 -- Which identities have a performed mark after a change of the marks.
-use Rattle.std.proofs.Common.{rules, arith, min, if◌then◌else◌, ◌≡◌, ◌≢◌, ℕ, ◌⊎◌, Bool, true, false, ◌||◌, Option, Some, None, cond, nat_lt, refl, ap, sym, ◌∙◌, ⊎_elim, inl, inr}
+use Rattle.std.proofs.Common.{rules, arith, min, if◌then◌else◌, ◌≡◌, ◌≢◌, ℕ, Bool, true, false, ◌||◌, Option, Some, None, cond, nat_lt, refl, ap, sym, ◌∙◌, ⊎_elim}
 use Rattle.std.specs.FinMap as map
 use Rattle.std.proofs.lemmas.Bool.{cases_eq}
 use mathlib.Core.Bool.{or-true, or-false}

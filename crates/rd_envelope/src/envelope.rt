@@ -13,6 +13,7 @@ ghost use Rattle.rd_markers.specs.Marks.{mark_of, begun, is_performed, is_begun_
 ghost use Rattle.rd_lattice.specs.Refusals.{IsApplyRefusal};
 ghost use Rattle.rd_envelope.specs.Images.{StandsFor, StandsForGroup};
 ghost use Rattle.rd_envelope.specs.Words.{parts_of, group_parts, is_unchanged_at, with_mark, init_at, init_by, judgement_of, IsFirstUnknown};
+ghost use Rattle.rd_envelope.specs.Pruning.{init_as, init_of, IsPruned};
 ghost use Rattle.rd_envelope.specs.declared.outcomes.Perform.TheVariants as outcome;
 ghost use Rattle.rd_envelope.specs.declared.outcomes.Init.TheVariants as initial;
 
@@ -321,7 +322,10 @@ impl<T: Replica> Envelope<T> {
         ensures image { (log : History T.Op) (entry : Entry T.Op) → StandsFor T.IsDataOf (parts_of self.old) log entry → result ≡ Ok initial.Marked
             → StandsFor T.IsDataOf (parts_of self.new) log (with_mark entry removed owner view) }
         ensures outcome { (log : History T.Op) (entry : Entry T.Op) → StandsFor T.IsDataOf (parts_of self.old) log entry → IfOk result (λ init. init ≡ init_at entry removed view) }
+        ensures init { IfOk result (λ init. init ≡ init_of (parts_of self.old) removed view) }
         ensures value { self.new.value ≡ self.old.value }
+        ensures versions { self.new.versions ≡ self.old.versions }
+        ensures performed { (r : ℕ) → performed_in self.new.markers r ≡ performed_in self.old.markers r }
         ensures stays { (result ≡ Ok initial.Marked → ⊥) → self.new ≡ self.old }
     {
         if self.versions.at(removed) == 0 {
@@ -360,6 +364,9 @@ impl<T: Replica> Envelope<T> {
         ensures marked { is_begun_at (mark_of self.old.markers removed) view ≡ false → result ≡ Ok outcome.NothingMarked }
         ensures waiting { (i : ℕ) (mark : Mark) → begun (mark_of self.old.markers removed) ≡ Some mark → result ≡ Ok (outcome.Waiting i) → unseen mark members.now ≡ Some i }
         ensures seen { (i : ℕ) (mark : Mark) → begun (mark_of self.old.markers removed) ≡ Some mark → mark.view ≡ view → unseen mark members.now ≡ Some i → result ≡ Ok (outcome.Waiting i) }
+        ensures pruned { result ≡ Ok outcome.Performed → IsPruned removed owner (parts_of self.old) (parts_of self.new) }
+        ensures forgotten { (log : History T.Op) (entry : Entry T.Op) → StandsFor T.IsDataOf (parts_of self.old) log entry → IsTakenFrom log (with_prune entry owner removed).history
+            → result ≡ Ok outcome.Performed → T.mentioned self.new.value removed ≡ false }
         ensures kind { T.kind_of self.new.value ≡ T.kind_of self.old.value }
         ensures stays { (result ≡ Ok outcome.Performed → ⊥) → self.new ≡ self.old }
     {
@@ -387,9 +394,13 @@ impl<T: Replica> Envelope<T> {
             → T.data_type.blocked (T.kind_of self.old.value) owner removed entry.history ≡ None }
         ensures marked { result ≡ Ok outcome.NothingMarked → ⊥ }
         ensures seen { (i : ℕ) → result ≡ Ok (outcome.Waiting i) → ⊥ }
+        ensures pruned { result ≡ Ok outcome.Performed → IsPruned removed owner (parts_of self.old) (parts_of self.new) }
+        ensures forgotten { (log : History T.Op) (entry : Entry T.Op) → StandsFor T.IsDataOf (parts_of self.old) log entry → IsTakenFrom log (with_prune entry owner removed).history
+            → result ≡ Ok outcome.Performed → T.mentioned self.new.value removed ≡ false }
         ensures kind { T.kind_of self.new.value ≡ T.kind_of self.old.value }
         ensures stays { (result ≡ Ok outcome.Performed → ⊥) → self.new ≡ self.old }
     {
+        let _below_limit = owner.number();
         let at = self.versions.at(owner) + 1;
         let upto = self.versions.at(removed);
         let mut markers = self.markers.copy(self.alloc)?;
@@ -427,6 +438,7 @@ impl<T: Replica> Envelope<T> {
 fn first_step(marker: Option<Marker>, view: u32) -> Init
     ensures unpruned { is_performed marker ≡ false → result ≡ init_by (begun marker) view }
     ensures pruned { is_performed marker ≡ true → result ≡ initial.NothingKnown }
+    ensures init { result ≡ init_as marker view }
 {
     match marker {
         None => Init::Marked,

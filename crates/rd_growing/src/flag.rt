@@ -249,5 +249,7 @@ impl SpelledData for Flag {
 
     ghost spelled_is_read = { λ x _ rest _ _. spellings.flag_again x rest };
 
+    ghost mentioned_few = { λ _ _ _ _. refl };
+
     ghost spelling_means = { λ state log held _ pruned is. ap switch_spelled (laws.on_means enables state log held pruned.cut is) };
 }

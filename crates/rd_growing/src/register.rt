@@ -402,6 +402,8 @@ impl SpelledData for LwwRegister {
 
     ghost spelled_is_read = { λ x _ rest sound _. spellings.register_again x rest sound };
 
+    ghost mentioned_few = { λ _ _ _ _. refl };
+
     ghost spelling_means = { λ state log held _ _ is. ap register_spelled (laws.write_means assigned log state held is) };
 }
 

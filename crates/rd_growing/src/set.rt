@@ -365,5 +365,7 @@ impl SpelledData for GSet {
 
     ghost spelled_is_read = { λ x _ rest sound _. spellings.set_again x rest sound };
 
+    ghost mentioned_few = { λ _ _ _ _. refl };
+
     ghost spelling_means = { λ state log held _ pruned is. ap set_spelled (laws.set_means added state log held pruned.cut is) };
 }

@@ -1,4 +1,5 @@
 ghost use Rattle.std.specs.Prelude.{◌≡◌, ℕ, ◌≤◌, ◌++◌, List, length, drop, Bool, true, false, Result, Ok, OnOk, OnErr};
+ghost use Rattle.rd_history.specs.Table.{identity_limit};
 ghost use Rattle.rd_history.specs.Vector.{VersionVector, IdentitySet};
 ghost use Rattle.rd_history.specs.History.{History, cut};
 ghost use Rattle.rd_history.specs.Cuts.{IsPrunedCut};
@@ -66,6 +67,9 @@ pub trait SpelledData: Replica {
         → Takes bytes (spelled x) rest × IsSound x × (byte_of (Self.kind_of x) ≡ kind) × ((i : ℕ) → barred i ≡ true → Self.mentioned x i ≡ false) };
 
     ghost spelled_is_read: { (x : Self) (barred : IdentitySet) (rest : List ℕ) → IsSound x → ((i : ℕ) → barred i ≡ true → Self.mentioned x i ≡ false) → read_in (byte_of (Self.kind_of x)) barred (spelled x ++ rest) ≡ Ok (x, rest) };
+
+    // Data mention identities alone.
+    ghost mentioned_few: { (state : Self) (id : ℕ) → IsSound state → identity_limit ≤ id → Self.mentioned state id ≡ false };
 
     // Data of a history are spelled as the history says.
     ghost spelling_means: { (state : Self) (log : History Self.Op) (held : VersionVector) (gone : IdentitySet) → IsPrunedCut log held gone → Self.IsDataOf state log held gone → spelled state ≡ history_spelled (Self.kind_of state) (cut log held) };

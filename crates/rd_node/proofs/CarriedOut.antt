@@ -5,7 +5,7 @@ use Rattle.std.specs.declared.vec.Vec.{Vec}
 use Rattle.std.proofs.lemmas.List.{with_items_is}
 use Rattle.rd_node.specs.declared.key.KeyState.{KeyState}
 use Rattle.rd_node.specs.declared.plan.Plan.{Plan}
-use Rattle.rd_node.specs.declared.plan.Plan.TheVariants.{Nothing, At, Each}
+use Rattle.rd_node.specs.declared.plan.Plan.TheVariants.{Nothing, At, Each, Ticked}
 use Rattle.rd_node.specs.Planning.{recorded, IsPlanned}
 
 module _ {T Kind Op Delta : Type 0} where
@@ -13,6 +13,7 @@ module _ {T Kind Op Delta : Type 0} where
   planned_length Nothing keys after p = ap length p
   planned_length (At index entry next) keys after p = ap length p.2 ∙ length-set keys index (recorded p.0 entry next)
   planned_length (Each changes) keys after p = p.same_length
+  planned_length (Ticked ticks) keys after p = p.same_length
 
   -- a slice that was written is the vector's items
   pub planned_back : {Z : Type 0} (keys : Vec (KeyState T Kind Op Delta) Z) (old new : List (KeyState T Kind Op Delta)) (plan : Plan T Kind Op Delta) → old ≡ keys.items → IsPlanned old plan new → IsPlanned keys.items plan (with_items keys new).items

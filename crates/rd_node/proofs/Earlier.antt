@@ -120,8 +120,8 @@ module _ {T Kind Op Delta : Type 0} (ghosts : Ghosts T Kind Op Delta) (id given 
       | inr many ↦ absurd (let no : Some mark ≡ None = sym has ∙ marks.few r many in cc no)
     ]
 
-    pub names_earlier : NamesEarlier ghosts id given parts
-    names_earlier = record {
+    pub names_earlier : ((i : ℕ) → identity_limit ≤ i → ghosts.mentioned parts.value i ≡ false) → NamesEarlier ghosts id given parts
+    names_earlier unmentioned = record {
       counted = λ i some. elim (cases_lt i identity_limit) [
         | inl few ↦ earlier_named i few (named_counted i (lt-ltb 0 (number_at parts.versions i) (omega arith)))
         | inr many ↦ absurd (some (number_at_above parts.versions versions.normal i many))
@@ -130,7 +130,10 @@ module _ {T Kind Op Delta : Type 0} (ghosts : Ghosts T Kind Op Delta) (id given 
         earlier_marked r r mark has few few (first_of (r == r) (mark_names mark r) (named_itself r)),
         earlier_mark r mark has few (marks.each r mark has),
       );
-      mentioned = λ i few e. earlier_named i few (named_mentioned i e);
+      mentioned = λ i e. elim (cases_lt i identity_limit) [
+        | inl few ↦ earlier_named i few (named_mentioned i e)
+        | inr many ↦ absurd (let no : true ≡ false = sym e ∙ unmentioned i many in cc no)
+      ];
     }
 
   module _ (names : NamesEarlier ghosts id given parts) where
@@ -155,7 +158,7 @@ module _ {T Kind Op Delta : Type 0} (ghosts : Ghosts T Kind Op Delta) (id given 
     earlier_all i few e = elim (either _ (list_any (λ r. names_at r (mark_of parts.marks r) i) identities) e) [
       | inl own ↦ elim (either (nat_lt 0 (number_at parts.versions i)) (ghosts.mentioned parts.value i) own) [
         | inl counted ↦ names.counted i (λ zero. let some = ltb-true 0 (number_at parts.versions i) counted in omega arith)
-        | inr mentioned ↦ names.mentioned i few mentioned
+        | inr mentioned ↦ names.mentioned i mentioned
       ]
       | inr marked ↦ let found = Any-from_list_any (λ r. names_at r (mark_of parts.marks r) i) identities marked in by_marks found.1 i (mark_of parts.marks found.1) refl found.4
     ]

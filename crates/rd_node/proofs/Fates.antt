@@ -7,15 +7,15 @@ use Rattle.std.specs.Prelude.{map, filter, if◌then◌else◌, nat_le, ◌==◌
 use Rattle.rd_history.specs.Texts.{Text}
 use Rattle.rd_history.specs.History.{History}
 use Rattle.rd_meanings.specs.Refusal.{Refusal}
-use Rattle.rd_model.specs.View.{View, is_member}
+use Rattle.rd_model.specs.View.{View, is_member, leader}
 use Rattle.rd_model.specs.Entry.{Entry, Group, is_unchanged, seen_by}
 use Rattle.rd_model.specs.DataType.{Replication}
-use Rattle.rd_model.specs.Message.{Keyed, Message}
+use Rattle.rd_model.specs.Message.{Keyed, Message, Post}
 use Rattle.rd_model.specs.Message.Message.{Deltas, Nack, Status, Gossip}
-use Rattle.rd_model.specs.Node.{KeyDecl, KeyState, Node, Input, Fate, Level, Stepped, state_of, key_state, one_step_later, needed}
+use Rattle.rd_model.specs.Node.{KeyDecl, KeyState, Node, Input, Fate, Level, Reply, Stepped, state_of, key_state, one_step_later, needed}
 use Rattle.rd_model.specs.Node.Fate.{NoStore, Stored, StoreFailed}
-use Rattle.rd_model.specs.Node.Reply.{Done, WrongKind, NotStored, NotFromMember, OldView, Installed, NotAPeer}
-use Rattle.rd_model.specs.Step.{step, step_of_take, to_store, answered, sent, answer_to, status_of, member_count}
+use Rattle.rd_model.specs.Node.Reply.{Done, WrongKind, NotStored, NotFromMember, OldView, Installed, NotAPeer, Ticked, TickedNotStored, NotLeader}
+use Rattle.rd_model.specs.Step.{step, step_of_take, to_store, answered, sent, answer_to, status_of, member_count, outcomes_of, entry_after_tick, KeyGap, take_reply, took, is_changed, after_groups, after_entries, nack_to, gossip_to as gossip_after, named_entries}
 use Rattle.rd_model.proofs.Cases.{updated, updated_needing, updated_unless}
 use Rattle.rd_model.proofs.Changes.{step-get-only}
 use Rattle.rd_model.proofs.Taking.{is_unchanged-same}
@@ -37,10 +37,15 @@ pub data IsOfProgram {Op : Type 0} : Input Op → Type 0 where
   install : (view : View) → IsOfProgram (Input.Install view)
   flush : IsOfProgram Input.Flush
   gossip_to : (i : ℕ) → IsOfProgram (Input.GossipTo i)
+  prune_tick : IsOfProgram Input.PruneTick
 
--- with the reply of a failed store
+-- the reply of a failed store
+abbrev pub failed_reply : {Shown : Type 0} → Reply Shown → Reply Shown
+failed_reply (Ticked outcomes) = TickedNotStored outcomes
+failed_reply _ = NotStored
+
 abbrev pub failed : {Kind Op Shown : Type 0} → Stepped Kind Op Shown → Stepped Kind Op Shown
-failed stepped = record stepped { output = record stepped.output { reply = NotStored } }
+failed stepped = record stepped { output = record stepped.output { reply = failed_reply stepped.output.reply } }
 
 module _ {Kind Op Shown : Type 0} (D : Replication Kind Op Shown) (node : Node Kind Op Shown) where
   abbrev later : Node Kind Op Shown
@@ -67,6 +72,7 @@ module _ {Kind Op Shown : Type 0} (D : Replication Kind Op Shown) (node : Node K
   same_stored i (install view) = refl
   same_stored i flush = refl
   same_stored i (gossip_to j) = refl
+  same_stored i prune_tick = refl
 
   -- UPDATES
 
@@ -97,6 +103,17 @@ module _ {Kind Op Shown : Type 0} (D : Replication Kind Op Shown) (node : Node K
 
   -- MESSAGES
 
+  take_failed : (gaps : List KeyGap) (unchanged : Bool) → NotStored ≡ failed_reply (take_reply D NoStore gaps unchanged)
+  take_failed [] true = refl
+  take_failed [] false = refl
+  take_failed (gap ∷ gaps) unchanged = refl
+
+  took_fails : (after : Node Kind Op Shown) (gaps : List KeyGap) (posts : List (Post Op)) → Fails (took D later after NoStore gaps posts) (took D later after StoreFailed gaps posts)
+  took_fails after gaps posts = record {
+    node_is = refl;
+    failed_is = λ some. ap (λ reply. sent after reply posts) (take_failed gaps (not (is_changed later after)));
+  }
+
   take_by : (from : ℕ) (m : Message Op) → Fails (step_of_take D later from NoStore m) (step_of_take D later from StoreFailed m) → (b : Bool)
       → Fails (if b then step_of_take D later from NoStore m else answered later NotFromMember) (if b then step_of_take D later from StoreFailed m else answered later NotFromMember)
   take_by from m fails true = fails
@@ -112,16 +129,25 @@ module _ {Kind Op Shown : Type 0} (D : Replication Kind Op Shown) (node : Node K
   gossip_by i true = quiet (answered later NotAPeer) (λ key. refl)
   gossip_by i false = quiet (sent later Done (answer_to D i (status_of D later))) (λ key. refl)
 
+  tick_by : (b : Bool) → Fails
+      (if b then answered later (NotLeader (leader node.view)) else answered (record later { entries = entry_after_tick D later }) (Ticked (outcomes_of D later)))
+      (if b then answered later (NotLeader (leader node.view)) else answered (record later { entries = entry_after_tick D later }) (TickedNotStored (outcomes_of D later)))
+  tick_by true = quiet (answered later (NotLeader (leader node.view))) (λ key. refl)
+  tick_by false = record { node_is = refl; failed_is = λ some. refl }
+
   fails : (i : Input Op) → IsOfProgram i → Fails (step D node i NoStore) (step D node i StoreFailed)
   fails i (update key op) = update_by (key_state later key) op
   fails i (get key) = quiet (step D node (Input.Get key Level.Local) NoStore) (λ name. ap (λ n. n.entries name) (step-get-only D node key NoStore))
-  fails i (deltas from groups entries) = take_by from (Deltas groups entries) (record { node_is = refl; failed_is = λ some. refl }) (is_member node.view from)
+  fails i (deltas from groups entries) = take_by from (Deltas groups entries)
+      (let taken = after_groups later groups in took_fails (after_entries taken.node entries) taken.gaps (nack_to D from taken.gaps)) (is_member node.view from)
   fails i (nack from keys) = take_by from (Nack keys) (quiet (step_of_take D later from NoStore (Nack keys)) (λ key. refl)) (is_member node.view from)
   fails i (status from digests) = take_by from (Status digests) (quiet (step_of_take D later from NoStore (Status digests)) (λ key. refl)) (is_member node.view from)
-  fails i (gossip from entries wants) = take_by from (Gossip entries wants) (record { node_is = refl; failed_is = λ some. refl }) (is_member node.view from)
+  fails i (gossip from entries wants) = take_by from (Gossip entries wants)
+      (let after = after_entries later entries in took_fails after [] (gossip_after D from (named_entries D after wants) [])) (is_member node.view from)
   fails i (install view) = install_by view (nat_le view.number node.view.number)
   fails i flush = quiet (step D node Input.Flush NoStore) (λ key. refl)
   fails i (gossip_to j) = gossip_by j ((j == node.identity) || not (is_member node.view j))
+  fails i prune_tick = tick_by (not (leader node.view == node.identity))
 
   pub same_failed : (i : Input Op) → IsOfProgram i → to_store node (step D node i NoStore).node ≢ [] → step D node i StoreFailed ≡ failed (step D node i NoStore)
   same_failed i of = (fails i of).failed_is
@@ -147,3 +173,4 @@ module _ {T Kind Op Delta : Type 0} {ghosts : Ghosts T Kind Op Delta} (kinds : T
   of_program (input.Install view) sent s = subst IsOfProgram (sym s) (install view)
   of_program input.Flush sent s = subst IsOfProgram (sym s) flush
   of_program (input.GossipTo i) sent s = subst IsOfProgram (sym s) (gossip_to i)
+  of_program input.PruneTick sent s = subst IsOfProgram (sym s) prune_tick

@@ -65,7 +65,7 @@ module _ {T Kind Op Delta : Type 0} (ghosts : Ghosts T Kind Op Delta) (id given 
   names_fit = record {
     counted = λ i ne. held_earlier i (λ zero. ne (stands.holds.numbers i ∙ zero));
     marked = mark_named;
-    mentioned = λ i few e. held_earlier i (λ zero. let no : true ≡ false = sym e ∙ unmentioned parts.value log held (performed_in parts.marks) i stands.holds.state zero in cc no);
+    mentioned = λ i e. held_earlier i (λ zero. let no : true ≡ false = sym e ∙ unmentioned parts.value log held (performed_in parts.marks) i stands.holds.state zero in cc no);
   }
 
 module _ {T Kind Op Delta : Type 0} (ghosts : Ghosts T Kind Op Delta) (spelling : Spelling T Kind Op Delta)

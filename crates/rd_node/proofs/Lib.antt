@@ -35,3 +35,8 @@ pub mod Earlier
 pub mod Restorings
 pub mod Loaded
 pub mod Fitting
+pub mod Ticks
+pub mod Courses
+pub mod Leading
+pub mod Performing
+pub mod TickSteps

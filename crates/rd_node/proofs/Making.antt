@@ -18,17 +18,40 @@ use Rattle.rd_node.specs.declared.input.Input.{Input}
 use Rattle.rd_node.specs.declared.plan.Prepared.{Prepared}
 use Rattle.rd_node.specs.declared.reply.Fate.{Fate}
 use Rattle.rd_node.specs.declared.reply.Fate.TheVariants.{NoStore, Stored, StoreFailed}
-use Rattle.rd_node.specs.Replies.{meant_fate}
+use Rattle.rd_node.specs.declared.reply.Reply.{Reply}
+use Rattle.rd_node.specs.declared.reply.Reply.TheVariants as reply
+use Rattle.rd_node.specs.Replies.{meant, meant_fate}
 use Rattle.rd_node.specs.Members.{IsSafe, StandsForNode}
 use Rattle.rd_node.specs.Stores.{spelled_entry, IsKept}
 use Rattle.rd_node.specs.Steps.{replication, StandsForOutput, IsCalled, IsKeptBy, KeepsTable, IsImage, IsStepOf}
 use Rattle.rd_node.specs.Planning.{IsPrepared}
 use Rattle.rd_node.specs.Preparing.{IsSoundFor, Prepares}
-use Rattle.rd_node.specs.Outputs.{after_fate}
+use Rattle.rd_node.specs.Outputs.{failed as failed_code, after_fate}
 use Rattle.rd_node.specs.Storing.{AreSpelled}
 use Rattle.rd_node.specs.Carrying.{IsCarried}
 use Rattle.rd_node.proofs.Keepers.{becomes_same}
-use Rattle.rd_node.proofs.Fates.{IsOfProgram, of_program, failed, same_stored, same_failed, node_same}
+use Rattle.rd_node.proofs.Fates.{IsOfProgram, of_program, failed, failed_reply, same_stored, same_failed, node_same}
+
+failed_meant : (r : Reply) → meant (failed_code r) ≡ failed_reply (meant r)
+failed_meant reply.Done = refl
+failed_meant (reply.Value shown) = refl
+failed_meant reply.NotFound = refl
+failed_meant reply.UnknownKey = refl
+failed_meant reply.WrongKind = refl
+failed_meant (reply.Overflow share amount) = refl
+failed_meant reply.ClockSpent = refl
+failed_meant reply.SetFull = refl
+failed_meant reply.StoreFailed = refl
+failed_meant reply.Taken = refl
+failed_meant reply.Already = refl
+failed_meant (reply.Gap i) = refl
+failed_meant reply.NotFromMember = refl
+failed_meant reply.Installed = refl
+failed_meant reply.OldView = refl
+failed_meant reply.NotAPeer = refl
+failed_meant (reply.Ticked outcomes) = refl
+failed_meant (reply.TickedStoreFailed outcomes) = refl
+failed_meant (reply.NotLeader i) = refl
 
 map_none : {X Y : Type 0} (f : X → Y) (xs : List X) → map f xs ≡ [] → xs ≡ []
 map_none f [] e = refl
@@ -102,7 +125,7 @@ module _ {T K Kind Op Delta : Type 0} {ghosts : Ghosts T Kind Op Delta} {keeping
         finish kinds logs node s sent of p (failed (step (replication ghosts spelling) node sent nodes.Fate.NoStore))
         (ap (λ f. step (replication ghosts spelling) node sent (meant_fate f)) is ∙ same_failed (replication ghosts spelling) node sent of (some_put kept.0)) refl
         (subst (λ f. FitsFate (replication ghosts spelling) node sent (meant_fate f)) (sym is) (λ none. some_put kept.0 (sym (ap (λ st. to_store node st.node) as_stored) ∙ none)))
-        (subst (λ f. StandsForOutput kinds logs (after_fate f prepared.output) (failed (step (replication ghosts spelling) node sent nodes.Fate.NoStore)).output) (sym is) (record { reply = refl; posts = p.answers.posts; ended = p.answers.ended }))
+        (subst (λ f. StandsForOutput kinds logs (after_fate f prepared.output) (failed (step (replication ghosts spelling) node sent nodes.Fate.NoStore)).output) (sym is) (record { reply = failed_meant prepared.output.reply ∙ ap failed_reply p.answers.reply; posts = p.answers.posts; ended = p.answers.ended }))
         (subst (λ f. KeepsTable spelling keeping f to_put old.keeper new.keeper) (sym is) kept.2)
 
   called_by : (f : Fate) → IsKeptBy keeping c.items f old.keeper new.keeper → IsCalled keeping f old.keeper new.keeper

@@ -1,6 +1,6 @@
 -- Plans that can be carried out, and what a member keeps under them.
-use Rattle.std.proofs.Common.{◌≡◌, ◌≢◌, ℕ, ◌+◌, ◌<◌, ◌≤◌, List, length, get_or, set, refl, sym, ap, ◌∙◌, subst, arith, false, Some, None, inl, inr, ◌==◌, eq-eqb}
-use Rattle.std.specs.Prelude.{map, All, if◌then◌else◌}
+use Rattle.std.proofs.Common.{◌≡◌, ◌≢◌, ℕ, zero, suc, ◌+◌, ◌*◌, ◌<◌, ◌≤◌, List, [], ◌∷◌, length, get_or, set, refl, sym, ap, ◌∙◌, subst, arith, false, Option, Some, None, inl, inr, ◌==◌, eq-eqb}
+use Rattle.std.specs.Prelude.{map, All, if◌then◌else◌, slice_get, unwrap_or}
 use Rattle.std.specs.Global.{Vec}
 use Rattle.std.proofs.lemmas.Bool.{cases_eq}
 use Rattle.std.proofs.lemmas.List.{get_or-set_same, get_or-set_other, get_or_default, length-set}
@@ -14,20 +14,34 @@ use Rattle.rd_markers.specs.Marks.{performed_in}
 use Rattle.rd_kinds.specs.declared.shown.Shown.{Shown}
 use Rattle.rd_lattice.specs.declared.replica.Replica.{Ghosts}
 use Rattle.rd_envelope.specs.declared.envelope.Envelope.{Envelope}
+use Rattle.rd_envelope.specs.Images.{StandsFor}
 use Rattle.rd_envelope.specs.Words.{parts_of}
+use Rattle.rd_deltalog.proofs.Following.{last_later, kind_later, origin_later}
+use Rattle.rd_node.specs.declared.ticking.KeyTick.{KeyTick}
+use Rattle.rd_node.specs.Ticking.{IsKeyTick}
 use Rattle.rd_deltalog.specs.declared.delta_log.NextRecord.{NextRecord}
 use Rattle.rd_node.specs.declared.key.KeyState.{KeyState}
 use Rattle.rd_node.specs.declared.change.Change.{Change}
 use Rattle.rd_node.specs.declared.change.Change.TheVariants.{Same, Entry, Flushed}
-use Rattle.rd_node.specs.declared.plan.Plan.TheVariants.{Nothing, At, Each}
+use Rattle.rd_node.specs.declared.plan.Plan.TheVariants.{Nothing, At, Each, Ticked}
 use Rattle.rd_node.specs.Own.{IsLogged, AreOfTheirKinds}
 use Rattle.rd_node.specs.Keys.{AreDistinct, declared_by}
 use Rattle.rd_node.specs.Sending.{own_number}
 use Rattle.rd_node.specs.Changes.{changed, AreChanged, AreMade}
 use Rattle.rd_node.specs.Members.{StandsForKey}
 use Rattle.rd_node.specs.Taking.{StandsAfter}
-use Rattle.rd_node.specs.Planning.{recorded, IsPlanned, new_entry, entry_in, CanRecord, AreOwned, IsSoundPlan, LeadsOn}
+use Rattle.rd_node.specs.Planning.{recorded, ticked, AreTicked, entry_told, IsPlanned, new_entry, entry_in, CanRecord, AreOwned, IsSoundPlan, LeadsOn}
 use Rattle.rd_node.proofs.Stepping.{map-places, same_name, same_declared, few_changed, unpruned_changed, logged_changed}
+
+-- some element of a list that has one
+some : {X : Type 0} (xs : List X) (k : ℕ) → k < length xs → X
+some [] k within = absurd (omega arith)
+some (x ∷ xs) k within = x
+
+slice_get-some : {X : Type 0} (xs : List X) (k : ℕ) (d : X) → k < length xs → slice_get xs k ≡ Some (get_or xs k d)
+slice_get-some [] k d within = absurd (omega arith)
+slice_get-some (x ∷ xs) zero d within = refl
+slice_get-some (x ∷ xs) (suc k) d within = slice_get-some xs k d (omega arith)
 
 module _ {T Kind Op Delta : Type 0} (ghosts : Ghosts T Kind Op Delta) (id steps : ℕ) (keys : List (KeyState T Kind Op Delta)) (own : AreOwned ghosts id steps keys) where
   -- one step later they are kept
@@ -81,6 +95,53 @@ module _ {T Kind Op Delta : Type 0} (ghosts : Ghosts T Kind Op Delta) (id steps 
           ∙ kind (get_or keys k d) (get_or changes.items k Same) (made.made k d Same within) ∙ own.of_kinds k d within;
     }
 
+  -- A TICK OF EACH
+
+  module _ (ticks : Vec (KeyTick T Kind Op Delta)) (made : AreMade (IsKeyTick ghosts id) keys ticks.items) where
+    sample : (k : ℕ) → k < length keys → KeyTick T Kind Op Delta
+    sample k within = some ticks.items k (let l = made.one_each in omega arith)
+
+    name_stays : (after : List (KeyState T Kind Op Delta)) → AreTicked keys ticks.items after → map (λ (state : KeyState T Kind Op Delta). state.name) after ≡ map (λ (state : KeyState T Kind Op Delta). state.name) keys
+    name_stays after is = map-places (λ (state : KeyState T Kind Op Delta). state.name) keys after is.same_length (λ k d within. ap (λ (state : KeyState T Kind Op Delta). state.name) (is.each k d (sample k within) within))
+
+    -- what holds of each key after its tick
+    each_ticked : (P : KeyState T Kind Op Delta → Type 0) → ((k : ℕ) (d : KeyState T Kind Op Delta) (e : KeyTick T Kind Op Delta) → k < length keys → P (ticked (get_or keys k d) (get_or ticks.items k e)))
+        → (after : List (KeyState T Kind Op Delta)) → AreTicked keys ticks.items after → All P after
+    each_ticked P holds after is k d within =
+        let inside : k < length keys = (let l = is.same_length in omega arith) in
+        let e = sample k inside in
+        subst P (sym (is.each k d e inside)) (holds k d e inside)
+
+    logged_ticked : (state : KeyState T Kind Op Delta) (tick : KeyTick T Kind Op Delta) → IsKeyTick ghosts id state tick → ghosts.kind_of state.entry.value ≡ state.kind → IsLogged ghosts.kind_of id state → IsLogged ghosts.kind_of id (ticked state tick)
+    logged_ticked state tick is kind before = record {
+      origin = origin_later state.log tick.prunes.items ∙ before.origin;
+      kind = kind_later state.log tick.prunes.items ∙ before.kind ∙ kind ∙ sym is.kind;
+      last = last_later state.log tick.prunes.items ∙ ap (λ n. n + length tick.prunes.items) before.last ∙ sym is.number;
+    }
+
+    pub sound_ticked : IsSoundPlan ghosts id steps keys (Ticked ticks)
+    sound_ticked = record {
+      can = record { one_each = made.one_each; made = λ k d e within. (made.made k d e within).follows };
+      owned = λ after is. record {
+        few = each_ticked (λ state. own_number id state ≤ 255 * (steps + 1)) (λ k d e within.
+            let m = made.made k d e within in
+            let number = m.number in
+            let few = m.few in
+            let before = own.few k d within in
+            omega (arith, number, few, before)) after is;
+        unpruned = each_ticked (λ state. performed_in (parts_of state.entry).marks id ≡ false) (λ k d e within. (made.made k d e within).unpruned) after is;
+        logged = each_ticked (IsLogged ghosts.kind_of id) (λ k d e within. logged_ticked (get_or keys k d) (get_or ticks.items k e) (made.made k d e within) (own.of_kinds k d within) (own.logged k d within)) after is;
+        of_kinds = each_ticked (λ state. ghosts.kind_of state.entry.value ≡ state.kind) (λ k d e within. (made.made k d e within).kind) after is;
+        distinct = subst AreDistinct (sym (name_stays after is)) own.distinct;
+      };
+      declared = λ after is. map-places declared_by keys after is.same_length (λ k d within. ap declared_by (is.each k d (sample k within) within));
+      kinds = λ k d entry within found.
+          let e = sample k within in
+          let tick = get_or ticks.items k e in
+          let told : tick.entry ≡ Some entry = sym (ap entry_told (slice_get-some ticks.items k e (let l = made.one_each in omega arith))) ∙ found in
+          ap (λ o. ghosts.kind_of (unwrap_or o (get_or keys k d).entry).value) (sym told) ∙ (made.made k d e within).kind;
+    }
+
   -- ONE OWN RECORD
 
   module _ (index : ℕ) (at : KeyState T Kind Op Delta) (entry : Envelope T Kind Op Delta) (next : NextRecord Delta) (can : CanRecord ghosts keys index next) (is : at ≡ get_or keys index at)
@@ -100,7 +161,7 @@ module _ {T Kind Op Delta : Type 0} (ghosts : Ghosts T Kind Op Delta) (id steps 
 
     owned_set : AreOwned ghosts id (steps + 1) (set keys index (recorded at entry next))
     owned_set = record {
-      few = each_after (λ state. own_number id state ≤ steps + 1) (let few = at_fact (λ state. own_number id state ≤ steps) own.few in let n = number in omega (arith, n, few)) (λ k d within. let few = own.few k d within in omega arith);
+      few = each_after (λ state. own_number id state ≤ 255 * (steps + 1)) (let few = at_fact (λ state. own_number id state ≤ 255 * steps) own.few in let n = number in omega (arith, n, few)) (λ k d within. let few = own.few k d within in omega arith);
       unpruned = each_after (λ state. performed_in (parts_of state.entry).marks id ≡ false) (ap (λ m. performed_in m id) marks ∙ at_fact (λ state. performed_in (parts_of state.entry).marks id ≡ false) own.unpruned) own.unpruned;
       logged = each_after (IsLogged ghosts.kind_of id) (let l = at_fact (IsLogged ghosts.kind_of id) own.logged in record { origin = l.origin; kind = l.kind ∙ sym kind; last = ap (λ n. n + 1) l.last ∙ sym number }) own.logged;
       of_kinds = each_after (λ state. ghosts.kind_of state.entry.value ≡ state.kind) (kind ∙ at_fact (λ state. ghosts.kind_of state.entry.value ≡ state.kind) own.of_kinds) own.of_kinds;
@@ -201,3 +262,26 @@ module _ {T Kind Op Delta : Type 0} (ghosts : Ghosts T Kind Op Delta) (kinds : T
       after_by state Same s still = still refl
       after_by state (Entry entry) s still = s.held.image
       after_by state (Flushed flushed) s still = still refl
+
+  -- where each has a tick
+  pub leads_ticked : (ticks : Vec (KeyTick T Kind Op Delta)) → length ticks.items ≡ length keys
+      → ((k : ℕ) (d : KeyState T Kind Op Delta) (e : KeyTick T Kind Op Delta) → k < length keys → StandsForKey ghosts.kind_of ghosts.IsDataOf ghosts.IsDeltaOf kinds logs (get_or keys k d) (old.entries (get_or keys k d).name) (old.flushed (get_or keys k d).name)
+      → StandsForKey ghosts.kind_of ghosts.IsDataOf ghosts.IsDeltaOf kinds logs (ticked (get_or keys k d) (get_or ticks.items k e)) (next.entries (get_or keys k d).name) (next.flushed (get_or keys k d).name))
+      → ((k : ℕ) (d : KeyState T Kind Op Delta) (e : KeyTick T Kind Op Delta) → k < length keys → (get_or ticks.items k e).entry ≡ None → next.entries (get_or keys k d).name ≡ old.entries (get_or keys k d).name)
+      → LeadsOn ghosts kinds logs keys old next (Ticked ticks)
+  leads_ticked ticks one_each each still = record {
+    stands = λ after is k d within.
+        let inside : k < length keys = (let l = is.same_length in omega arith) in
+        let e = some ticks.items k (omega arith) in
+        subst (λ (state : KeyState T Kind Op Delta). StandsForKey ghosts.kind_of ghosts.IsDataOf ghosts.IsDeltaOf kinds logs state (next.entries state.name) (next.flushed state.name)) (sym (is.each k d e inside)) (each k d e inside (held k d inside));
+    leads = λ k d within.
+        let e = some ticks.items k (omega arith) in
+        subst (λ o. StandsAfter ghosts.IsDataOf (logs (get_or keys k d).name) (entry_told o) (old.entries (get_or keys k d).name) (next.entries (get_or keys k d).name)) (sym (slice_get-some ticks.items k e (omega arith)))
+        (after_tick (get_or keys k d) (get_or ticks.items k e) (get_or ticks.items k e).entry refl (each k d e within (held k d within)) (still k d e within));
+  }
+    where
+      after_tick : (state : KeyState T Kind Op Delta) (tick : KeyTick T Kind Op Delta) (o : Option (Envelope T Kind Op Delta)) → tick.entry ≡ o
+          → StandsForKey ghosts.kind_of ghosts.IsDataOf ghosts.IsDeltaOf kinds logs (ticked state tick) (next.entries state.name) (next.flushed state.name)
+          → (tick.entry ≡ None → next.entries state.name ≡ old.entries state.name) → StandsAfter ghosts.IsDataOf (logs state.name) o (old.entries state.name) (next.entries state.name)
+      after_tick state tick None is s still = still is
+      after_tick state tick (Some entry) is s still = subst (λ (e : Envelope T Kind Op Delta). StandsFor ghosts.IsDataOf (parts_of e) (logs state.name) (next.entries state.name)) (ap (λ o. unwrap_or o state.entry) is) s.held.image

@@ -17,10 +17,10 @@ module _ {T Kind Op Delta : Type 0} where
     pub same_length : length new ≡ length old
     pub each : (k : ℕ) (d : KeyState T Kind Op Delta) (e : Change T Kind Op Delta) → k < length old → slice_index_or new k d ≡ changed (slice_index_or old k d) (slice_index_or changes k e)
 
-  -- a change for each key, made of it
-  pub record AreMade (Makes : KeyState T Kind Op Delta → Change T Kind Op Delta → Type 0) (keys : List (KeyState T Kind Op Delta)) (changes : List (Change T Kind Op Delta)) : Type 0 where
+  -- something for each key, made of it
+  pub record AreMade {C : Type 0} (Makes : KeyState T Kind Op Delta → C → Type 0) (keys : List (KeyState T Kind Op Delta)) (changes : List C) : Type 0 where
     pub one_each : length changes ≡ length keys
-    pub made : (k : ℕ) (d : KeyState T Kind Op Delta) (e : Change T Kind Op Delta) → k < length keys → Makes (slice_index_or keys k d) (slice_index_or changes k e)
+    pub made : (k : ℕ) (d : KeyState T Kind Op Delta) (e : C) → k < length keys → Makes (slice_index_or keys k d) (slice_index_or changes k e)
 
   -- the change of a flush to these peers: the own number for each of them
   abbrev pub IsFlush : ℕ → List ℕ → KeyState T Kind Op Delta → Change T Kind Op Delta → Type 0

@@ -76,3 +76,4 @@ module _ {T Kind Op Delta : Type 0} {ghosts : Ghosts T Kind Op Delta} (kinds : T
   StandsForInput (input.Install view) sent = sent ≡ nodes.Input.Install view
   StandsForInput input.Flush sent = sent ≡ nodes.Input.Flush
   StandsForInput (input.GossipTo id) sent = sent ≡ nodes.Input.GossipTo id
+  StandsForInput input.PruneTick sent = sent ≡ nodes.Input.PruneTick

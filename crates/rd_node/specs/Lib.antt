@@ -21,3 +21,4 @@ pub mod Preparing
 pub mod Installing
 pub mod Outputs
 pub mod Carrying
+pub mod Ticking

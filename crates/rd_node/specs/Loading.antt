@@ -1,9 +1,8 @@
 -- What loading a member answers.
 --     IsSoundAt        what may be loaded
 --     IsLoaded, IsRefusedLoad        the new member, and the old one that comes back
-use Rattle.std.specs.Prelude.{◌≡◌, ◌≢◌, ℕ, ◌<◌, ◌≤◌, List, true, false, Some, slice_get, take, map, All, Any}
+use Rattle.std.specs.Prelude.{◌≡◌, ◌≢◌, ℕ, ◌≤◌, List, true, false, Some, slice_get, take, map, All, Any}
 use Rattle.rd_history.specs.Texts.{Text}
-use Rattle.rd_history.specs.Table.{identity_limit}
 use Rattle.rd_outside.specs.Causes.{Rose}
 use Rattle.rd_model.specs.View.{View}
 use Rattle.rd_vectors.specs.Vectors.{number_at}
@@ -39,7 +38,7 @@ module _ {T Kind Op Delta : Type 0} (ghosts : Ghosts T Kind Op Delta) (id given 
   pub record NamesEarlier (parts : Parts T) : Type 0 where
     pub counted : (i : ℕ) → number_at parts.versions i ≢ 0 → IsEarlier id given i
     pub marked : (r : ℕ) (mark : Marker) → mark_of parts.marks r ≡ Some mark → IsEarlier id given r × MarkIsEarlier id given mark
-    pub mentioned : (i : ℕ) → i < identity_limit → ghosts.mentioned parts.value i ≡ true → IsEarlier id given i
+    pub mentioned : (i : ℕ) → ghosts.mentioned parts.value i ≡ true → IsEarlier id given i
 
 module _ {T Kind Op Delta : Type 0} (ghosts : Ghosts T Kind Op Delta) (spelling : Spelling T Kind Op Delta) (keys : List (KeyState T Kind Op Delta)) (id given : ℕ) where
   -- of a durable key, the spelling of an envelope of its kind that names earlier identities alone

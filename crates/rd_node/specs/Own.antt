@@ -1,14 +1,14 @@
 -- What a member's own records are bounded by, and logged in.
-use Rattle.std.specs.Prelude.{◌≡◌, ℕ, ◌≤◌, List, false, All}
+use Rattle.std.specs.Prelude.{◌≡◌, ℕ, ◌*◌, ◌≤◌, List, false, All}
 use Rattle.rd_vectors.specs.Vectors.{number_at}
 use Rattle.rd_markers.specs.Marks.{performed_in}
 use Rattle.rd_envelope.specs.Words.{parts_of}
 use Rattle.rd_node.specs.declared.key.KeyState.{KeyState}
 
 module _ {T Kind Op Delta : Type 0} where
-  -- of no key are more own records counted than the member made steps
+  -- a step makes one own record of a key, or as many as identities left, which are 255 at most
   abbrev pub HasFewOwn : ℕ → ℕ → List (KeyState T Kind Op Delta) → Type 0
-  HasFewOwn id steps keys = All (λ state. number_at (parts_of state.entry).versions id ≤ steps) keys
+  HasFewOwn id steps keys = All (λ state. number_at (parts_of state.entry).versions id ≤ 255 * steps) keys
 
   -- and no entry has the member's own prune
   abbrev pub IsUnpruned : ℕ → List (KeyState T Kind Op Delta) → Type 0

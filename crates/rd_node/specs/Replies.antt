@@ -1,14 +1,17 @@
 -- What replies and fates of the program mean, and the data type that its members follow.
-use Rattle.std.specs.Prelude.{ℕ, List}
+use Rattle.std.specs.Prelude.{ℕ, List, map}
 use Rattle.rd_history.specs.History.{History}
 use Rattle.rd_meanings.specs.Refusal.{Refusal}
-use Rattle.rd_model.specs.Entry.{Entry}
+use Rattle.rd_model.specs.Entry.{Entry, Outcome as Told}
 use Rattle.rd_model.specs.DataType.{DataType, Replication}
 use Rattle.rd_model.specs.Node as nodes
 use Rattle.rd_model.specs.Node.{Reply as Meant}
 use Rattle.rd_kinds.specs.declared.shown.Shown.{Shown}
 use Rattle.rd_envelope_codec.specs.Entries.{entry_digest}
 use Rattle.rd_deltalog.specs.Answers.{most_kept}
+use Rattle.rd_node.specs.declared.outcome.Outcome.{Outcome}
+use Rattle.rd_node.specs.declared.outcome.Outcome.TheVariants as outcome
+use Rattle.rd_node.specs.declared.outcome.KeyOutcome.{KeyOutcome}
 use Rattle.rd_node.specs.declared.reply.Reply.{Reply}
 use Rattle.rd_node.specs.declared.reply.Reply.TheVariants as reply
 use Rattle.rd_node.specs.declared.reply.Fate.{Fate}
@@ -21,6 +24,16 @@ delta_groups data_type digest = record { data_type = data_type; digest = digest;
 -- and whose digests are those of the entries' spellings
 abbrev pub spelled_groups : {Kind Op : Type 0} → DataType Kind Op Shown → (Kind → ℕ) → (Kind → History Op → List ℕ) → Replication Kind Op Shown
 spelled_groups data_type byte_of history_spelled = delta_groups data_type (entry_digest byte_of history_spelled)
+
+abbrev pub meant_outcome : Outcome → Told
+meant_outcome outcome.Marked = Told.Marked
+meant_outcome outcome.Performed = Told.Performed
+meant_outcome (outcome.Waiting i) = Told.WaitingFor i
+meant_outcome (outcome.Blocked owner_share removed_share) = Told.Blocked (record { owner = owner_share; removed = removed_share })
+meant_outcome outcome.Newer = Told.Newer
+
+abbrev pub meant_at_key : KeyOutcome → nodes.KeyOutcome
+meant_at_key told = record { key = told.key; removed = told.removed; outcome = meant_outcome told.outcome }
 
 abbrev pub meant : Reply → Meant Shown
 meant reply.Done = Meant.Done
@@ -39,6 +52,9 @@ meant reply.NotFromMember = Meant.NotFromMember
 meant reply.Installed = Meant.Installed
 meant reply.OldView = Meant.OldView
 meant reply.NotAPeer = Meant.NotAPeer
+meant (reply.Ticked outcomes) = Meant.Ticked (map meant_at_key outcomes)
+meant (reply.TickedStoreFailed outcomes) = Meant.TickedNotStored (map meant_at_key outcomes)
+meant (reply.NotLeader i) = Meant.NotLeader i
 
 abbrev pub meant_fate : Fate → nodes.Fate
 meant_fate fate.NoStore = nodes.Fate.NoStore

@@ -20,7 +20,7 @@ use Rattle.rd_node.specs.declared.key.KeyState.{KeyState}
 use Rattle.rd_node.specs.declared.change.Change.{Change}
 use Rattle.rd_node.specs.declared.change.Change.TheVariants.{Same, Entry, Flushed}
 use Rattle.rd_node.specs.Keys.{AreDistinct, declared_by}
-use Rattle.rd_node.specs.Own.{IsUnpruned}
+use Rattle.rd_node.specs.Own.{IsUnpruned, AreOfTheirKinds}
 use Rattle.rd_node.specs.Changes.{AreMade}
 
 -- GROUPS IN THE MODEL
@@ -98,6 +98,20 @@ module _ {T Kind Op Delta : Type 0} (kind_of : T → Kind) (IsDataOf : T → His
     pub unpruned : IsUnpruned id keys
     pub of_kinds : All (λ (state : KeyState T Kind Op Delta). kinds state.name ≡ state.kind) keys
     pub held : All (λ (state : KeyState T Kind Op Delta). StandsForEntry kind_of IsDataOf kinds logs state.name state.entry (entries state.name)) keys
+
+  -- and are of their kinds, and those of a member of the model
+  pub record AreHeldBy (view : ℕ) (node : nodes.Node Kind Op Shown) : Type 0 where
+    pub of_kinds : AreOfTheirKinds kind_of keys
+    pub held : AreHeld node.entries
+    pub identity : node.identity ≡ id
+    pub viewed : node.view.number ≡ view
+    pub declares : node.keys ≡ map declared_by keys
+
+  -- what was taken so far keeps what the keys are
+  pub record AreOnTheWay (entries : Text → model.Entry Op) (changes : List (Change T Kind Op Delta)) : Type 0 where
+    pub of_kinds : AreOfTheirKinds kind_of keys
+    pub held : AreHeld entries
+    pub kept : AreMade (IsKept kind_of id) keys changes
 
   -- the changes so far lead from these entries to those of a member of the model
   pub record IsAtWork (view : ℕ) (entries : Text → model.Entry Op) (changes : List (Change T Kind Op Delta)) (node : nodes.Node Kind Op Shown) : Type 0 where

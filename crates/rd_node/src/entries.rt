@@ -16,7 +16,7 @@ ghost use Rattle.rd_messages.specs.Standing.{StandsForKeyed};
 ghost use Rattle.rd_node.specs.Changes.{AreMade};
 ghost use Rattle.rd_node.specs.Own.{AreOfTheirKinds};
 ghost use Rattle.rd_node.specs.Inputs.{IsEntryPassedOver, TellsEntries};
-ghost use Rattle.rd_node.specs.Taking.{KeepsOwn, IsKept, StandsAfter, LeadsTo, AreExactAt, AreHeld, IsAtWork};
+ghost use Rattle.rd_node.specs.Taking.{KeepsOwn, IsKept, StandsAfter, LeadsTo, AreExactAt, AreHeld, AreOnTheWay, IsAtWork};
 
 use crate::change::{Change, current, put};
 use crate::key::{KeyState, index_of};
@@ -95,7 +95,7 @@ pub(crate) fn take_entries<T: Replica>(
     requires { length changes.old ≡ length keys.now }
     ensures kept { AreMade (IsKept T.kind_of id) keys.now changes.old → OnOk result (AreMade (IsKept T.kind_of id) keys.now changes.new) }
     ensures image { (kinds : Name → T.Kind) (logs : Name → History T.Op) (before : Name → model.Entry T.Op) (node : Member T.Kind T.Op Shown) (sent : List (sending.Keyed (model.Entry T.Op)))
-        → AreExactAt keys.now (after_entries node sent).entries → AreOfTheirKinds T.kind_of keys.now → AreHeld T.kind_of T.IsDataOf kinds logs id keys.now before → AreMade (IsKept T.kind_of id) keys.now changes.old → TellsEntries T.Replica kinds logs keys.now entries.now sent
+        → AreExactAt keys.now (after_entries node sent).entries → AreOnTheWay T.kind_of T.IsDataOf kinds logs id keys.now before changes.old → TellsEntries T.Replica kinds logs keys.now entries.now sent
         → IsAtWork T.kind_of T.IsDataOf kinds logs id keys.now view before changes.old node
         → OnOk result (IsAtWork T.kind_of T.IsDataOf kinds logs id keys.now view before changes.new (after_entries node sent)) }
 {

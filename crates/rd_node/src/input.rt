@@ -19,4 +19,6 @@ pub enum Input<T: Replica> {
     Flush,
     /// Tells another member the digests of the entries that have records.
     GossipTo(Id),
+    /// Marks, or prunes, what is left of members that left, if the member leads its view.
+    PruneTick,
 }

@@ -11,6 +11,7 @@ mod input;
 mod key;
 mod loading;
 mod node;
+mod outcome;
 mod plan;
 mod preparing;
 mod recording;
@@ -22,10 +23,12 @@ mod storing;
 mod taking;
 #[cfg(test)]
 mod tests;
+mod ticking;
 
 pub use input::Input;
 pub use key::{KeyDecl, KeyState};
 pub use loading::LoadError;
 pub use node::{MOST_STEPS, Node};
+pub use outcome::{KeyOutcome, Outcome, Outcomes};
 pub use rd_messages::{Entries, Groups, Keyed, Message, MessageKind, Post, Posts, Sketch, Texts};
 pub use reply::{Fate, Output, Reply, StepError};

@@ -6,6 +6,7 @@ ghost use Rattle.rd_node.specs.declared.plan.Plan.TheVariants as plan;
 use crate::change::{Change, write_all};
 use crate::key::KeyState;
 use crate::reply::{Output, Reply};
+use crate::ticking::{KeyTick, write_ticks};
 use rd_deltalog::NextRecord;
 use rd_envelope::Envelope;
 use rd_lattice::Replica;
@@ -25,6 +26,8 @@ pub(crate) enum Plan<T: Replica> {
     },
     /// A change for each.
     Each(Vec<Change<T>>),
+    /// What a tick makes of each.
+    Ticked(Vec<KeyTick<T>>),
 }
 
 /// A step before it is made: the view that is installed by it, what becomes of the keys, and the output.
@@ -83,6 +86,7 @@ pub(crate) fn carry_out<T: Replica>(keys: &mut [KeyState<T>], plan: Plan<T>)
         Plan::Nothing => {}
         Plan::At { index, entry, next } => record_at(keys, index, entry, next),
         Plan::Each(changes) => write_all(keys, changes),
+        Plan::Ticked(ticks) => write_ticks(keys, ticks),
     }
 }
 
@@ -105,6 +109,10 @@ pub(crate) fn entry_at<T: Replica>(plan: &Plan<T>, place: usize) -> Option<&Enve
         Plan::At { index, entry, .. } => { if *index == place { Some(entry) } else { None } }
         Plan::Each(changes) => match changes.get(place) {
             Some(change) => entry_of(change),
+            None => None,
+        },
+        Plan::Ticked(ticks) => match ticks.get(place) {
+            Some(tick) => tick.entry.as_ref(),
             None => None,
         },
     }

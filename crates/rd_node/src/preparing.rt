@@ -1,5 +1,5 @@
 ghost use Rattle.std.specs.Prelude.{◌≡◌, ◌<◌, ◌&&◌, ◌==◌, not, IfOk};
-ghost use Rattle.rd_model.specs.View.{is_member, identities_of};
+ghost use Rattle.rd_model.specs.View.{is_member, identities_of, removed_of};
 ghost use Rattle.rd_node.specs.declared.input.Input.TheVariants as input;
 ghost use Rattle.rd_node.specs.Changes.{AreMade};
 ghost use Rattle.rd_node.specs.Preparing.{IsSoundFor, Prepares};
@@ -14,6 +14,7 @@ use crate::plan::{Plan, Prepared};
 use crate::reply::{Output, Reply};
 use crate::sending::{flushes, posts};
 use crate::taking::{MessageTaken, taken};
+use crate::ticking::{Ticks, tick_all};
 use rd_bytes::{Items, Memory, Text};
 use rd_keeper::Keeper;
 use rd_lattice::{Replica, SpelledData};
@@ -32,6 +33,22 @@ fn identities(alloc: Global, view: &View) -> Result<Vec<Id>, Memory>
         .map(|member| member.id)
         .collect(alloc)?;
     Ok(ids)
+}
+
+/// The identities that were given and are no members.
+fn left(alloc: Global, view: &View) -> Result<Vec<Id>, Memory>
+    ensures { IfOk result (λ ids. ids.items ≡ removed_of view.now) }
+{
+    let given = view.given();
+    let mut ids = Items::new(alloc);
+    for number in 0..given {
+        if let Some(id) = Id::new(number) {
+            if !view.contains(id) {
+                ids.push(id)?;
+            }
+        }
+    }
+    Ok(ids.into_vec())
 }
 
 /// The entries after a member saw their marks with another view, a change for each.
@@ -66,6 +83,7 @@ impl<T: SpelledData, K: Keeper + Drop> Node<T, K> {
             Input::Install(view) => self.installed(view),
             Input::Flush => self.flushed(),
             Input::GossipTo(to) => self.gossiped(*to),
+            Input::PruneTick => self.ticked(),
         }
     }
 
@@ -170,6 +188,27 @@ impl<T: SpelledData, K: Keeper + Drop> Node<T, K> {
             view: None,
             plan: Plan::Nothing,
             output: Output { reply, posts },
+        })
+    }
+
+    fn ticked(&self) -> Result<Prepared<T>, Memory>
+        requires { self.now.steps < 16384 }
+        ensures sound { IfOk result (IsSoundFor self.now) }
+        ensures image { IfOk result (Prepares T.SpelledData.own self.now input.PruneTick) }
+    {
+        let leader = self.view.leader();
+        if leader != self.id {
+            return Ok(Prepared::reply(self.alloc, Reply::NotLeader(leader)));
+        }
+        let view = self.view.number();
+        let members = identities(self.alloc, &self.view)?;
+        let removed = left(self.alloc, &self.view)?;
+        let ticks = tick_all(self.alloc, &self.keys, self.id, view, &members, &removed)?;
+        let Ticks { keys, outcomes } = ticks;
+        Ok(Prepared {
+            view: None,
+            plan: Plan::Ticked(keys),
+            output: Output::told(self.alloc, Reply::Ticked(outcomes)),
         })
     }
 }

@@ -1,3 +1,4 @@
+use crate::outcome::{Outcomes, copy_outcomes};
 use crate::shown::copy_shown;
 use rd_bytes::{Items, Memory};
 use rd_kinds::Shown;
@@ -41,12 +42,19 @@ pub enum Reply {
     OldView,
     /// The receiver is no other member.
     NotAPeer,
+    /// What the tick made of each key and each identity that left.
+    Ticked(Outcomes),
+    /// The same, where the keeper failed.
+    TickedStoreFailed(Outcomes),
+    /// This member leads the view.
+    NotLeader(Id),
 }
 
 impl Reply {
     ghost use Rattle.std.specs.Prelude.{◌≡◌, if◌then◌else◌, IfOk};
     ghost use Rattle.rd_model.specs.Node.{Reply as Meant};
     ghost use Rattle.rd_node.specs.Replies.{meant};
+    ghost use Rattle.rd_node.specs.Outputs.{failed};
 
     /// An equal reply.
     pub fn copy(&self, alloc: Global) -> Result<Reply, Memory>
@@ -72,6 +80,21 @@ impl Reply {
             Reply::Installed => Ok(Reply::Installed),
             Reply::OldView => Ok(Reply::OldView),
             Reply::NotAPeer => Ok(Reply::NotAPeer),
+            Reply::Ticked(outcomes) => Ok(Reply::Ticked(copy_outcomes(alloc, outcomes)?)),
+            Reply::TickedStoreFailed(outcomes) => {
+                Ok(Reply::TickedStoreFailed(copy_outcomes(alloc, outcomes)?))
+            }
+            Reply::NotLeader(id) => Ok(Reply::NotLeader(*id)),
+        }
+    }
+
+    /// What is replied where the store failed.
+    fn failed(self) -> Reply
+        ensures { result ≡ failed self }
+    {
+        match self {
+            Reply::Ticked(outcomes) => Reply::TickedStoreFailed(outcomes),
+            _ => Reply::StoreFailed,
         }
     }
 
@@ -127,8 +150,7 @@ pub struct Output<T: Replica> {
 
 impl<T: Replica> Output<T> {
     ghost use Rattle.std.specs.Prelude.{◌≡◌, [], IfOk};
-    ghost use Rattle.rd_node.specs.declared.reply.Reply.TheVariants as reply;
-    ghost use Rattle.rd_node.specs.Outputs.{after_fate};
+    ghost use Rattle.rd_node.specs.Outputs.{failed, after_fate};
 
     /// A reply alone.
     pub(crate) fn told(alloc: Global, reply: Reply) -> Output<T>
@@ -142,10 +164,10 @@ impl<T: Replica> Output<T> {
 
     /// What is answered where the store failed: the messages are the same.
     fn fail(self) -> Output<T>
-        ensures { result ≡ record self { reply = reply.StoreFailed } }
+        ensures { result ≡ record self { reply = failed self.reply } }
     {
         Output {
-            reply: Reply::StoreFailed,
+            reply: self.reply.failed(),
             posts: self.posts,
         }
     }

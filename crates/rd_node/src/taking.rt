@@ -10,9 +10,8 @@ ghost use Rattle.rd_messages.specs.Standing.{digest_told};
 ghost use Rattle.rd_node.specs.Replies.{delta_groups, spelled_groups};
 ghost use Rattle.rd_node.specs.Keys.{declared_by};
 ghost use Rattle.rd_node.specs.Changes.{AreMade};
-ghost use Rattle.rd_node.specs.Own.{AreOfTheirKinds};
 ghost use Rattle.rd_node.specs.Inputs.{StandsForTaken};
-ghost use Rattle.rd_node.specs.Taking.{IsKept, AreHeld, AreExactAt};
+ghost use Rattle.rd_node.specs.Taking.{IsKept, AreHeld, AreHeldBy, AreExactAt};
 ghost use Rattle.rd_node.specs.Answers.{is_status, IsTaken};
 
 use crate::answering::{answers, named, reply};
@@ -48,7 +47,8 @@ fn compared<T: SpelledData>(
     ensures kept { IfOk result (λ taken. AreMade (IsKept T.kind_of id) keys.now taken.changes.items) }
     ensures image { (kinds : Name → T.Kind) (logs : Name → History T.Op) (node : Member T.Kind T.Op Shown)
         → AreHeld T.kind_of T.IsDataOf kinds logs id keys.now node.entries → node.keys ≡ map declared_by keys.now
-        → IfOk result (IsTaken T.kind_of T.IsDataOf kinds logs keys.now node (step.step_of_take (spelled_groups T.data_type T.byte_of T.history_spelled) node from Fate.NoStore (Sent.Status (map digest_told digests.now)))) }
+        → let next = step.step_of_take (spelled_groups T.data_type T.byte_of T.history_spelled) node from Fate.NoStore (Sent.Status (map digest_told digests.now)) in
+        IfOk result (IsTaken T.kind_of T.IsDataOf kinds logs keys.now node next) }
 {
     let changes = unchanged(alloc, keys)?;
     let posts = answer(alloc, keys, from, digests)?;
@@ -70,8 +70,8 @@ fn brought<T: Replica>(
     ensures few { IfOk result (λ taken. length taken.output.posts ≤ 2) }
     ensures kept { IfOk result (λ taken. AreMade (IsKept T.kind_of id) keys.now taken.changes.items) }
     ensures image { (digest : T.Kind → Entry T.Op → List ℕ) (kinds : Name → T.Kind) (logs : Name → History T.Op) (node : Member T.Kind T.Op Shown) (sent : Sent T.Op)
-        → AreExactAt keys.now (step.step_of_take (delta_groups T.data_type digest) node from Fate.NoStore sent).node.entries → AreOfTheirKinds T.kind_of keys.now → AreHeld T.kind_of T.IsDataOf kinds logs id keys.now node.entries → node.identity ≡ id → node.view.number ≡ view → node.keys ≡ map declared_by keys.now
-        → StandsForTaken kinds logs keys.now message.now sent → is_status message.now ≡ false
+        → AreHeldBy T.kind_of T.IsDataOf kinds logs id keys.now view node → StandsForTaken kinds logs keys.now message.now sent → is_status message.now ≡ false
+        → AreExactAt keys.now (step.step_of_take (delta_groups T.data_type digest) node from Fate.NoStore sent).node.entries
         → IfOk result (IsTaken T.kind_of T.IsDataOf kinds logs keys.now node (step.step_of_take (delta_groups T.data_type digest) node from Fate.NoStore sent)) }
 {
     let mut changes = unchanged(alloc, keys)?;
@@ -105,8 +105,8 @@ pub(crate) fn taken<T: SpelledData>(
     ensures few { IfOk result (λ taken. length taken.output.posts ≤ 2) }
     ensures kept { IfOk result (λ taken. AreMade (IsKept T.kind_of id) keys.now taken.changes.items) }
     ensures image { (kinds : Name → T.Kind) (logs : Name → History T.Op) (node : Member T.Kind T.Op Shown) (sent : Sent T.Op)
-        → AreExactAt keys.now (step.step_of_take (spelled_groups T.data_type T.byte_of T.history_spelled) node from Fate.NoStore sent).node.entries → AreOfTheirKinds T.kind_of keys.now → AreHeld T.kind_of T.IsDataOf kinds logs id keys.now node.entries → node.identity ≡ id → node.view.number ≡ view → node.keys ≡ map declared_by keys.now
-        → StandsForTaken kinds logs keys.now message.now sent
+        → AreHeldBy T.kind_of T.IsDataOf kinds logs id keys.now view node → StandsForTaken kinds logs keys.now message.now sent
+        → AreExactAt keys.now (step.step_of_take (spelled_groups T.data_type T.byte_of T.history_spelled) node from Fate.NoStore sent).node.entries
         → IfOk result (IsTaken T.kind_of T.IsDataOf kinds logs keys.now node (step.step_of_take (spelled_groups T.data_type T.byte_of T.history_spelled) node from Fate.NoStore sent)) }
 {
     match message {

@@ -13,7 +13,7 @@ use Rattle.rd_history.specs.Texts.{Text, text_lt, text_set, contains_text}
 use Rattle.rd_bytes.specs.TextOrder.{text_order, IsBelowAll, IsRising}
 use Rattle.rd_bytes.proofs.TextLaws.{order_less, order_equal, lt_trans, lt_never, eq_texts, texts_eq}
 use Rattle.rd_growing.specs.TextSetLaws.{contains_append, contains_set, rising_set, is_set}
-use Rattle.rd_orset.specs.declared.set.Placed.{Placed}
+use Rattle.rd_orset.specs.Placing.{Placed}
 use Rattle.rd_orset.specs.Placing.{placed_order, IsBeforeAll, AreDots}
 use Rattle.rd_orset.specs.Keeping.{texts_of, IsFirstOf}
 

@@ -1,4 +1,5 @@
 pub mod Changes
+pub mod Tables
 pub mod ElementsInOrder
 pub mod Merging
 pub mod Others
@@ -6,3 +7,5 @@ pub mod Placings
 pub mod SetsOfDots
 pub mod Loops
 pub mod Runs
+pub mod Passes
+pub mod Between

@@ -1,11 +1,11 @@
 -- Merging two lists of dots in one pass.
-use Rattle.std.proofs.Common.{◌≡◌, ℕ, ◌+◌, ◌-◌, ◌<◌, ◌≤◌, ◌⊎◌, inl, inr, List, [], ◌∷◌, ◌++◌, length, take, drop, get_or, Bool, true, false, cond, ◌&&◌, ◌||◌, refl, ap, sym, ◌∙◌, subst, arith, append_assoc}
+use Rattle.std.proofs.Common.{◌≡◌, ℕ, ◌+◌, ◌<◌, ◌≤◌, ◌⊎◌, inl, inr, List, [], ◌∷◌, ◌++◌, length, drop, get_or, Bool, true, false, cond, ◌&&◌, ◌||◌, refl, ap, sym, ◌∙◌, subst, arith, append_assoc}
 use Rattle.std.specs.Prelude.{if◌then◌else◌}
 use Rattle.std.specs.List.{filter, list_any}
 use Rattle.std.specs.declared.cmp.Ordering.{Ordering}
 use Rattle.std.specs.declared.cmp.Ordering.TheVariants.{Less, Equal, Greater}
-use Rattle.std.proofs.lemmas.List.{drop_all, drop_more, append-nil, take_rest}
-use Rattle.rd_orset.specs.declared.set.Placed.{Placed}
+use Rattle.std.proofs.lemmas.List.{drop_all, drop_more, append-nil}
+use Rattle.rd_orset.specs.Placing.{Placed}
 use Rattle.rd_orset.specs.Placing.{placed_order, IsBeforeAll, AreDots}
 use Rattle.rd_orset.specs.Keeping.{stays}
 use Rattle.rd_orset.proofs.Placings.{before_all, before_if, dots_if, before_filter, dots_filter, placed_same, greater_less, IsOfOne, absent_before}
@@ -162,7 +162,7 @@ module _ (both : Bool) (r s at : Placed → Bool) (mine theirs : Bool) (o : IsOf
 
 -- THE PASS
 
-pushed : (all rest : List Placed) (b : Bool) (x : Placed) → (all ++ (if b then x ∷ [] else [])) ++ rest ≡ all ++ cond b (x ∷ rest) rest
+pub pushed : (all rest : List Placed) (b : Bool) (x : Placed) → (all ++ (if b then x ∷ [] else [])) ++ rest ≡ all ++ cond b (x ∷ rest) rest
 pushed all rest true x = append_assoc all (x ∷ []) rest
 pushed all rest false x = ap (λ ys. ys ++ rest) (append-nil all)
 
@@ -218,10 +218,8 @@ module _ (both : Bool) (r s : Placed → Bool) (mine theirs all : List Placed) (
 
 -- one of the two lists is at its end
 pub merge_end : (both : Bool) (r s : Placed → Bool) (mine theirs all : List Placed) (here there : ℕ) → (length mine ≤ here) ⊎ (length theirs ≤ there) → IsMerging both r s mine theirs all here there
-    → (all ++ filter r (take (length mine - here) (drop here mine))) ++ filter s (take (length theirs - there) (drop there theirs)) ≡ merge both r s mine theirs
-merge_end both r s mine theirs all here there at_end h =
-    ap (λ xs. (all ++ filter r xs) ++ filter s (take (length theirs - there) (drop there theirs))) (take_rest mine here) ∙ ap (λ ys. (all ++ filter r (drop here mine)) ++ filter s ys) (take_rest theirs there)
-    ∙ left at_end
+    → (all ++ filter r (drop here mine)) ++ filter s (drop there theirs) ≡ merge both r s mine theirs
+merge_end both r s mine theirs all here there at_end h = left at_end
   where
     left : (length mine ≤ here) ⊎ (length theirs ≤ there) → (all ++ filter r (drop here mine)) ++ filter s (drop there theirs) ≡ merge both r s mine theirs
     left (inl none) =

@@ -1,20 +1,21 @@
 -- Dots whose elements are none of some texts, in one pass over both; and texts at one dot.
-use Rattle.std.proofs.Common.{◌≡◌, ℕ, ◌+◌, ◌-◌, ◌<◌, ◌≤◌, ◌^◌, ◌⊎◌, inl, inr, List, [], ◌∷◌, ◌++◌, length, take, drop, get_or, true, false, cond, not, ◌||◌, refl, ap, sym, ◌∙◌, subst, arith, append_assoc}
+use Rattle.std.proofs.Common.{◌≡◌, ℕ, ◌+◌, ◌<◌, ◌≤◌, ◌^◌, ◌⊎◌, inl, inr, List, [], ◌∷◌, ◌++◌, length, drop, get_or, true, false, cond, not, ◌||◌, refl, ap, sym, ◌∙◌, subst, arith, append_assoc}
 use Rattle.std.specs.Prelude.{map}
 use Rattle.std.specs.List.{filter}
 use Rattle.std.specs.Str.{bytes_eq}
 use Rattle.std.specs.Ordering.{nat_cmp, ordering_then}
 use Rattle.std.specs.declared.cmp.Ordering.TheVariants.{Less, Equal, Greater}
-use Rattle.std.proofs.lemmas.List.{drop_all, drop_more, take_rest}
+use Rattle.std.proofs.lemmas.List.{drop_all, drop_more}
 use Rattle.rd_history.specs.Texts.{Text, text_lt, contains_text}
 use Rattle.rd_vectors.specs.declared.id.Dot.{Dot}
 use Rattle.rd_bytes.specs.TextOrder.{text_order, IsBelowAll, IsRising}
 use Rattle.rd_bytes.proofs.TextLaws.{order_less, order_equal, order_greater, less_order, texts_eq, lt_differ_too}
 use Rattle.rd_growing.specs.TextSetLaws.{absent_before}
 use Rattle.rd_growing.proofs.Merging.{drop_here, rising_drop}
-use Rattle.rd_orset.specs.declared.set.Placed.{Placed}
+use Rattle.rd_orset.specs.Placing.{Placed}
 use Rattle.rd_orset.specs.Placing.{IsBeforeAll, AreDots}
-use Rattle.rd_orset.specs.Keeping.{is_other, at_dot}
+use Rattle.rd_orset.specs.Keeping.{is_other}
+use Rattle.rd_orset.specs.Placing.{at_dot}
 use Rattle.rd_orset.proofs.Placings.{dots_drop}
 use Rattle.rd_orset.proofs.ElementsInOrder.{before_upto, lt_upto}
 
@@ -100,8 +101,8 @@ all_kept (p ∷ ps) = ap (λ zs. p ∷ zs) (all_kept ps)
 
 -- one of the two lists is at its end
 pub part_end : (texts : List Text) (dots all : List Placed) (here there : ℕ) → (length dots ≤ here) ⊎ (length texts ≤ there) → IsParting texts dots all here there
-    → all ++ filter (λ p. true) (take (length dots - here) (drop here dots)) ≡ filter (is_other texts) dots
-part_end texts dots all here there at_end h = ap (λ xs. all ++ filter (λ p. true) xs) (take_rest dots here) ∙ left at_end ∙ h.whole
+    → all ++ filter (λ p. true) (drop here dots) ≡ filter (is_other texts) dots
+part_end texts dots all here there at_end h = left at_end ∙ h.whole
   where
     left : (length dots ≤ here) ⊎ (length texts ≤ there) → all ++ filter (λ p. true) (drop here dots) ≡ all ++ filter (is_other (drop there texts)) (drop here dots)
     left (inl none) = ap (λ xs. all ++ filter (λ p. true) xs) (drop_all here dots none) ∙ ap (λ xs. all ++ filter (is_other (drop there texts)) xs) (sym (drop_all here dots none))

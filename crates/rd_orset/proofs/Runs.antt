@@ -1,7 +1,7 @@
 -- The dots of a list, element by element: these are the elements of its set.
 use Rattle.std.proofs.Common.{◌≡◌, ℕ, zero, suc, ◌+◌, ◌-◌, ◌^◌, ◌<◌, ◌≤◌, Bool, true, false, cond, ◌||◌, nat_lt, List, [], ◌∷◌, ◌++◌, length, take, drop, get_or, refl, ap, sym, ◌∙◌, subst, append_assoc, ⊎_elim, inl, inr, ◌⊎◌, arith}
 use Rattle.std.proofs.lemmas.Bool.{lt-ltb, or_right}
-use Rattle.std.proofs.lemmas.List.{drop_more, drop_all, take_all, length-map}
+use Rattle.std.proofs.lemmas.List.{drop_more, drop_all}
 use Rattle.std.proofs.lemmas.List.Elements.{recursion_from_All}
 use Rattle.std.specs.Prelude.{map}
 use Rattle.std.specs.List.{All, AllByRecursion, flat_map}
@@ -15,18 +15,20 @@ use Rattle.std.specs.Str.{bytes_eq}
 use Rattle.rd_history.proofs.CutLaws.{both_ways}
 use Rattle.rd_history.specs.Texts.{Text, text_lt}
 use Rattle.rd_bytes.specs.TextOrder.{text_order, IsBelowAll, IsRising}
-use Rattle.rd_bytes.specs.Spelling.{IsText, text_spelled, number_spelled}
+use Rattle.rd_bytes.specs.Spelling.{IsText}
 use Rattle.rd_bytes.proofs.TextLaws.{eq_texts, texts_eq, less_order}
 use Rattle.rd_growing.specs.TextSetLaws.{below_all_of_less}
 use Rattle.rd_vectors.specs.declared.id.Dot.{Dot}
-use Rattle.rd_orset.specs.declared.set.Placed.{Placed}
+use Rattle.rd_orset.specs.Placing.{Placed}
 use Rattle.rd_orset.specs.declared.element.Element.{Element}
 use Rattle.rd_orset.specs.Placing.{placed_order, IsBeforeAll, IsNumbered, AreDots}
 use Rattle.rd_orset.specs.Dots.{Dots}
-use Rattle.rd_orset.specs.Keeping.{at_dot, set_of}
-use Rattle.rd_orset.specs.Elements.{AreRising, IsDot, IsPlaced, IsElement, AreElements, IsSoundSet, placed_of, texts_in, elements_of, dot_spelled, element_spelled, elements_spelled, set_spelled}
+use Rattle.rd_orset.specs.Keeping.{set_of}
+use Rattle.rd_orset.specs.Placing.{at_dot}
+use Rattle.rd_orset.specs.Elements.{AreRising, IsDot, IsPlaced, IsElement, AreElements, IsSoundSet, placed_of, texts_in, elements_of, element_spelled, elements_spelled, set_spelled}
 use Rattle.rd_orset.specs.ElementLaws.{by_parts, of_parts, elements_back}
-use Rattle.rd_orset.specs.Runs.{dot_at, with_dot, grouped, run, first_run}
+use Rattle.rd_orset.specs.Runs.{with_dot, grouped, run, first_run}
+use Rattle.rd_orset.specs.Placing.{dot_at}
 use Rattle.rd_orset.proofs.Placings.{before_all}
 use Rattle.rd_orset.proofs.ElementsInOrder.{before_upto}
 
@@ -158,15 +160,6 @@ spelled_more ps start end p bytes more whole inside at is new so_far =
           ∙ append_assoc bytes (element_spelled x) rest ∙ ap (λ (xs : List Element). bytes ++ flat_map element_spelled xs) (sym found.first) ∙ so_far,
       omega arith,
     )
-
-pub one_spelled : (e : Text) (ps : List Placed) (i : ℕ) (old text number : List ℕ) → text ≡ old ++ text_spelled e → number ≡ text ++ number_spelled (length ps) → length ps ≤ i
-    → number ++ flat_map dot_spelled (map dot_at (take i ps)) ≡ old ++ element_spelled (record { text = e; dots = map dot_at ps })
-one_spelled e ps i old text number after_text after_number le =
-    let dots : List ℕ = flat_map dot_spelled (map dot_at ps) in
-    ap (λ (qs : List Placed). number ++ flat_map dot_spelled (map dot_at qs)) (take_all i ps le)
-    ∙ ap (λ (t : List ℕ). t ++ dots) (after_number ∙ ap (λ (t : List ℕ). t ++ number_spelled (length ps)) after_text)
-    ∙ append_assoc (old ++ text_spelled e) (number_spelled (length ps)) dots ∙ append_assoc old (text_spelled e) (number_spelled (length ps) ++ dots)
-    ∙ ap (λ k. old ++ (text_spelled e ++ (number_spelled k ++ dots))) (sym (length-map ps dot_at))
 
 -- THE SAME DOTS
 

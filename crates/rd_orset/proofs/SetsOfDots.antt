@@ -7,7 +7,7 @@ use Rattle.std.specs.Cmp.{Equal-is}
 use Rattle.std.specs.Cmp.Lexicographic.{slice_cmp, nat_list_cmp_total}
 use Rattle.std.specs.FinSet as set
 use Rattle.std.proofs.lemmas.Map.Lookups.{exact_bytes}
-use Rattle.rd_orset.specs.declared.set.Placed.{Placed}
+use Rattle.rd_orset.specs.Placing.{Placed}
 use Rattle.rd_orset.specs.Placing.{key_of, AreDots}
 use Rattle.rd_orset.specs.Dots.{Dots}
 use Rattle.rd_orset.specs.Keeping.{set_of, stays, set_merged, AreMerged}

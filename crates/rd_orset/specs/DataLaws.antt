@@ -1,5 +1,5 @@
 -- Data of histories, joined, absorbed and cleaned; what they hold and name.
-use Rattle.std.proofs.Common.{◌≡◌, ◌≢◌, ◌⊎◌, ℕ, zero, suc, ◌+◌, ◌<◌, ◌≤◌, max, true, false, not, List, rules, arith, refl, ap, sym, ◌∙◌, subst, ⊎_elim, inl, inr, nat_eq}
+use Rattle.std.proofs.Common.{◌≡◌, ◌≢◌, ◌⊎◌, ℕ, zero, suc, ◌+◌, ◌<◌, ◌≤◌, true, false, not, List, rules, arith, refl, ap, sym, ◌∙◌, subst, ⊎_elim, inl, inr, nat_eq}
 use Rattle.std.proofs.lemmas.Bool.{cases_eq, cases_lt, cases_Bool, and_parts, and_from, not-true, eqb-true, eq-eqb}
 use Rattle.std.proofs.Math.Nat.{max_comm}
 use Rattle.std.specs.Ordering.{nat_cmp}

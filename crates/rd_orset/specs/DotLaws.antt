@@ -1,5 +1,5 @@
 -- Which dots a set has after each call, test by test.
-use Rattle.std.proofs.Common.{◌≡◌, ◌⊎◌, ℕ, ◌+◌, ◌<◌, ◌≤◌, max, Bool, true, false, not, ◌&&◌, ◌||◌, List, [], ◌∷◌, cond, nat_le, rules, arith, refl, ap, sym, ◌∙◌, subst, ⊎_elim, inl, inr}
+use Rattle.std.proofs.Common.{◌≡◌, ◌⊎◌, ℕ, ◌+◌, ◌<◌, ◌≤◌, max, Bool, true, false, not, ◌&&◌, ◌||◌, List, [], ◌∷◌, nat_le, rules, arith, refl, ap, sym, ◌∙◌, subst, ⊎_elim, inl, inr}
 use Rattle.std.proofs.lemmas.Bool.{cases_lt, or_cases, or_left, or_right}
 use Rattle.std.specs.List.{list_any}
 use Rattle.std.specs.Str.{bytes_eq}
@@ -13,8 +13,7 @@ use Rattle.std.specs.FinSet.{contains-union, contains-retain, slice_cmp-IsAntisy
 use Rattle.rd_history.proofs.CutLaws.{both_ways}
 use mathlib.Core.Bool.{or-false}
 use Rattle.rd_history.specs.Texts.{Text}
-use Rattle.rd_history.specs.Vector.{VersionVector, IdentitySet, join}
-use Rattle.rd_history.specs.Cuts.{without}
+use Rattle.rd_history.specs.Vector.{VersionVector, join}
 use Rattle.rd_vectors.specs.declared.id.Dot.{Dot}
 use Rattle.rd_kinds.specs.SixKinds.{adds, removes}
 use Rattle.rd_kinds.specs.declared.operation.Op.{Op}

@@ -18,6 +18,7 @@ use Rattle.std.specs.FinSet.{contains-from_list, contains-items}
 use Rattle.std.proofs.lemmas.List.Folds.{list_any-append}
 use Rattle.rd_history.proofs.CutLaws.{both_ways}
 use mathlib.Core.Bool.{or-false, or_self}
+use Rattle.rd_history.specs.Table.{identity_limit}
 use Rattle.rd_history.specs.Texts.{Text, contains_text}
 use Rattle.rd_history.specs.Vector.{IdentitySet}
 use Rattle.rd_growing.specs.Bits.{same_bits}
@@ -33,9 +34,9 @@ use Rattle.rd_orset.specs.declared.element.Element.{Element}
 use Rattle.rd_orset.specs.Placing.{key, key_of}
 use Rattle.rd_orset.specs.Dots.{Dots, element_of, is_element, is_of, shown_elements, set_mentioned}
 use Rattle.rd_orset.specs.DotLaws.{same_item, has_any, any_has}
-use Rattle.rd_orset.specs.Keeping.{at_dot}
+use Rattle.rd_orset.specs.Placing.{at_dot}
 use Rattle.rd_orset.specs.ShownLaws.{any_map}
-use Rattle.rd_orset.specs.Elements.{dot_of, in_order, element_at, elements_of, placed_of, set_of_elements, AreRising, IsElement, AreElements, AreFree, IsSoundSet, texts_in, elements_spelled, set_spelled}
+use Rattle.rd_orset.specs.Elements.{dot_of, in_order, element_at, elements_of, placed_of, set_of_elements, AreRising, IsDot, IsElement, AreElements, AreFree, IsSoundSet, texts_in, elements_spelled, set_spelled}
 use Rattle.rd_orset.specs.Reading.{listed_in, set_in}
 use Rattle.rd_orset.specs.ReadingLaws.{listed_takes, listed_again}
 
@@ -286,6 +287,20 @@ unmentioned_free barred [] h = tt
 unmentioned_free barred (x ∷ xs) h =
     let parts : (i : ℕ) → barred i ≡ true → (list_any (is_of i) (keys_of x) ≡ false) × (list_any (is_of i) (all_keys xs) ≡ false) = λ i b. or_parts _ _ (sym (list_any-append (is_of i) (keys_of x) (all_keys xs)) ∙ h i b) in
     (dots_free barred x.text x.dots (λ i b. (parts i b).0), unmentioned_free barred xs (λ i b. (parts i b).1))
+
+others_free : (id : ℕ) (ds : List Dot) → AllByRecursion IsDot ds → identity_limit ≤ id → AllByRecursion (λ (d : Dot). nat_eq d.origin id ≡ false) ds
+others_free id [] are many = tt
+others_free id (d ∷ ds) are many = (false_from_ne_true (nat_eq d.origin id) (λ same. let e = eqb-true d.origin id same in let few = are.0.origin in omega arith), others_free id ds are.1 many)
+
+all_free : (id : ℕ) (xs : List Element) → AllByRecursion IsElement xs → identity_limit ≤ id → AreFree (λ i. nat_eq i id) xs
+all_free id [] are many = tt
+all_free id (x ∷ xs) are many = (others_free id x.dots are.0.dots many, all_free id xs are.1 many)
+
+-- dots are of identities alone
+pub set_few : (x : Dots) (id : ℕ) → IsSoundSet x → identity_limit ≤ id → set_mentioned x id ≡ false
+set_few x id is many =
+    let xs : List Element = is.elements in
+    ap (λ (s : Dots). set_mentioned s id) is.same ∙ any_in (is_of id) xs ∙ free_unmentioned (λ i. nat_eq i id) id xs (eq-eqb id id refl) (all_free id xs is.sound.each many)
 
 -- READING AND SPELLING
 

@@ -15,10 +15,11 @@ use Rattle.rd_bytes.specs.Spelling.{IsText, text_spelled, number_spelled}
 use Rattle.rd_kinds.specs.SixKinds.{set_operations}
 use Rattle.rd_kinds.specs.declared.operation.Op.{Op}
 use Rattle.rd_vectors.specs.declared.id.Dot.{Dot}
-use Rattle.rd_orset.specs.declared.set.Placed.{Placed}
+use Rattle.rd_orset.specs.Placing.{Placed}
 use Rattle.rd_orset.specs.declared.element.Element.{Element}
 use Rattle.rd_orset.specs.Dots.{Dots, is_element, shown_elements}
-use Rattle.rd_orset.specs.Keeping.{at_dot, set_of}
+use Rattle.rd_orset.specs.Keeping.{set_of}
+use Rattle.rd_orset.specs.Placing.{at_dot}
 
 -- THE ELEMENTS OF A SET
 

@@ -1,10 +1,9 @@
 -- Which dots stay, alone or of two sets.
-use Rattle.std.specs.Prelude.{◌≡◌, ℕ, Bool, true, false, not, List, ◌∷◌, map, take, get_or}
+use Rattle.std.specs.Prelude.{◌≡◌, ℕ, ◌<◌, ◌≤◌, length, Bool, true, false, not, List, ◌∷◌, map, take, get_or}
 use Rattle.std.specs.FinSet as set
-use Rattle.rd_history.specs.Texts.{Text, contains_text}
-use Rattle.rd_vectors.specs.declared.id.Dot.{Dot}
-use Rattle.rd_orset.specs.declared.set.Placed.{Placed}
-use Rattle.rd_orset.specs.Placing.{key_of, AreDots}
+use Rattle.rd_history.specs.Texts.{Text, text_lt, contains_text}
+use Rattle.rd_orset.specs.Placing.{Placed}
+use Rattle.rd_orset.specs.Placing.{key_of, nth, AreDots}
 use Rattle.rd_orset.specs.Dots.{Dots}
 
 -- the set of a list
@@ -39,10 +38,20 @@ abbrev pub is_other_key : List Text → List ℕ → Bool
 is_other_key texts (origin ∷ seq ∷ element) = not (contains_text texts element)
 is_other_key texts _ = true
 
--- a text at a dot
-abbrev pub at_dot : Dot → Text → Placed
-at_dot dot element = record { element = element; origin = dot.origin; seq = dot.seq }
-
 -- the answer says whether no dot before the one at the index is of its element
 abbrev pub IsFirstOf : List Placed → ℕ → Bool → Type 0
 IsFirstOf ps index first = (p : Placed) → p ≡ get_or ps index p → first ≡ not (contains_text (texts_of (take index ps)) p.element)
+
+-- the dots before an index pass the test, and those from it on don't
+pub record IsBound (test : Placed → Bool) (ps : List Placed) (index : ℕ) : Type 0 where
+  pub within : index ≤ length ps
+  pub before : (i : ℕ) → i < index → test (nth ps i) ≡ true
+  pub after : (i : ℕ) → index ≤ i → i < length ps → test (nth ps i) ≡ false
+
+-- the dots of an element stand from one index up to another, or would stand there
+pub record IsRunOf (ps : List Placed) (e : Text) (start end : ℕ) : Type 0 where
+  pub order : start ≤ end
+  pub within : end ≤ length ps
+  pub before : (i : ℕ) → i < start → text_lt (nth ps i).element e ≡ true
+  pub named : (i : ℕ) → start ≤ i → i < end → (nth ps i).element ≡ e
+  pub after : (i : ℕ) → end ≤ i → i < length ps → text_lt e (nth ps i).element ≡ true

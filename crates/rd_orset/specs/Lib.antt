@@ -1,5 +1,6 @@
 pub mod Placing
 pub mod Dots
+pub mod Spots
 pub mod Keeping
 pub mod Live
 pub mod LiveLaws

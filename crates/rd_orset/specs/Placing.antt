@@ -1,11 +1,29 @@
 -- An element at a dot, as a key of a finite set, and the order in which a set keeps its dots.
-use Rattle.std.specs.Prelude.{◌≡◌, ℕ, ◌≤◌, ◌^◌, List, [], ◌∷◌}
+use Rattle.std.specs.Prelude.{◌≡◌, ℕ, ◌≤◌, ◌^◌, List, [], ◌∷◌, get_or}
 use Rattle.std.specs.Ordering.{nat_cmp, ordering_then}
 use Rattle.std.specs.Cmp.Lexicographic.{slice_cmp}
 use Rattle.std.specs.declared.cmp.Ordering.{Ordering}
 use Rattle.std.specs.declared.cmp.Ordering.TheVariants.{Less}
 use Rattle.rd_history.specs.Texts.{Text}
-use Rattle.rd_orset.specs.declared.set.Placed.{Placed}
+use Rattle.rd_vectors.specs.declared.id.Dot.{Dot}
+
+-- an element at a dot: the record of the origin with the number, from 1 on, added it or took it over
+pub record Placed : Type 0 where
+  pub element : Text
+  pub origin : ℕ
+  pub seq : ℕ
+
+-- the dot, without its element
+abbrev pub dot_at : Placed → Dot
+dot_at p = record { origin = p.origin; seq = p.seq }
+
+-- an element at a dot
+abbrev pub at_dot : Dot → Text → Placed
+at_dot dot element = record { element = element; origin = dot.origin; seq = dot.seq }
+
+-- the dot at an index of a list
+abbrev pub nth : List Placed → ℕ → Placed
+nth ps index = get_or ps index (record { element = []; origin = 0; seq = 0 })
 
 -- the origin, the number, and the element's bytes
 abbrev pub key : Text → ℕ → ℕ → List ℕ

@@ -2,12 +2,8 @@
 use Rattle.std.specs.Prelude.{ℕ, suc, List, [], ◌∷◌, if◌then◌else◌}
 use Rattle.std.specs.Str.{bytes_eq}
 use Rattle.rd_history.specs.Texts.{Text}
-use Rattle.rd_vectors.specs.declared.id.Dot.{Dot}
-use Rattle.rd_orset.specs.declared.set.Placed.{Placed}
+use Rattle.rd_orset.specs.Placing.{Placed, dot_at}
 use Rattle.rd_orset.specs.declared.element.Element.{Element}
-
-abbrev pub dot_at : Placed → Dot
-dot_at p = record { origin = p.origin; seq = p.seq }
 
 -- one more dot in front
 abbrev pub with_dot : Placed → List Element → List Element

@@ -9,9 +9,10 @@ ghost use Rattle.rd_orset.specs.Placing.{key};
 ghost use Rattle.rd_orset.specs.Dots.{is_element, set_joined, set_absorbed, set_combined, set_applied, set_delta_of, set_cleaned, set_pruned, set_mentioned, shown_elements};
 ghost use Rattle.rd_orset.specs.Keeping.{set_merged};
 
-use crate::dots::{All, Nothing, Rule, copied, has_origin, merged, named, unnamed};
+use crate::dot_list::DotList;
+use crate::dots::{All, Nothing, Rule, has_origin, merged};
 use crate::elements::{
-    append_at, count_elements, elements_at, elements_of, has_element, others, placed_at,
+    between, count_elements, elements_at, elements_of, has_element, others, placed_at, run_of,
 };
 use crate::set::{OrSet, SetDelta};
 use rd_bytes::{Items, Memory, Text};
@@ -30,7 +31,7 @@ impl OrSet {
     {
         OrSet {
             alloc,
-            dots: Vec::new(alloc),
+            dots: DotList::new(alloc),
         }
     }
 
@@ -53,7 +54,7 @@ impl OrSet {
     pub(crate) fn copy_of(&self, alloc: Global) -> Result<OrSet, Memory>
         ensures { IfOk result (λ copy. copy ≡ self.now) }
     {
-        let dots = copied(alloc, &self.dots)?;
+        let dots = self.dots.copy(alloc)?;
         Ok(OrSet { alloc, dots })
     }
 
@@ -76,8 +77,8 @@ impl OrSet {
         requires { (1 ≤ dot.now.seq) × (dot.now.seq ≤ 2 ^ 62) }
         ensures { IfOk result (λ one. one ≡ set.insert set.empty (key element.now dot.now.origin dot.now.seq)) }
     {
-        let mut dots = Vec::new(alloc);
-        append_at(&mut dots, alloc, element, dot)?;
+        let mut dots = DotList::new(alloc);
+        dots.push(element, dot)?;
         Ok(OrSet { alloc, dots })
     }
 
@@ -85,16 +86,31 @@ impl OrSet {
     fn named(&self, alloc: Global, element: &Text) -> Result<OrSet, Memory>
         ensures { IfOk result (λ own. own ≡ set.retain self.now (is_element element.now)) }
     {
-        let dots = named(alloc, &self.dots, element)?;
+        let run = run_of(&self.dots, element);
+        let dots = between(alloc, &self.dots, run.0, run.1)?;
         Ok(OrSet { alloc, dots })
     }
 
-    /// The dots of all other elements.
-    fn unnamed(&self, alloc: Global, element: &Text) -> Result<OrSet, Memory>
-        ensures { IfOk result (λ rest. rest ≡ set.retain self.now (λ k. not (is_element element.now k))) }
+    /// Takes all dots from an element.
+    fn drop_named(&mut self, element: &Text)
+        ensures { self.new ≡ set.retain self.old (λ k. not (is_element element.now k)) }
     {
-        let dots = unnamed(alloc, &self.dots, element)?;
-        Ok(OrSet { alloc, dots })
+        let run = run_of(&self.dots, element);
+        self.dots.drop_between(run.0, run.1);
+        self.dots.forget(element);
+    }
+
+    /// Gives an element the dot alone. After a refusal the set is as it was.
+    fn put(&mut self, element: &Text, dot: &Dot) -> Result<(), Memory>
+        requires { (1 ≤ dot.now.seq) × (dot.now.seq ≤ 2 ^ 62) }
+        ensures ok { OnOk result (self.new ≡ set_applied self.old (op.Add element.now) dot.now) }
+        ensures err { OnErr result (self.new ≡ self.old) }
+    {
+        let run = run_of(&self.dots, element);
+        match self.dots.replace(run.0, run.1, element, dot) {
+            Ok(()) => Ok(()),
+            Err(Memory) => Err(Memory),
+        }
     }
 
     /// Whether the set takes no other element, and this is one.
@@ -124,9 +140,7 @@ impl OrSet {
         let fresh = OrSet::of(alloc, element, dot)?;
         let old = self.named(alloc, element)?;
         let seen = old.united(alloc, &fresh)?;
-        let left = self.unnamed(self.alloc, element)?;
-        let next = left.united(self.alloc, &fresh)?;
-        *self = next;
+        self.put(element, dot)?;
         Ok(SetDelta { fresh, seen })
     }
 
@@ -143,8 +157,7 @@ impl OrSet {
     {
         let fresh = OrSet::new(alloc);
         let seen = self.named(alloc, element)?;
-        let next = self.unnamed(self.alloc, element)?;
-        *self = next;
+        self.drop_named(element);
         Ok(SetDelta { fresh, seen })
     }
 
@@ -179,7 +192,7 @@ impl OrSet {
     pub(crate) fn drop_dots_of(&mut self, id: Id)
         ensures { self.new ≡ set_cleaned self.old id }
     {
-        self.dots.retain(|placed| placed.origin != id);
+        self.dots.drop_dots_of(id);
     }
 
     /// Gives each element with a dot of an identity the new dot alone.

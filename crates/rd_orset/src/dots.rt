@@ -1,14 +1,13 @@
-ghost use Rattle.std.specs.Prelude.{◌≡◌, ℕ, [], ◌∷◌, ◌++◌, List, Bool, true, false, not, nat_eq, OnOk, IfOk, if◌then◌else◌};
+ghost use Rattle.std.specs.Prelude.{◌≡◌, ℕ, ◌<◌, ◌≤◌, [], ◌∷◌, ◌++◌, List, Bool, true, false, not, nat_eq, length, drop, OnOk, IfOk, if◌then◌else◌};
 ghost use Rattle.std.specs.List.{filter, list_any};
-ghost use Rattle.std.specs.Str.{bytes_eq};
 ghost use Rattle.rd_vectors.specs.Vectors.{number_at};
-ghost use Rattle.rd_orset.specs.Placing.{placed_order, key_of, AreDots};
-ghost use Rattle.rd_orset.specs.Dots.{contained};
+ghost use Rattle.rd_orset.specs.Placing.{placed_order, key_of, nth, AreDots};
+ghost use Rattle.rd_orset.specs.Dots.{contained, is_of};
 ghost use Rattle.rd_orset.specs.Keeping.{AreMerged};
 
-use crate::set::Placed;
-use rd_bytes::{Memory, Text};
-use rd_vectors::{Dot, Id, VersionVector};
+use crate::dot_list::DotList;
+use rd_bytes::Memory;
+use rd_vectors::{Id, VersionVector};
 use std::alloc::Global;
 use std::cmp::Ordering;
 
@@ -16,9 +15,10 @@ use std::cmp::Ordering;
 pub(crate) trait Rule {
     ghost keeps: { Self → List ℕ → Bool };
 
-    /// Whether the dot stays.
-    fn keeps(&self, placed: &Placed) -> bool
-        ensures { result ≡ keeps self.now (key_of placed.now) };
+    /// Whether the dot at an index stays.
+    fn keeps(&self, dots: &DotList, index: usize) -> bool
+        requires { index < length dots.now }
+        ensures { result ≡ keeps self.now (key_of (nth dots.now index)) };
 }
 
 /// All dots stay.
@@ -27,7 +27,7 @@ pub(crate) struct All;
 impl Rule for All {
     ghost keeps = { λ _ _. true };
 
-    fn keeps(&self, _placed: &Placed) -> bool {
+    fn keeps(&self, _dots: &DotList, _index: usize) -> bool {
         true
     }
 }
@@ -38,8 +38,17 @@ pub(crate) struct Nothing;
 impl Rule for Nothing {
     ghost keeps = { λ _ _. false };
 
-    fn keeps(&self, _placed: &Placed) -> bool {
+    fn keeps(&self, _dots: &DotList, _index: usize) -> bool {
         false
+    }
+}
+
+/// The dots of an identity stay.
+impl Rule for Id {
+    ghost keeps = { λ id k. is_of id k };
+
+    fn keeps(&self, dots: &DotList, index: usize) -> bool {
+        dots.dot(index).origin == *self
     }
 }
 
@@ -47,127 +56,75 @@ impl Rule for Nothing {
 impl Rule for VersionVector {
     ghost keeps = { λ vector k. not (contained (number_at vector) k) };
 
-    fn keeps(&self, placed: &Placed) -> bool {
-        !self.contains_dot(Dot {
-            origin: placed.origin,
-            seq: placed.seq,
-        })
+    fn keeps(&self, dots: &DotList, index: usize) -> bool {
+        !self.contains_dot(dots.dot(index))
     }
 }
 
 /// Which of two dots comes first: by the elements' bytes, then by origin, then by number.
-pub(crate) fn order(placed: &Placed, other: &Placed) -> Ordering
-    ensures { result ≡ placed_order placed.now other.now }
+pub(crate) fn order(mine: &DotList, here: usize, theirs: &DotList, there: usize) -> Ordering
+    requires mine { here < length mine.now }
+    requires theirs { there < length theirs.now }
+    ensures { result ≡ placed_order (nth mine.now here) (nth theirs.now there) }
 {
-    let by_element = placed.element.as_str().cmp(other.element.as_str());
-    let by_origin = placed.origin.number().cmp(&other.origin.number());
-    let by_seq = placed.seq.cmp(&other.seq);
+    let dot = mine.dot(here);
+    let other = theirs.dot(there);
+    let by_element = mine
+        .element(here)
+        .as_str()
+        .cmp(theirs.element(there).as_str());
+    let by_origin = dot.origin.number().cmp(&other.origin.number());
+    let by_seq = dot.seq.cmp(&other.seq);
     by_element.then(by_origin.then(by_seq))
 }
 
-/// An equal dot.
-fn copy_of(alloc: Global, placed: &Placed) -> Result<Placed, Memory>
-    ensures { IfOk result (λ copy. copy ≡ placed.now) }
-{
-    let element = placed.element.copy(alloc)?;
-    Ok(Placed {
-        element,
-        origin: placed.origin,
-        seq: placed.seq,
-    })
-}
-
-/// Adds a copy of a dot at the end, if it stays.
+/// Adds the dot at an index of a list at the end of another, if it stays.
 pub(crate) fn append(
-    all: &mut Vec<Placed>,
-    alloc: Global,
-    placed: &Placed,
+    all: &mut DotList,
+    dots: &DotList,
+    index: usize,
     stays: bool,
 ) -> Result<(), Memory>
-    ensures { OnOk result (all.new.items ≡ all.old.items ++ (if stays then placed.now ∷ [] else [])) }
+    requires { index < length dots.now }
+    ensures { OnOk result (all.new ≡ all.old ++ (if stays then nth dots.now index ∷ [] else [])) }
 {
     if !stays {
         return Ok(());
     }
-    let copy = copy_of(alloc, placed)?;
-    match all.push(copy) {
-        Ok(()) => Ok(()),
-        Err(_) => Err(Memory),
-    }
+    all.push(dots.element(index), &dots.dot(index))
 }
 
-/// Adds copies of the dots that stay at the end.
+/// Adds the dots from an index on that stay at the end of another list.
 pub(crate) fn append_kept<R: Rule>(
-    all: &mut Vec<Placed>,
-    alloc: Global,
-    dots: &[Placed],
+    all: &mut DotList,
+    dots: &DotList,
+    from: usize,
     rule: &R,
 ) -> Result<(), Memory>
-    ensures { OnOk result (all.new.items ≡ all.old.items ++ filter (λ p. R.keeps rule.now (key_of p)) dots.now) }
+    requires { from ≤ length dots.now }
+    ensures { OnOk result (all.new ≡ all.old ++ filter (λ p. R.keeps rule.now (key_of p)) (drop from dots.now)) }
 {
-    for placed in dots {
-        append(all, alloc, placed, rule.keeps(placed))?;
+    for index in from..dots.len() {
+        append(all, dots, index, rule.keeps(dots, index))?;
     }
     Ok(())
 }
 
-/// Copies of dots.
-pub(crate) fn copied(alloc: Global, dots: &[Placed]) -> Result<Vec<Placed>, Memory>
-    ensures { IfOk result (λ all. all.items ≡ dots.now) }
+/// The dots that stay.
+pub(crate) fn kept<R: Rule>(alloc: Global, dots: &DotList, rule: &R) -> Result<DotList, Memory>
+    ensures { IfOk result (λ all. all ≡ filter (λ p. R.keeps rule.now (key_of p)) dots.now) }
 {
-    let mut all = Vec::new(alloc);
-    for placed in dots {
-        append(&mut all, alloc, placed, true)?;
-    }
-    Ok(all)
-}
-
-/// Whether the dot is of this element.
-pub(crate) fn is_named(placed: &Placed, element: &Text) -> bool
-    ensures { result ≡ bytes_eq element.now placed.now.element }
-{
-    element.as_str() == placed.element.as_str()
-}
-
-/// Copies of the dots of an element.
-pub(crate) fn named(alloc: Global, dots: &[Placed], element: &Text) -> Result<Vec<Placed>, Memory>
-    ensures { IfOk result (λ all. all.items ≡ filter (λ p. bytes_eq element.now p.element) dots.now) }
-{
-    let mut all = Vec::new(alloc);
-    for placed in dots {
-        append(&mut all, alloc, placed, is_named(placed, element))?;
-    }
-    Ok(all)
-}
-
-/// Copies of the dots of all other elements.
-pub(crate) fn unnamed(alloc: Global, dots: &[Placed], element: &Text) -> Result<Vec<Placed>, Memory>
-    ensures { IfOk result (λ all. all.items ≡ filter (λ p. not (bytes_eq element.now p.element)) dots.now) }
-{
-    let mut all = Vec::new(alloc);
-    for placed in dots {
-        append(&mut all, alloc, placed, !is_named(placed, element))?;
-    }
-    Ok(all)
-}
-
-/// Copies of the dots of an origin.
-pub(crate) fn dots_of(alloc: Global, dots: &[Placed], id: Id) -> Result<Vec<Placed>, Memory>
-    ensures { IfOk result (λ all. all.items ≡ filter (λ p. nat_eq p.origin id) dots.now) }
-{
-    let mut all = Vec::new(alloc);
-    for placed in dots {
-        append(&mut all, alloc, placed, placed.origin == id)?;
-    }
+    let mut all = DotList::new(alloc);
+    append_kept(&mut all, dots, 0, rule)?;
     Ok(all)
 }
 
 /// Whether a dot is of this origin.
-pub(crate) fn has_origin(dots: &[Placed], id: Id) -> bool
+pub(crate) fn has_origin(dots: &DotList, id: Id) -> bool
     ensures { result ≡ list_any (λ p. nat_eq p.origin id) dots.now }
 {
-    for placed in dots {
-        if placed.origin == id {
+    for index in 0..dots.len() {
+        if dots.dot(index).origin == id {
             return true;
         }
     }
@@ -178,38 +135,36 @@ pub(crate) fn has_origin(dots: &[Placed], id: Id) -> bool
 pub(crate) fn merged<M: Rule, T: Rule>(
     alloc: Global,
     both: bool,
-    mine: &[Placed],
+    mine: &DotList,
     my_rule: &M,
-    theirs: &[Placed],
+    theirs: &DotList,
     their_rule: &T,
-) -> Result<Vec<Placed>, Memory>
+) -> Result<DotList, Memory>
     requires mine { AreDots mine.now }
     requires theirs { AreDots theirs.now }
-    ensures { IfOk result (λ all. AreMerged both (M.keeps my_rule.now) (T.keeps their_rule.now) mine.now theirs.now all.items) }
+    ensures { IfOk result (λ all. AreMerged both (M.keeps my_rule.now) (T.keeps their_rule.now) mine.now theirs.now all) }
 {
-    let mut all = Vec::new(alloc);
+    let mut all = DotList::new(alloc);
     let mut here = 0;
     let mut there = 0;
     while here < mine.len() && there < theirs.len() {
-        let next = &mine[here];
-        let their_next = &theirs[there];
-        match order(next, their_next) {
+        match order(mine, here, theirs, there) {
             Ordering::Less => {
-                append(&mut all, alloc, next, my_rule.keeps(next))?;
+                append(&mut all, mine, here, my_rule.keeps(mine, here))?;
                 here += 1;
             }
             Ordering::Equal => {
-                append(&mut all, alloc, next, both)?;
+                append(&mut all, mine, here, both)?;
                 here += 1;
                 there += 1;
             }
             Ordering::Greater => {
-                append(&mut all, alloc, their_next, their_rule.keeps(their_next))?;
+                append(&mut all, theirs, there, their_rule.keeps(theirs, there))?;
                 there += 1;
             }
         }
     }
-    append_kept(&mut all, alloc, &mine[here..], my_rule)?;
-    append_kept(&mut all, alloc, &theirs[there..], their_rule)?;
+    append_kept(&mut all, mine, here, my_rule)?;
+    append_kept(&mut all, theirs, there, their_rule)?;
     Ok(all)
 }

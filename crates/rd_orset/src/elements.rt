@@ -1,77 +1,136 @@
-ghost use Rattle.std.specs.Prelude.{◌≡◌, ◌<◌, ◌≤◌, ◌^◌, [], ◌∷◌, ◌++◌, not, nat_eq, length, map, slice_index_or, OnOk, IfOk, if◌then◌else◌};
+ghost use Rattle.std.specs.Prelude.{◌≡◌, ◌<◌, ◌≤◌, ◌^◌, [], ◌∷◌, ◌++◌, not, nat_eq, length, map, take, drop, OnOk, IfOk, if◌then◌else◌};
 ghost use Rattle.std.specs.List.{filter, list_any};
 ghost use Rattle.std.specs.Str.{bytes_eq};
-ghost use Rattle.rd_history.specs.Texts.{text_set, contains_text};
+ghost use Rattle.rd_history.specs.Texts.{text_lt, text_set, contains_text};
 ghost use Rattle.rd_bytes.specs.TextOrder.{text_order, IsRising};
-ghost use Rattle.rd_orset.specs.Placing.{AreDots};
-ghost use Rattle.rd_orset.specs.Keeping.{texts_of, is_other, at_dot, IsFirstOf};
+ghost use Rattle.rd_orset.specs.Placing.{AreDots, at_dot, nth};
+ghost use Rattle.rd_orset.specs.Keeping.{texts_of, is_other, IsFirstOf, IsBound, IsRunOf};
 
-use crate::dots::{All, append, append_kept, dots_of};
-use crate::set::Placed;
+use crate::dot_list::DotList;
+use crate::dots::{All, append, append_kept, kept};
 use rd_bytes::{Memory, Text};
 use rd_vectors::{Dot, Id};
 use std::alloc::Global;
 use std::cmp::Ordering;
 
 /// Whether one of the dots is of this element.
-pub(crate) fn has_element(dots: &[Placed], element: &Text) -> bool
+pub(crate) fn has_element(dots: &DotList, element: &Text) -> bool
     ensures { result ≡ list_any (λ p. bytes_eq element.now p.element) dots.now }
 {
-    for placed in dots {
-        if element.as_str() == placed.element.as_str() {
+    for index in 0..dots.len() {
+        if element.as_str() == dots.element(index).as_str() {
             return true;
         }
     }
     false
 }
 
+/// How many dots are of elements that come before this one.
+fn start_of(dots: &DotList, element: &Text) -> usize
+    requires { AreDots dots.now }
+    ensures { IsBound (λ p. text_lt p.element element.now) dots.now result }
+{
+    let mut low = 0;
+    let mut high = dots.len();
+    while low < high {
+        let middle = low + (high - low) / 2;
+        match dots.element(middle).as_str().cmp(element.as_str()) {
+            Ordering::Less => low = middle + 1,
+            Ordering::Equal => high = middle,
+            Ordering::Greater => high = middle,
+        }
+    }
+    low
+}
+
+/// How many dots are of this element or of elements that come before it.
+fn end_of(dots: &DotList, element: &Text) -> usize
+    requires { AreDots dots.now }
+    ensures { IsBound (λ p. not (text_lt element.now p.element)) dots.now result }
+{
+    let mut low = 0;
+    let mut high = dots.len();
+    while low < high {
+        let middle = low + (high - low) / 2;
+        match dots.element(middle).as_str().cmp(element.as_str()) {
+            Ordering::Less => low = middle + 1,
+            Ordering::Equal => low = middle + 1,
+            Ordering::Greater => high = middle,
+        }
+    }
+    low
+}
+
+/// From which index up to which the dots of an element stand, or would stand.
+pub(crate) fn run_of(dots: &DotList, element: &Text) -> (usize, usize)
+    requires { AreDots dots.now }
+    ensures { IsRunOf dots.now element.now result.0 result.1 }
+{
+    (start_of(dots, element), end_of(dots, element))
+}
+
+/// The dots from an index up to another.
+pub(crate) fn between(
+    alloc: Global,
+    dots: &DotList,
+    start: usize,
+    end: usize,
+) -> Result<DotList, Memory>
+    requires { end ≤ length dots.now }
+    ensures { IfOk result (λ part. part ≡ drop start (take end dots.now)) }
+{
+    let mut part = DotList::new(alloc);
+    for index in start..end {
+        append(&mut part, dots, index, true)?;
+    }
+    Ok(part)
+}
+
 /// Whether the dot at an index is the first of its element.
-fn is_first(dots: &[Placed], index: usize) -> bool
+fn is_first(dots: &DotList, index: usize) -> bool
     requires dots { AreDots dots.now }
     requires inside { index < length dots.now }
     ensures { IsFirstOf dots.now index result }
 {
-    index == 0 || dots[index - 1].element.as_str() != dots[index].element.as_str()
+    index == 0 || !dots.same_element(index - 1, index)
 }
 
 /// Adds a copy of a text at the end, if it is new.
-fn append_text(all: &mut Vec<Text>, alloc: Global, text: &Text, new: bool) -> Result<(), Memory>
+fn append_text(all: &mut Vec<Text>, text: &Text, new: bool) -> Result<(), Memory>
     ensures { OnOk result (all.new.items ≡ all.old.items ++ (if new then text.now ∷ [] else [])) }
 {
     if !new {
         return Ok(());
     }
-    let copy = text.copy(alloc)?;
-    match all.push(copy) {
+    match all.push(text.copied()) {
         Ok(()) => Ok(()),
         Err(_) => Err(Memory),
     }
 }
 
 /// The elements of the dots in byte order, each once.
-pub(crate) fn elements_of(alloc: Global, dots: &[Placed]) -> Result<Vec<Text>, Memory>
+pub(crate) fn elements_of(alloc: Global, dots: &DotList) -> Result<Vec<Text>, Memory>
     requires { AreDots dots.now }
     ensures { IfOk result (λ all. all.items ≡ text_set (texts_of dots.now)) }
 {
     let mut all = Vec::new(alloc);
     for index in 0..dots.len() {
-        let placed = &dots[index];
-        append_text(&mut all, alloc, &placed.element, is_first(dots, index))?;
+        append_text(&mut all, dots.element(index), is_first(dots, index))?;
     }
     Ok(all)
 }
 
 /// The elements with a dot of an identity, in byte order, each once.
-pub(crate) fn elements_at(alloc: Global, dots: &[Placed], id: Id) -> Result<Vec<Text>, Memory>
+pub(crate) fn elements_at(alloc: Global, dots: &DotList, id: Id) -> Result<Vec<Text>, Memory>
     requires { AreDots dots.now }
     ensures { IfOk result (λ all. all.items ≡ text_set (texts_of (filter (λ p. nat_eq p.origin id) dots.now))) }
 {
-    let own = dots_of(alloc, dots, id)?;
+    let own = kept(alloc, dots, &id)?;
     elements_of(alloc, &own)
 }
 
 /// How many elements the dots have.
-pub(crate) fn count_elements(dots: &[Placed]) -> usize
+pub(crate) fn count_elements(dots: &DotList) -> usize
     requires { AreDots dots.now }
     ensures { result ≡ length (text_set (texts_of dots.now)) }
 {
@@ -82,58 +141,37 @@ pub(crate) fn count_elements(dots: &[Placed]) -> usize
     count
 }
 
-/// Adds a copy of a text at a dot at the end.
-pub(crate) fn append_at(
-    all: &mut Vec<Placed>,
-    alloc: Global,
-    text: &Text,
-    dot: &Dot,
-) -> Result<(), Memory>
-    ensures { OnOk result (all.new.items ≡ all.old.items ++ at_dot dot.now text.now ∷ []) }
-{
-    let element = text.copy(alloc)?;
-    match all.push(Placed {
-        element,
-        origin: dot.origin,
-        seq: dot.seq,
-    }) {
-        Ok(()) => Ok(()),
-        Err(_) => Err(Memory),
-    }
-}
-
 /// Texts at one dot.
-pub(crate) fn placed_at(alloc: Global, texts: &[Text], dot: &Dot) -> Result<Vec<Placed>, Memory>
-    ensures { IfOk result (λ all. all.items ≡ map (at_dot dot.now) texts.now) }
+pub(crate) fn placed_at(alloc: Global, texts: &[Text], dot: &Dot) -> Result<DotList, Memory>
+    ensures { IfOk result (λ all. all ≡ map (at_dot dot.now) texts.now) }
 {
-    let mut all = Vec::new(alloc);
+    let mut all = DotList::new(alloc);
     for text in texts {
-        append_at(&mut all, alloc, text, dot)?;
+        all.push(text, dot)?;
     }
     Ok(all)
 }
 
 /// Copies of the dots whose elements are none of the texts, in one pass over both.
-pub(crate) fn others(alloc: Global, dots: &[Placed], texts: &[Text]) -> Result<Vec<Placed>, Memory>
+pub(crate) fn others(alloc: Global, dots: &DotList, texts: &[Text]) -> Result<DotList, Memory>
     requires dots { AreDots dots.now }
     requires texts { IsRising texts.now }
-    ensures { IfOk result (λ all. all.items ≡ filter (is_other texts.now) dots.now) }
+    ensures { IfOk result (λ all. all ≡ filter (is_other texts.now) dots.now) }
 {
-    let mut all = Vec::new(alloc);
+    let mut all = DotList::new(alloc);
     let mut here = 0;
     let mut there = 0;
     while here < dots.len() && there < texts.len() {
-        let next = &dots[here];
         let text = &texts[there];
-        match next.element.as_str().cmp(text.as_str()) {
+        match dots.element(here).as_str().cmp(text.as_str()) {
             Ordering::Less => {
-                append(&mut all, alloc, next, true)?;
+                append(&mut all, dots, here, true)?;
                 here += 1;
             }
             Ordering::Equal => here += 1,
             Ordering::Greater => there += 1,
         }
     }
-    append_kept(&mut all, alloc, &dots[here..], &All)?;
+    append_kept(&mut all, dots, here, &All)?;
     Ok(all)
 }

@@ -2,6 +2,7 @@
 #![tactic(auto)]
 
 mod calls;
+mod dot_list;
 mod dots;
 mod element;
 mod elements;
@@ -11,4 +12,5 @@ mod set;
 mod spelled;
 mod spelling;
 
-pub use set::{OrSet, Placed, SetDelta};
+pub use dot_list::DotList;
+pub use set::{OrSet, SetDelta};

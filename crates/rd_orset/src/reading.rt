@@ -5,9 +5,9 @@ ghost use Rattle.rd_vectors.specs.IdSets.{members_in};
 ghost use Rattle.rd_orset.specs.Elements.{AreElements, placed_of, set_of_elements, texts_in};
 ghost use Rattle.rd_orset.specs.Reading.{dot_in, dots_in, element_in, elements_in, listed_in, set_in};
 
+use crate::dot_list::DotList;
 use crate::element::Element;
-use crate::elements::append_at;
-use crate::set::{OrSet, Placed};
+use crate::set::OrSet;
 use rd_bytes::{FieldError, Items, Memory, Text, keep, read_number, read_text};
 use rd_vectors::{Dot, IdSet, read_identity, read_positive};
 use std::alloc::Global;
@@ -120,22 +120,22 @@ fn read_listed(
 }
 
 /// Adds an element at each of its dots at the end.
-fn place(all: &mut Vec<Placed>, alloc: Global, element: &Element) -> Result<(), Memory>
-    ensures { OnOk result (all.new.items ≡ all.old.items ++ placed_of element.now) }
+fn place(all: &mut DotList, element: &Element) -> Result<(), Memory>
+    ensures { OnOk result (all.new ≡ all.old ++ placed_of element.now) }
 {
     for dot in element.dots.as_slice() {
-        append_at(all, alloc, &element.text, dot)?;
+        all.push(&element.text, dot)?;
     }
     Ok(())
 }
 
 /// Elements at their dots.
-fn placed(alloc: Global, elements: &[Element]) -> Result<Vec<Placed>, Memory>
-    ensures { IfOk result (λ all. all.items ≡ flat_map placed_of elements.now) }
+fn placed(alloc: Global, elements: &[Element]) -> Result<DotList, Memory>
+    ensures { IfOk result (λ all. all ≡ flat_map placed_of elements.now) }
 {
-    let mut all = Vec::new(alloc);
+    let mut all = DotList::new(alloc);
     for element in elements {
-        place(&mut all, alloc, element)?;
+        place(&mut all, element)?;
     }
     Ok(all)
 }

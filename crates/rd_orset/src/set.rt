@@ -1,22 +1,13 @@
-use rd_bytes::Text;
-use rd_vectors::{Id, Seq};
+use crate::dot_list::DotList;
 use std::alloc::Global;
 use std::marker::Model;
-
-/// An element at a dot: the record of `origin` with the number `seq`, from 1 on, added it or took it over.
-#[derive(Drop)]
-pub struct Placed {
-    pub element: Text,
-    pub origin: Id,
-    pub seq: Seq,
-}
 
 /// A set in which an add wins over a remove that hasn't seen it, after the optimised OR-Set of Bieniusa et al.: its elements with the dots that no one has
 /// replaced, in the order of the elements' bytes, then of origins, then of numbers.
 #[derive(Drop)]
 pub struct OrSet {
     pub(crate) alloc: Global,
-    pub(crate) dots: Vec<Placed>,
+    pub(crate) dots: DotList,
 }
 
 impl Model for OrSet {
@@ -31,9 +22,9 @@ impl Model for OrSet {
 
     ghost coded = { set.code (coded_list coded_ℕ) };
 
-    ghost view = { λ state. set.from_list (map key_of state.dots.items) };
+    ghost view = { λ state. set.from_list (map key_of state.dots) };
 
-    ghost invariant = { λ state. AreDots state.dots.items };
+    ghost invariant = { λ state. AreDots state.dots };
 }
 
 /// What one or more operations of one origin did: the dots that they added and that none of them replaced, and all dots that they saw, their own with them.

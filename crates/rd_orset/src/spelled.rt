@@ -55,5 +55,7 @@ impl SpelledData for OrSet {
 
     ghost spelled_is_read = { λ x barred rest. laws.set_again x barred rest };
 
+    ghost mentioned_few = { laws.set_few };
+
     ghost spelling_means = { λ state log held gone pruned is. ap elements_spelled (meaning.elements_are state log held gone pruned is) };
 }

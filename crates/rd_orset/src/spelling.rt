@@ -1,31 +1,42 @@
-ghost use Rattle.std.specs.Prelude.{◌≡◌, ◌<◌, ◌≤◌, ◌+◌, ◌++◌, length, drop, map, OnOk, OnErr, IfOk};
+ghost use Rattle.std.specs.Prelude.{◌≡◌, ◌<◌, ◌≤◌, ◌-◌, ◌+◌, ◌^◌, ◌++◌, length, take, drop, map, OnOk, OnErr, IfOk};
 ghost use Rattle.std.specs.List.{All};
 ghost use Rattle.rd_orset.specs.Elements.{IsPlaced, IsSoundSet, dot_spelled, element_spelled, elements_spelled, set_spelled};
-ghost use Rattle.rd_orset.specs.Runs.{dot_at, grouped, first_run};
+ghost use Rattle.rd_orset.specs.Runs.{grouped, first_run};
+ghost use Rattle.rd_orset.specs.Placing.{dot_at, nth};
 
-use crate::set::{OrSet, Placed};
-use rd_bytes::{Memory, Spelled, Text};
+use crate::dot_list::DotList;
+use crate::set::OrSet;
+use rd_bytes::{Memory, Spelled};
+use rd_vectors::Dot;
 use std::alloc::Global;
 
-/// Looks at each dot: its element is a text, and its origin an identity.
-fn look_at(dots: &[Placed])
-    ensures { All IsPlaced dots.now }
+/// Looks at a dot: its element is a text, and its origin an identity.
+fn look_at(dots: &DotList, index: usize)
+    requires { index < length dots.now }
+    ensures { IsPlaced (nth dots.now index) }
 {
-    for placed in dots {
-        let _text = placed.element.as_str();
-        let _origin = placed.origin.number();
+    let _text = dots.element(index).as_str();
+    let _origin = dots.dot(index).origin.number();
+}
+
+/// Looks at each dot.
+fn look_at_all(dots: &DotList)
+    ensures each { All IsPlaced dots.now }
+    ensures few { length dots.now < 2 ^ 64 }
+{
+    for index in 0..dots.len() {
+        look_at(dots, index);
     }
 }
 
 /// The place after the dots of one element, of which this is the first.
-fn run_end(dots: &[Placed], start: usize) -> usize
+fn run_end(dots: &DotList, start: usize) -> usize
     requires { start < length dots.now }
     ensures place { result ≡ start + first_run (drop start dots.now) }
     ensures within { (start < result) × (result ≤ length dots.now) }
 {
-    let first = &dots[start];
     for end in start..dots.len() {
-        if first.element.as_str() != dots[end].element.as_str() {
+        if !dots.same_element(start, end) {
             return end;
         }
     }
@@ -33,7 +44,7 @@ fn run_end(dots: &[Placed], start: usize) -> usize
 }
 
 /// How many elements the dots have.
-fn count_runs(dots: &[Placed]) -> usize
+fn count_runs(dots: &DotList) -> usize
     ensures { result ≡ length (grouped dots.now) }
 {
     let mut count = 0;
@@ -46,27 +57,29 @@ fn count_runs(dots: &[Placed]) -> usize
 }
 
 /// Appends the spelling of a dot.
-fn spell_dot(placed: &Placed, into: &mut Vec<u8>) -> Result<(), Memory>
-    ensures { OnOk result (into.new.items ≡ into.old.items ++ dot_spelled (dot_at placed.now)) }
+fn spell_dot(dot: &Dot, into: &mut Vec<u8>) -> Result<(), Memory>
+    ensures { OnOk result (into.new.items ≡ into.old.items ++ dot_spelled dot.now) }
 {
-    placed.origin.number().spell(into)?;
-    placed.seq.spell(into)
+    dot.origin.number().spell(into)?;
+    dot.seq.spell(into)
 }
 
-/// Appends the spelling of an element with its dots.
-fn spell_element(element: &Text, dots: &[Placed], into: &mut Vec<u8>) -> Result<(), Memory>
-    ensures { OnOk result (into.new.items ≡ into.old.items ++ element_spelled (record { text = element.now; dots = map dot_at dots.now })) }
+/// Appends the spelling of the element at an index with its dots, which end before another.
+fn spell_element(dots: &DotList, start: usize, end: usize, into: &mut Vec<u8>) -> Result<(), Memory>
+    requires some { start < end }
+    requires within { end ≤ length dots.now }
+    ensures { OnOk result (into.new.items ≡ into.old.items ++ element_spelled (record { text = (nth dots.now start).element; dots = map dot_at (take (end - start) (drop start dots.now)) })) }
 {
-    element.spell(into)?;
-    (dots.len() as u64).spell(into)?;
-    for placed in dots {
-        spell_dot(placed, into)?;
+    dots.element(start).spell(into)?;
+    ((end - start) as u64).spell(into)?;
+    for index in start..end {
+        spell_dot(&dots.dot(index), into)?;
     }
     Ok(())
 }
 
 /// The spelling of dots, element by element.
-fn spelling_of(alloc: Global, dots: &[Placed]) -> Result<Vec<u8>, Memory>
+fn spelling_of(alloc: Global, dots: &DotList) -> Result<Vec<u8>, Memory>
     ensures { IfOk result (λ bytes. bytes.items ≡ elements_spelled (grouped dots.now)) }
 {
     let mut bytes = Vec::new(alloc);
@@ -74,7 +87,7 @@ fn spelling_of(alloc: Global, dots: &[Placed]) -> Result<Vec<u8>, Memory>
     let mut start = 0;
     while start < dots.len() {
         let end = run_end(dots, start);
-        spell_element(&dots[start].element, &dots[start..end], &mut bytes)?;
+        spell_element(dots, start, end, &mut bytes)?;
         start = end;
     }
     Ok(bytes)
@@ -87,7 +100,7 @@ impl OrSet {
         ensures ok { OnOk result (into.new.items ≡ into.old.items ++ set_spelled self.now) }
         ensures err { OnErr result (into.new.items ≡ into.old.items) }
     {
-        look_at(&self.dots);
+        look_at_all(&self.dots);
         let bytes = spelling_of(self.alloc, &self.dots)?;
         Ok(into.extend_from_slice(&bytes)?)
     }

@@ -3,6 +3,7 @@ pub mod FinalBlocks
 pub mod Foretold
 pub mod Holding
 pub mod KeepersBack
+pub mod KeyOrder
 pub mod NamedKinds
 pub mod Orders
 pub mod Runs

@@ -165,7 +165,7 @@ mapped f [] i y e = absurd (cc e)
 mapped f (x ∷ xs) zero y e = (x, refl, cc e, omega arith)
 mapped f (x ∷ xs) (suc i) y e = let r = mapped f xs i y e in (r.0, r.1, r.2, omega (arith, r.3))
 
-apart_names : (keys : List ScriptKey) → AllPairs (λ (a b : ScriptKey). a.key ≢ b.key) keys → AreDistinct (map (λ (k : ScriptKey). k.key) keys)
+pub apart_names : (keys : List ScriptKey) → AllPairs (λ (a b : ScriptKey). a.key ≢ b.key) keys → AreDistinct (map (λ (k : ScriptKey). k.key) keys)
 apart_names keys apart i j name e f =
     let a = mapped (λ (k : ScriptKey). k.key) keys i name e in
     let b = mapped (λ (k : ScriptKey). k.key) keys j name f in

@@ -84,6 +84,7 @@ module _ {Kind Shown : Type 0} (D : Replication Kind Op Shown) (answers : Keeper
   step_has p (form.Deliver from to (Some index)) has = deliver_has p from to index has
   step_has p (form.Lose from to) has = lose_has p from to has
   step_has p form.Round has = round_has p (due_now D p) has
+  step_has p (form.Tick at) has = given_has p (Head.TickHead at) (Event.InputAt at Input.PruneTick) has
   step_has p (form.Remove id) has = remove_has p id has
   step_has p (form.Join place) has = join_has p place has
   step_has p (form.Restart id) has = restart_has p id has

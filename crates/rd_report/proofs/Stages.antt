@@ -113,6 +113,7 @@ module _ {T K Delta : Type 0} {ghosts : Ghosts T Kind Op Delta} {keeping : Keepi
   loads_told spelling (form.Deliver from to index) world tell = tt
   loads_told spelling (form.Lose from to) world tell = tt
   loads_told spelling form.Round world tell = tt
+  loads_told spelling (form.Tick at) world tell = tt
   loads_told spelling (form.Remove id) world tell = tt
   loads_told spelling (form.Join place) world tell = tt
   loads_told spelling (form.Restart id) world tell = tell (place_of (last_view world.views) id)
@@ -126,6 +127,7 @@ module _ {T K Delta : Type 0} {ghosts : Ghosts T Kind Op Delta} {keeping : Keepi
   loads_nothing spelling (form.Deliver from to index) world calm = tt
   loads_nothing spelling (form.Lose from to) world calm = tt
   loads_nothing spelling form.Round world calm = tt
+  loads_nothing spelling (form.Tick at) world calm = tt
   loads_nothing spelling (form.Remove id) world calm = tt
   loads_nothing spelling (form.Join place) world calm = tt
   loads_nothing spelling (form.Restart id) world calm = absurd (cc calm)

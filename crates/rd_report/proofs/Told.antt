@@ -10,16 +10,18 @@ use Rattle.rd_model.specs.Message as model
 use Rattle.rd_model.specs.Script as script
 use Rattle.rd_model.specs.Script.{Told}
 use Rattle.rd_model.specs.Report as report
-use Rattle.rd_model.specs.Report.{words, line_of, message_text, post_words, told_text, link_text}
+use Rattle.rd_model.specs.Report.{words, line_of, message_text, post_words, told_text, link_text, key_outcome_text}
 use Rattle.rd_kinds.specs.ShownText.{shown_text}
 use Rattle.rd_kinds.specs.declared.shown.Shown.{Shown}
+use Rattle.rd_node.specs.declared.outcome.KeyOutcome.{KeyOutcome}
+use Rattle.rd_node.specs.Replies.{meant_at_key}
 use Rattle.rd_world.specs.Lines.{sketched, sketched_post, IsHead, IsAnswer, IsLine}
 use Rattle.rd_world.specs.declared.event.Answer.{Answer}
 use Rattle.rd_world.specs.declared.event.Answer.TheVariants as answer
 use Rattle.rd_world.specs.declared.event.Event.{Event}
 use Rattle.rd_world.specs.declared.event.Head.{Head}
 use Rattle.rd_world.specs.declared.event.Head.TheVariants as head
-use Rattle.rd_report.specs.Lines.{sketch_text, delivered_words, head_words, answer_text, post_text, sent_text, event_text}
+use Rattle.rd_report.specs.Lines.{sketch_text, delivered_words, head_words, outcome_text, answer_text, post_text, sent_text, event_text}
 
 -- WORDS
 
@@ -34,6 +36,14 @@ words_spaced w (v ∷ ws) = ap (λ t. w ++ (32 ∷ t)) (words_spaced v ws)
 some_spaced : (ws : List Text) → 0 < length ws → 32 ∷ words ws ≡ flat_map spaced ws
 some_spaced [] some = absurd (omega arith)
 some_spaced (w ∷ ws) some = ap (λ t. 32 ∷ t) (words_spaced w ws)
+
+outcomes_spaced : (outcomes : List KeyOutcome) → flat_map outcome_text outcomes ≡ flat_map spaced (map key_outcome_text (map meant_at_key outcomes))
+outcomes_spaced [] = refl
+outcomes_spaced (told ∷ outcomes) = ap (λ t. outcome_text told ++ t) (outcomes_spaced outcomes)
+
+-- how a tick ended, and its outcomes
+pub ticked_words : (end : Text) (outcomes : List KeyOutcome) → end ++ flat_map outcome_text outcomes ≡ words (end ∷ map key_outcome_text (map meant_at_key outcomes))
+ticked_words end outcomes = ap (λ t. end ++ t) (outcomes_spaced outcomes) ∙ sym (words_spaced end (map key_outcome_text (map meant_at_key outcomes)))
 
 regroup : (a b c d : Text) (x y : ℕ) → a ++ (x ∷ []) ++ b ++ (y ∷ []) ++ c ++ d ≡ a ++ ((x ∷ b) ++ ((y ∷ c) ++ d))
 regroup a b c d x y = simp append_assoc
@@ -75,6 +85,7 @@ module _ {Op : Type 0} where
   head_told (head.Update at key) told is = sym (ap report.head_words is)
   head_told (head.Get at key) told is = sym (ap report.head_words is)
   head_told (head.Flush at) told is = sym (ap report.head_words is)
+  head_told (head.Tick at) told is = sym (ap report.head_words is)
   head_told (head.Gossip at to) told is = sym (ap report.head_words is)
   head_told (head.Deliver from to index sketch) told is =
       ap (λ ws. codes "deliver" ∷ link_text from to index ∷ ws) (ap delivered_words is.2 ∙ delivered_told is.0) ∙ sym (ap report.head_words is.1)

@@ -1,12 +1,14 @@
 -- The texts of events, as the lines of a report tell them.
 use Rattle.std.specs.Prelude.{ℕ, List, [], ◌∷◌, ◌++◌, codes, decimal, flat_map, Option, None, Some}
 use Rattle.rd_history.specs.Texts.{Text}
-use Rattle.rd_model.specs.Report.{words, slashed, link_text, line_of, reply_text}
+use Rattle.rd_model.specs.Report.{words, slashed, link_text, line_of, reply_text, key_outcome_text}
 use Rattle.rd_kinds.specs.ShownText.{shown_text}
 use Rattle.rd_messages.specs.declared.sketch.MessageKind.{MessageKind}
 use Rattle.rd_messages.specs.declared.sketch.MessageKind.TheVariants.{Deltas, Nack, Status, Gossip, Write, WriteAck, WriteNack, Read, ReadAnswer}
 use Rattle.rd_messages.specs.declared.sketch.Sketch.{Sketch}
+use Rattle.rd_node.specs.declared.outcome.KeyOutcome.{KeyOutcome}
 use Rattle.rd_node.specs.Members.{meant}
+use Rattle.rd_node.specs.Replies.{meant_at_key}
 use Rattle.rd_world.specs.declared.event.Answer.{Answer}
 use Rattle.rd_world.specs.declared.event.Answer.TheVariants as answer
 use Rattle.rd_world.specs.declared.event.Event.{Event}
@@ -37,6 +39,7 @@ abbrev pub head_words : Head → List Text
 head_words (head.Update at key) = codes "update" ∷ decimal at ∷ key ∷ []
 head_words (head.Get at key) = codes "get" ∷ decimal at ∷ key ∷ []
 head_words (head.Flush at) = codes "flush" ∷ decimal at ∷ []
+head_words (head.Tick at) = codes "tick" ∷ decimal at ∷ []
 head_words (head.Gossip at to) = codes "gossip" ∷ decimal at ∷ decimal to ∷ []
 head_words (head.Deliver from to index sketch) = codes "deliver" ∷ link_text from to index ∷ delivered_words sketch
 head_words (head.Lose from to index) = codes "lose" ∷ link_text from to index ∷ []
@@ -45,6 +48,10 @@ head_words (head.Remove id) = codes "remove" ∷ decimal id ∷ []
 head_words (head.Join place) = codes "join" ∷ decimal place ∷ []
 head_words (head.Restart id) = codes "restart" ∷ decimal id ∷ []
 head_words (head.Install at view) = codes "install" ∷ decimal at ∷ codes "view" ∷ decimal view ∷ []
+
+-- an outcome of a tick, after a space
+abbrev pub outcome_text : KeyOutcome → Text
+outcome_text told = codes " " ++ key_outcome_text (meant_at_key told)
 
 abbrev pub answer_text : Answer → Text
 answer_text (answer.Reply reply) = reply_text shown_text (meant reply)

@@ -1,11 +1,12 @@
-ghost use Rattle.std.specs.Prelude.{◌≡◌, ◌++◌, flat_map, string_bytes, OnOk};
-ghost use Rattle.rd_model.specs.Report.{words, reply_text};
+ghost use Rattle.std.specs.Prelude.{◌≡◌, ◌∷◌, ◌++◌, map, flat_map, string_bytes, OnOk};
+ghost use Rattle.rd_model.specs.Report.{words, reply_text, key_outcome_text};
 ghost use Rattle.rd_kinds.specs.ShownText.{shown_text};
 ghost use Rattle.rd_node.specs.Members.{meant};
-ghost use Rattle.rd_report.specs.Lines.{sketch_text, head_words, answer_text, sent_text, event_text};
+ghost use Rattle.rd_node.specs.Replies.{meant_at_key};
+ghost use Rattle.rd_report.specs.Lines.{sketch_text, outcome_text, head_words, answer_text, sent_text, event_text};
 
 use rd_bytes::Memory;
-use rd_node::{MessageKind, Reply, Sketch};
+use rd_node::{KeyOutcome, MessageKind, Outcome, Reply, Sketch};
 use rd_texts::push_shown;
 use rd_world::{Answer, Event, Head, SentTo};
 use std::alloc::Global;
@@ -38,6 +39,7 @@ fn push_head(text: &mut String, head: &Head) -> Result<(), Memory>
         Head::Update { at, key } => write!(text, "update {} {}", at.number(), key.as_str())?,
         Head::Get { at, key } => write!(text, "get {} {}", at.number(), key.as_str())?,
         Head::Flush { at } => write!(text, "flush {}", at.number())?,
+        Head::Tick { at } => write!(text, "tick {}", at.number())?,
         Head::Gossip { at, to } => write!(text, "gossip {} {}", at.number(), to.number())?,
         Head::Deliver {
             from,
@@ -59,6 +61,35 @@ fn push_head(text: &mut String, head: &Head) -> Result<(), Memory>
         Head::Join { place } => write!(text, "join {place}")?,
         Head::Restart { id } => write!(text, "restart {}", id.number())?,
         Head::Install { at, view } => write!(text, "install {} view {view}", at.number())?,
+    }
+    Ok(())
+}
+
+/// Adds what a tick made of the records of one identity that left, after a space.
+fn push_outcome(text: &mut String, told: &KeyOutcome) -> Result<(), Memory>
+    ensures { OnOk result (string_bytes text.new ≡ string_bytes text.old ++ outcome_text told.now) }
+{
+    write!(text, " {}/{}:", told.key.as_str(), told.removed.number())?;
+    match told.outcome {
+        Outcome::Marked => text.push_str("marked")?,
+        Outcome::Performed => text.push_str("performed")?,
+        Outcome::Waiting(unseen) => write!(text, "waiting-{}", unseen.number())?,
+        Outcome::Blocked {
+            owner_share,
+            removed_share,
+        } => write!(text, "blocked-{owner_share}-{removed_share}")?,
+        Outcome::Newer => text.push_str("newer")?,
+    }
+    Ok(())
+}
+
+/// Adds how a tick ended, and then its outcomes.
+fn push_ticked(text: &mut String, end: &str, outcomes: &[KeyOutcome]) -> Result<(), Memory>
+    ensures { OnOk result (string_bytes text.new ≡ string_bytes text.old ++ words (end.now ∷ map key_outcome_text (map meant_at_key outcomes.now))) }
+{
+    text.push_str(end)?;
+    for told in outcomes {
+        push_outcome(text, told)?;
     }
     Ok(())
 }
@@ -90,6 +121,11 @@ fn push_reply(alloc: Global, text: &mut String, reply: &Reply) -> Result<(), Mem
         Reply::Installed => text.push_str("installed")?,
         Reply::OldView => text.push_str("old view")?,
         Reply::NotAPeer => text.push_str("not a peer")?,
+        Reply::Ticked(outcomes) => push_ticked(text, "done", outcomes.as_slice())?,
+        Reply::TickedStoreFailed(outcomes) => {
+            push_ticked(text, "store failed", outcomes.as_slice())?;
+        }
+        Reply::NotLeader(leader) => write!(text, "not leader {}", leader.number())?,
     }
     Ok(())
 }

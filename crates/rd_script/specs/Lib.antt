@@ -2,4 +2,5 @@ pub mod Fields
 pub mod Operations
 pub mod Reading
 pub mod Refusals
+pub mod Rules
 pub mod WellFormed

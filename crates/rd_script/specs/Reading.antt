@@ -11,7 +11,7 @@ use Rattle.rd_script.specs.declared.fault.Rule.{Rule}
 use Rattle.rd_script.specs.declared.script.Script.{Script}
 use Rattle.rd_script.specs.declared.script.ScriptKey.{ScriptKey}
 use Rattle.rd_script.specs.declared.script.Step.{Step}
-use Rattle.rd_script.specs.declared.script.Step.TheVariants.{Update, Get, Flush, Gossip, Deliver, Lose, Round, Remove, Join, Restart, Install}
+use Rattle.rd_script.specs.declared.script.Step.TheVariants.{Update, Get, Flush, Gossip, Deliver, Lose, Round, Tick, Remove, Join, Restart, Install}
 use Rattle.rd_script.specs.Fields.{rule, ◌>>=◌, guard, required, are_objects, has_names, names_of, identity_of, place_of, number_of, if_given, flag_of, whole_of, text_of, list_of, key_of}
 use Rattle.rd_script.specs.Operations.{op_named, update_names, op_of}
 
@@ -68,6 +68,12 @@ round_of step d = do
   names ← names_of step (codes "do" ∷ []) [] d
   Ok Round
 
+unfoldable pub tick_of : ℕ → Data → Result Step Rule
+tick_of step d = do
+  names ← names_of step (codes "at" ∷ codes "do" ∷ []) [] d
+  at ← identity_of step (get (codes "at") d)
+  Ok (Tick at)
+
 unfoldable pub remove_of : ℕ → Data → Result Step Rule
 remove_of step d = do
   names ← names_of step (codes "do" ∷ codes "id" ∷ []) [] d
@@ -103,11 +109,12 @@ step_by step d name =
     if bytes_eq name (codes "deliver") then deliver_of step d else (
     if bytes_eq name (codes "lose") then lose_of step d else (
     if bytes_eq name (codes "round") then round_of step d else (
+    if bytes_eq name (codes "tick") then tick_of step d else (
     if bytes_eq name (codes "remove") then remove_of step d else (
     if bytes_eq name (codes "join") then join_of step d else (
     if bytes_eq name (codes "restart") then restart_of step d else (
     if bytes_eq name (codes "install") then install_of step d else
-    Err (rule step 5)))))))))))
+    Err (rule step 5))))))))))))
 
 unfoldable pub step_of : ℕ → Data → Result Step Rule
 step_of step d = text_of (rule step 5) (get (codes "do") d) >>= step_by step d

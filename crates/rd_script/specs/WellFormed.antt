@@ -4,7 +4,7 @@ use Rattle.rd_kinds.specs.declared.operation.Op.{Op}
 use Rattle.rd_kinds.specs.declared.operation.Op.TheVariants.{Increment, Decrement, Add, Remove, Enable, Assign}
 use Rattle.rd_script.specs.declared.script.Script.{Script}
 use Rattle.rd_script.specs.declared.script.Step.{Step}
-use Rattle.rd_script.specs.declared.script.Step.TheVariants.{Update, Get, Flush, Gossip, Deliver, Lose, Round, Remove, Join, Restart, Install}
+use Rattle.rd_script.specs.declared.script.Step.TheVariants.{Update, Get, Flush, Gossip, Deliver, Lose, Round, Tick, Remove, Join, Restart, Install}
 
 -- what a counter takes at once
 abbrev pub IsAmount : ℕ → Type 0
@@ -42,6 +42,7 @@ IsStep (Gossip at to) = IsIdentity at × IsIdentity to
 IsStep (Deliver from to index) = IsIdentity from × IsIdentity to
 IsStep (Lose from to) = IsIdentity from × IsIdentity to
 IsStep Round = ⊤
+IsStep (Tick at) = IsIdentity at
 IsStep (Remove id) = IsIdentity id
 IsStep (Join place) = IsPlace place
 IsStep (Restart id) = IsIdentity id

@@ -7,12 +7,14 @@
 mod fault;
 mod fields;
 mod keys;
+mod laws;
 mod operations;
 mod read;
 mod script;
 mod steps;
 
 pub use fault::Rule;
+pub use laws::rules_in_order;
 pub use read::{ScriptError, read_script};
 pub use script::{Script, ScriptKey, Step};
 

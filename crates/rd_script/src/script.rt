@@ -49,6 +49,10 @@ pub enum Step {
     },
     /// The messages that are due on all links are delivered.
     Round,
+    /// A member is to mark, or to prune, what is left of members that left, if it leads its view.
+    Tick {
+        at: Id,
+    },
     /// A member is to leave.
     Remove {
         id: Id,

@@ -1,7 +1,7 @@
 ghost use Rattle.std.specs.Prelude.{◌≡◌, ◌+◌, ◌≤◌, [], length, All, IfOk};
 ghost use Rattle.serde_json.specs.View.{view, items_view};
 ghost use Rattle.rd_script.specs.Fields.{Gives};
-ghost use Rattle.rd_script.specs.Reading.{update_of, get_of, flush_of, gossip_of, deliver_of, lose_of, round_of, remove_of, join_of, restart_of, install_of, step_of, steps_after};
+ghost use Rattle.rd_script.specs.Reading.{update_of, get_of, flush_of, gossip_of, deliver_of, lose_of, round_of, tick_of, remove_of, join_of, restart_of, install_of, step_of, steps_after};
 ghost use Rattle.rd_script.specs.WellFormed.{IsStep};
 
 use crate::fault::{Fault, Rule};
@@ -95,6 +95,16 @@ fn round(step: u32, value: &Value) -> Result<Step, Rule>
     Ok(Step::Round)
 }
 
+#[tactic(auto, unfolding(crate::specs::Reading::tick_of))]
+fn tick(step: u32, value: &Value) -> Result<Step, Rule>
+    ensures value { result ≡ tick_of step (view value.now) }
+    ensures bounds { IfOk result IsStep }
+{
+    step_names(value, &["at", "do"], &[], step)?;
+    let at = identity(value, "at", step)?;
+    Ok(Step::Tick { at })
+}
+
 #[tactic(auto, unfolding(crate::specs::Reading::remove_of))]
 fn remove(step: u32, value: &Value) -> Result<Step, Rule>
     ensures value { result ≡ remove_of step (view value.now) }
@@ -149,6 +159,7 @@ fn one_step(alloc: Global, step: u32, value: &Value) -> Result<Step, Fault>
         "deliver" => Ok(deliver(step, value)?),
         "lose" => Ok(lose(step, value)?),
         "round" => Ok(round(step, value)?),
+        "tick" => Ok(tick(step, value)?),
         "remove" => Ok(remove(step, value)?),
         "join" => Ok(join(step, value)?),
         "restart" => Ok(restart(step, value)?),

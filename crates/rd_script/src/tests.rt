@@ -36,7 +36,6 @@ step 1 rule 5: {"do":"settle"}
 step 1 rule 5: {"do":"update","at":64}
 step 1 rule 5: {"do":"update","op":"set"}
 step 1 rule 5: {"do":"update","op":["add"],"element":7}
-step 1 rule 5: {"do":"tick","at":0}
 step 1 rule 5: {"do":"timeout","at":0,"op":0}
 step 1 rule 5: {"do":"threads","clients":[]}
 step 2 rule 6: {"do":"round"},{"do":"round","at":0}
@@ -44,6 +43,7 @@ step 1 rule 6: {"do":"get","at":64}
 step 1 rule 6: {"do":"get","at":0,"key":"n","level":"local"}
 step 1 rule 6: {"do":"gossip","at":0}
 step 1 rule 6: {"do":"lose","from":0,"to":1,"index":0}
+step 1 rule 6: {"do":"tick","at":64,"to":0}
 step 1 rule 6: {"do":"remove","at":0}
 step 1 rule 6: {"do":"join","place":8,"id":0}
 step 1 rule 6: {"do":"restart","place":0}
@@ -61,6 +61,7 @@ step 1 rule 7: {"do":"deliver","from":0,"to":1,"index":4294967296}
 step 1 rule 7: {"do":"deliver","from":64,"to":1}
 step 1 rule 7: {"do":"lose","from":0,"to":64}
 step 1 rule 7: {"do":"gossip","at":0,"to":64}
+step 1 rule 7: {"do":"tick","at":64}
 step 1 rule 7: {"do":"remove","id":64}
 step 1 rule 7: {"do":"join","place":8}
 step 1 rule 7: {"do":"restart","id":null}
@@ -102,6 +103,7 @@ deliver 1 2: {"do":"deliver","from":1,"to":2}
 deliver 2 1 index 4294967295: {"do":"deliver","from":2,"index":4294967295,"to":1}
 lose 1 2: {"do":"lose","from":1,"to":2}
 round: {"do":"round"}
+tick 1: {"at":1,"do":"tick"}
 remove 63: {"do":"remove","id":63}
 join 7: {"do":"join","place":7}
 restart 0: {"do":"restart","id":0}
@@ -170,6 +172,7 @@ fn line(alloc: Global, step: &Step) -> Result<String, Fail> {
             format!(in alloc; "lose {link}")?
         }
         Step::Round => String::from_str(alloc, "round")?,
+        Step::Tick { at } => format!(in alloc; "tick {}", at.number())?,
         Step::Remove { id } => format!(in alloc; "remove {}", id.number())?,
         Step::Join { place } => format!(in alloc; "join {place}")?,
         Step::Restart { id } => format!(in alloc; "restart {}", id.number())?,

@@ -6,7 +6,13 @@ mod due;
 #[cfg(test)]
 mod failing_tests;
 #[cfg(test)]
+mod largest_tests;
+#[cfg(test)]
 mod membership_tests;
+#[cfg(test)]
+mod printing_tests;
+#[cfg(test)]
+mod prune_tests;
 mod status;
 #[cfg(test)]
 mod tests;

@@ -2,6 +2,7 @@
 use Rattle.std.proofs.Common.{◌≡◌, ℕ, ◌≤◌, true, false, List, ◌++◌, Ok, refl, ap, sym, subst, ◌∙◌, arith, ⊎_elim}
 use Rattle.std.specs.Prelude.{nat_le}
 use Rattle.std.proofs.lemmas.Bool.{cases_eq, leb-true, and_parts}
+use Rattle.rd_history.specs.Table.{identity_limit}
 use Rattle.rd_history.specs.Vector.{VersionVector, IdentitySet}
 use Rattle.rd_history.specs.History.{History, cut}
 use Rattle.rd_history.specs.Cuts.{IsPrunedCut}
@@ -102,6 +103,14 @@ again_of (LwwRegister state) barred rest sound free = ap (told_as LwwRegister) (
 
 pub spelled_is_read : (x : Data) (barred : IdentitySet) (rest : List ℕ) → IsSound x → ((i : ℕ) → barred i ≡ true → mentioned x i ≡ false) → read_in (byte_of (kind_of x)) barred (spelled x ++ rest) ≡ Ok (x, rest)
 spelled_is_read x barred rest sound free = ap (λ (kind : Kind). read_of kind barred (spelled x ++ rest)) (kind_back (kind_of x)) ∙ again_of x barred rest sound free
+
+pub mentioned_few : (x : Data) (id : ℕ) → IsSound x → identity_limit ≤ id → mentioned x id ≡ false
+mentioned_few (GCounter state) id sound many = gcounter.mentioned_few-law state id sound many
+mentioned_few (PnCounter state) id sound many = pncounter.mentioned_few-law state id sound many
+mentioned_few (GSet state) id sound many = gset.mentioned_few-law state id sound many
+mentioned_few (OrSet state) id sound many = orset.mentioned_few-law state id sound many
+mentioned_few (Flag state) id sound many = flag.mentioned_few-law state id sound many
+mentioned_few (LwwRegister state) id sound many = register.mentioned_few-law state id sound many
 
 pub spelling_means : (state : Data) (log : History Op) (held : VersionVector) (gone : IdentitySet) → IsPrunedCut log held gone → IsDataOf state log held gone → spelled state ≡ history_spelled (kind_of state) (cut log held)
 spelling_means (GCounter state) log held gone pruned is = gcounter.spelling_means-law state log held gone pruned is

@@ -107,5 +107,7 @@ impl SpelledData for Data {
 
     ghost spelled_is_read = { laws.spelled_is_read };
 
+    ghost mentioned_few = { laws.mentioned_few };
+
     ghost spelling_means = { laws.spelling_means };
 }

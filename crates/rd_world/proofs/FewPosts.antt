@@ -4,17 +4,17 @@ use Rattle.std.proofs.lemmas.List.{length-map}
 use Rattle.std.specs.Prelude.{nat_le, if◌then◌else◌, filter, not, ◌==◌, ◌||◌}
 use Rattle.std.specs.List.{list_any}
 use Rattle.rd_history.specs.Texts.{Text}
-use Rattle.rd_model.specs.View.{View, Member, identities_of, is_member, others}
+use Rattle.rd_model.specs.View.{View, Member, identities_of, is_member, leader, others}
 use Rattle.rd_model.specs.Entry.{Entry, seen_by}
 use Rattle.rd_model.specs.DataType.{Replication}
 use Rattle.rd_model.specs.Message.{Keyed, Message, Post}
 use Rattle.rd_model.specs.Message.Message.{Deltas, Nack, Status, Gossip}
 use Rattle.rd_model.specs.Node.{Node, Input, Fate, Stepped, one_step_later, key_states}
-use Rattle.rd_model.specs.Node.Reply.{NotFromMember, OldView, NotAPeer, Done, NotStored, Installed}
-use Rattle.rd_model.specs.Step.{KeyGap, step, step_of_take, has_failed, answered, sent, answer_to, status_of, gossip_to, nack_to, is_behind, deltas_for}
+use Rattle.rd_model.specs.Node.Reply.{NotFromMember, OldView, NotAPeer, Done, NotStored, Installed, Ticked, TickedNotStored, NotLeader}
+use Rattle.rd_model.specs.Step.{KeyGap, step, step_of_take, has_failed, answered, sent, answer_to, status_of, gossip_to, nack_to, is_behind, deltas_for, outcomes_of, entry_after_tick}
 use Rattle.rd_model.proofs.Steps.{step-update-quiet, step-get-quiet}
 use Rattle.rd_runs.proofs.Keeping.{if_holds}
-use Rattle.rd_node.proofs.Fates.{IsOfProgram, update, get, deltas, nack, status, gossip, install, flush, gossip_to as to_peer}
+use Rattle.rd_node.proofs.Fates.{IsOfProgram, update, get, deltas, nack, status, gossip, install, flush, gossip_to as to_peer, prune_tick}
 
 some_member : (members : List Member) (i : ℕ) → list_any (λ j. j == i) (map (λ (m : Member). m.identity) members) ≡ true → 0 < length members
 some_member [] i e = absurd (cc e)
@@ -65,6 +65,13 @@ module _ {Kind Op Shown : Type 0} (D : Replication Kind Op Shown) (node : Node K
   by_view : (view : View) (fate : Fate) → IsFew (step D node (Input.Install view) fate)
   by_view view fate = if_holds IsFew (nat_le view.number node.view.number) _ _ (no_posts (answered (one_step_later node) OldView) refl) (no_posts (step_of_install_new view fate) refl)
 
+  abbrev step_of_leader : Fate → Stepped Kind Op Shown
+  step_of_leader fate =
+      answered (record (one_step_later node) { entries = entry_after_tick D (one_step_later node) }) (if has_failed fate then TickedNotStored (outcomes_of D (one_step_later node)) else Ticked (outcomes_of D (one_step_later node)))
+
+  by_leader : (fate : Fate) → IsFew (step D node Input.PruneTick fate)
+  by_leader fate = if_holds IsFew (not (leader node.view == node.identity)) _ _ (no_posts (answered (one_step_later node) (NotLeader (leader node.view))) refl) (no_posts (step_of_leader fate) refl)
+
   pub few_posts : (input : Input Op) → IsOfProgram input → (fate : Fate) → IsFew (step D node input fate)
   few_posts input (update key op) fate = no_posts (step D node input fate) (step-update-quiet D node key fate op).posts
   few_posts input (get key) fate = no_posts (step D node input fate) (step-get-quiet D node key fate).posts
@@ -80,4 +87,5 @@ module _ {Kind Op Shown : Type 0} (D : Replication Kind Op Shown) (node : Node K
       let b = filter_shorter (λ (j : ℕ). not (j == node.identity)) (identities_of node.view) in
       let d = length-map node.view.members (λ (m : Member). m.identity) in
       subst (λ n. n ≤ length node.view.members) (sym (length-map behind (λ (peer : ℕ). record { to = peer; message = deltas_for D (one_step_later node) peer }))) (omega (arith, a, b, d))
+  few_posts input prune_tick fate = by_leader fate
   few_posts input (to_peer i) fate = by_peer i ((i == node.identity) || not (is_member node.view i)) refl

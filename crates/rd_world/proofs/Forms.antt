@@ -39,6 +39,7 @@ pub data IsWhole : Step → Type 0 where
   get : (at : ℕ) (key : Text) → IsWhole (form.Get at key)
   flush : (at : ℕ) → IsWhole (form.Flush at)
   gossip : (at to : ℕ) → IsWhole (form.Gossip at to)
+  tick : (at : ℕ) → IsWhole (form.Tick at)
   deliver : (from to : ℕ) (index : Option ℕ) → IsWhole (form.Deliver from to index)
   install : (at view : ℕ) → IsWhole (form.Install at view)
 
@@ -54,6 +55,7 @@ module _ {T K Kind Delta : Type 0} {ghosts : Ghosts T Kind Op Delta} {keeping : 
   stays_so step (get at key) old new b = b.stays
   stays_so step (flush at) old new b = b.stays
   stays_so step (gossip at to) old new b = b.stays
+  stays_so step (tick at) old new b = b.stays
   stays_so step (deliver from to index) old new b = b.stays
   stays_so step (install at view) old new b = b.stays
 

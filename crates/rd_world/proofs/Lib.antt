@@ -52,3 +52,4 @@ pub mod Sequences
 pub mod RoundSteps
 pub mod DueLists
 pub mod Rounding
+pub mod Lasting

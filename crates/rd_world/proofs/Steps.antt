@@ -22,7 +22,7 @@ use Rattle.rd_world.specs.declared.event.Event.{Event}
 use Rattle.rd_world.specs.Channels.{channel_at, next_on}
 use Rattle.rd_world.specs.Steps.{Plays, Remains, Reaches}
 use Rattle.rd_world.specs.Giving.{Gives, Refuses, Does, IsAsBefore, delivers}
-use Rattle.rd_world.proofs.Forms.{step_does, plays_does, remains_as, outcome_given, update, get, flush, gossip, deliver as whole_deliver}
+use Rattle.rd_world.proofs.Forms.{step_does, plays_does, remains_as, outcome_given, update, get, flush, gossip, tick, deliver as whole_deliver}
 use Rattle.rd_world.proofs.Losing.{same_next}
 
 module _ {T K Kind Delta : Type 0} {ghosts : Ghosts T Kind Op Delta} {keeping : Keeping K} (spelling : Spelling T Kind Op Delta) (old new : World T K Kind Op Delta ghosts keeping) where
@@ -51,6 +51,11 @@ module _ {T K Kind Delta : Type 0} {ghosts : Ghosts T Kind Op Delta} {keeping : 
     gossips at to gives =
         step_does spelling (form.Gossip at to) (gossip at to) old new outcome
         (outcome_given spelling alike (ScriptStep.Gossip at to) tt (script.Head.GossipHead at to) at (Input.GossipTo to) (head.Gossip at to) refl (input.GossipTo to) old new (λ kinds members decls p m. refl) (λ kinds logs keys. refl) outcome gives)
+
+    pub ticks : (at : ℕ) → MatchResult outcome (Gives spelling at (head.Tick at) input.PruneTick old new) (λ e. Refuses at old new) → PlaysOr (form.Tick at) outcome
+    ticks at gives =
+        step_does spelling (form.Tick at) (tick at) old new outcome
+        (outcome_given spelling alike (ScriptStep.Tick at) tt (script.Head.TickHead at) at Input.PruneTick (head.Tick at) refl input.PruneTick old new (λ kinds members decls p m. refl) (λ kinds logs keys. refl) outcome gives)
 
   module _ (outcome : Result Event Memory) (from to : ℕ) where
     abbrev Delivers : ℕ → Type 0

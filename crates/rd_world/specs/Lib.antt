@@ -10,3 +10,4 @@ pub mod Sending
 pub mod Steps
 pub mod Giving
 pub mod Rounds
+pub mod Gone

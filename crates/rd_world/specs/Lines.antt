@@ -63,6 +63,7 @@ module _ {Op : Type 0} where
   IsHead (head.Update at key) told = told ≡ script.Head.UpdateHead at key
   IsHead (head.Get at key) told = told ≡ script.Head.GetHead at key
   IsHead (head.Flush at) told = told ≡ script.Head.FlushHead at
+  IsHead (head.Tick at) told = told ≡ script.Head.TickHead at
   IsHead (head.Gossip at to) told = told ≡ script.Head.GossipHead at to
   IsHead (head.Deliver from to index sketch) told =
       (message : Option (model.Message Op)) × (told ≡ script.Head.DeliverHead from to index message) × (sketch ≡ option_map sketched message)

@@ -36,6 +36,7 @@ step_of (form.Gossip at to) = ScriptStep.Gossip at to
 step_of (form.Deliver from to index) = ScriptStep.Deliver from to index
 step_of (form.Lose from to) = ScriptStep.Lose from to
 step_of form.Round = ScriptStep.Round
+step_of (form.Tick at) = ScriptStep.Tick at
 step_of (form.Remove id) = ScriptStep.Remove id
 step_of (form.Join place) = ScriptStep.Join place
 step_of (form.Restart id) = ScriptStep.Restart id

@@ -19,6 +19,10 @@ pub enum Head {
     Flush {
         at: Id,
     },
+    /// A member was to mark, or to prune, what is left of members that left.
+    Tick {
+        at: Id,
+    },
     /// A member told another the digests of its entries.
     Gossip {
         at: Id,

@@ -2,6 +2,7 @@
 #![tactic(auto)]
 
 mod event;
+mod laws;
 mod links;
 mod membership;
 mod playing;
@@ -11,6 +12,7 @@ mod start;
 mod world;
 
 pub use event::{Answer, Event, Events, Head, SentTo, Sketches};
+pub use laws::the_removed_never_returns;
 pub use links::Links;
 pub use start::StartError;
 pub use world::World;

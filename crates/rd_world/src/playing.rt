@@ -65,6 +65,7 @@ impl<T: SpelledData<Op = Op>, K: Keeper + Drop> World<T, K> {
             Step::Deliver { from, to, index } => self.deliver_one(*from, *to, *index),
             Step::Lose { from, to } => Ok(self.lose(*from, *to)),
             Step::Round => unreachable!(),
+            Step::Tick { at } => self.tick(*at),
             Step::Remove { id } => self.remove(*id),
             Step::Join { place } => self.join(*place),
             Step::Restart { id } => self.restart(*id),
@@ -109,6 +110,13 @@ impl<T: SpelledData<Op = Op>, K: Keeper + Drop> World<T, K> {
         ensures { MakesStep T.SpelledData.own (form.Gossip at to) self.old self.new result }
     {
         self.give(at, Head::Gossip { at, to }, &Input::GossipTo(to))
+    }
+
+    /// A member is to mark, or to prune, what is left of members that left.
+    fn tick(&mut self, at: Id) -> Result<Event, Memory>
+        ensures { MakesStep T.SpelledData.own (form.Tick at) self.old self.new result }
+    {
+        self.give(at, Head::Tick { at }, &Input::PruneTick)
     }
 
     /// The message of a number is delivered, or the next one due where no number is given.

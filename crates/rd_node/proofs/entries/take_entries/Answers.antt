@@ -48,5 +48,5 @@ loop-keyed-preserved g c =
     }
 
 pub returns-clause-image : goal.returns-clause-image
-returns-clause-image g c = λ kinds logs before node sent exact of_kinds held kept tells work.
-    c.loop-keyed.invariant.image kinds logs before node sent [] exact of_kinds held kept (subst (λ xs. TellsEntries g.T.Replica kinds logs c.args.keys.now xs sent) (sym (take_all c.loop-keyed.keyed-index c.args.entries.now (omega arith))) tells) work
+returns-clause-image g c = λ kinds logs before node sent exact way tells work.
+    c.loop-keyed.invariant.image kinds logs before node sent [] exact way.of_kinds way.held way.kept (subst (λ xs. TellsEntries g.T.Replica kinds logs c.args.keys.now xs sent) (sym (take_all c.loop-keyed.keyed-index c.args.entries.now (omega arith))) tells) work

@@ -15,7 +15,8 @@ returns-then-is_fit-clause-fit g c =
       kind = fit.0;
       envelope = found.0;
       spelled = found.1;
-      names = names_earlier g.T.Replica c.args.id c.args.given (parts_of c.in-Ok.entry) found.0.spelled.marks found.0.spelled.versions fit.1;
+      names = names_earlier g.T.Replica c.args.id c.args.given (parts_of c.in-Ok.entry) found.0.spelled.marks found.0.spelled.versions fit.1
+          (λ i many. g.met.T.SpelledData.mentioned_few (parts_of c.in-Ok.entry).value i found.0.spelled.value many);
     }
 
 pub returns-else-is_fit-clause-unfit : goal.returns-else-is_fit-clause-unfit

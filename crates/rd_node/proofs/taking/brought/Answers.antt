@@ -31,7 +31,9 @@ returns-clause-kept g c =
     subst (AreMade Kept keys) (sym (items_back Kept keys (with_items first one) two k1' k2)) k2
 
 pub returns-clause-image : goal.returns-clause-image
-returns-clause-image g c = λ digest kinds logs node sent exact of_kinds held identity viewed declares stands other.
+returns-clause-image g c = λ digest kinds logs node sent held_by stands other exact.
+    let of_kinds = held_by.of_kinds in
+    let held = held_by.held in
     let R = g.T.Replica in
     let D = delta_groups R.data_type digest in
     let Kept = IsKept R.kind_of c.args.id in
@@ -53,11 +55,11 @@ returns-clause-image g c = λ digest kinds logs node sent exact of_kinds held id
     let k2 = c.in_ok-take_entries.ensures.kept k1' in
     let back2 = items_back Kept keys (with_items first one) two (subst (AreMade Kept keys) (sym back1) k1) k2 in
     let w0 : IsAtWork R.kind_of R.IsDataOf kinds logs c.args.id keys c.args.view node.entries c.as_mut_slice.result.now node =
-    record { identity = identity; viewed = viewed; declares = declares; leads = subst (AreMade (LeadsTo R.IsDataOf logs node.entries node.entries) keys) (sym c.as_mut_slice.ensures.value) (leads_first R.IsDataOf logs node.entries keys first.items c.in_ok-changes.ensures) } in
+    record { identity = held_by.identity; viewed = held_by.viewed; declares = held_by.declares; leads = subst (AreMade (LeadsTo R.IsDataOf logs node.entries node.entries) keys) (sym c.as_mut_slice.ensures.value) (leads_first R.IsDataOf logs node.entries keys first.items c.in_ok-changes.ensures) } in
     let w1 = c.in_ok-gaps.ensures.image kinds logs c.args.view node.entries node b.sent_groups of_kinds held k0 groups w0 in
     let gaps = c.in_ok-gaps.ensures.gaps kinds logs c.args.view node.entries node b.sent_groups of_kinds held k0 groups w0 in
     let w1' = subst (λ cs. IsAtWork R.kind_of R.IsDataOf kinds logs c.args.id keys c.args.view node.entries cs mid.node) (sym e1) w1 in
-    let w2 = c.in_ok-take_entries.ensures.image kinds logs node.entries mid.node b.sent_entries (subst (λ (n : Member g.row.T-Kind.Denot g.row.T-Op.Denot Shown). AreExactAt keys n.entries) b.takes.next exact) of_kinds held k1' entries w1' in
+    let w2 = c.in_ok-take_entries.ensures.image kinds logs node.entries mid.node b.sent_entries (subst (λ (n : Member g.row.T-Kind.Denot g.row.T-Op.Denot Shown). AreExactAt keys n.entries) b.takes.next exact) (record { of_kinds = of_kinds; held = held; kept = k1' }) entries w1' in
     let e2 = c.deref.ensures.value ∙ back2 in
     let named = c.in_ok-entries.ensures digest kinds logs c.args.id c.args.view node.entries after held (subst (AreMade Kept keys) (sym e2) k2) (subst (λ cs. IsAtWork R.kind_of R.IsDataOf kinds logs c.args.id keys c.args.view node.entries cs after) (sym e2) w2) in
     let named' = subst (λ names. AllZip (StandsForKeyed R.kind_of R.IsDataOf kinds logs) c.in_ok-entries.entries (named_entries D after names)) c.names.ensures named in

@@ -1,19 +1,16 @@
-use Rattle.std.proofs.Common.{◌≡◌, false, ap, sym, ◌∙◌, ◌+◌, drop}
+use Rattle.std.proofs.Common.{◌≡◌, ◌<◌, length, false, ap, sym, ◌∙◌, ◌+◌, drop, arith}
 use Rattle.std.specs.Str.{bytes_eq}
-use Rattle.std.proofs.lemmas.Bool.{not-true}
-use Rattle.rd_history.specs.Texts.{Text}
-use Rattle.rd_orset.specs.declared.set.Placed.{Placed}
+use Rattle.rd_orset.specs.Placing.{nth}
 use Rattle.rd_orset.specs.Runs.{run}
-use Rattle.rd_orset.proofs.Runs.{run_starts, run_stops, run_bounds}
+use Rattle.rd_orset.proofs.Tables.{nth_at}
+use Rattle.rd_orset.proofs.Runs.{run_starts, run_stops}
 use Rattle.rd_orset.proofs.spelling.run_end.Goals as goal
 
-pub returns-then-ne-clause-place : goal.returns-then-ne-clause-place
-returns-then-ne-clause-place c =
-    let first = c.index-dots-start.result in
-    let differs : bytes_eq first.element c.index-dots-end.result.element ≡ false =
-    ap (λ (t : Text). bytes_eq t c.index-dots-end.result.element) (sym c.as_str.ensures.value) ∙ ap (λ (p : Placed). bytes_eq c.as_str.result.now p.element) c.index-dots-end.is ∙ ap (bytes_eq c.as_str.result.now) (sym c.as_str-in-loop-end.ensures.value) ∙ not-true _ (sym c.if-ne.ensures) in
-    run_stops first.element c.args.dots.now c.loop-end.end (c.args.start + run first.element (drop c.args.start c.args.dots.now)) c.index-dots-end.result c.loop-end-test.true c.index-dots-end.is differs c.loop-end.invariant
-    ∙ ap (λ k. c.args.start + k) (sym (run_starts c.args.dots.now c.args.start first c.requires c.index-dots-start.is))
-
-pub returns-then-ne-clause-within : goal.returns-then-ne-clause-within
-returns-then-ne-clause-within c = run_bounds c.args.dots.now c.args.start c.loop-end.end c.requires (returns-then-ne-clause-place c)
+pub returns-then-not-same_element-clause-place : goal.returns-then-not-same_element-clause-place
+returns-then-not-same_element-clause-place c =
+    let first = nth c.args.dots.now c.args.start in
+    let next = nth c.args.dots.now c.loop-end.end in
+    let differs : bytes_eq first.element next.element ≡ false = sym c.same_element.ensures ∙ c.if-not-same_element.true in
+    let inside : c.loop-end.end < length c.args.dots.now = omega (arith, c.loop-end-test.true, c.len-end-end.ensures) in
+    run_stops first.element c.args.dots.now c.loop-end.end (c.args.start + run first.element (drop c.args.start c.args.dots.now)) next inside (nth_at c.args.dots.now c.loop-end.end inside) differs c.loop-end.invariant
+    ∙ ap (λ k. c.args.start + k) (sym (run_starts c.args.dots.now c.args.start first c.requires (nth_at c.args.dots.now c.args.start c.requires)))

@@ -4,6 +4,8 @@ use Rattle.rd_vectors.specs.Vectors.{number_at}
 use Rattle.rd_markers.specs.Marks.{is_performed, begun}
 use Rattle.rd_envelope.specs.Words.{parts_of, init_by}
 use Rattle.rd_envelope.proofs.Judging.{init_absent, init_there, unpruned_there, stands_marked}
+use Rattle.rd_envelope.specs.Pruning.{init_as}
+use Rattle.rd_envelope.proofs.Pruned.{init_none, init_some, performed_still, unperformed}
 use Rattle.rd_envelope.proofs.envelope.Envelope.init_prune.Goals as goal
 
 pub returns-then-at-eq0-clause-outcome : goal.returns-then-at-eq0-clause-outcome
@@ -32,3 +34,21 @@ returns-in_default-clause-outcome g c = λ log entry s.
     let kept = unpruned_there D (parts_of one) log entry c.args.removed s some in
     init_there D (parts_of one) log entry c.args.removed c.args.view _ s some
     (c.first_step.ensures.unpruned (ap is_performed c.get.ensures.value ∙ kept) ∙ ap (λ m. init_by (begun m) c.args.view) c.get.ensures.value)
+
+pub returns-then-at-eq0-clause-init : goal.returns-then-at-eq0-clause-init
+returns-then-at-eq0-clause-init g c = init_none (parts_of c.args.self.now) c.args.removed c.args.view (sym c.at.ensures.value ∙ c.if-at-eq0.true)
+
+pub returns-in_ok-put-in-Marked-clause-init : goal.returns-in_ok-put-in-Marked-clause-init
+returns-in_ok-put-in-Marked-clause-init g c =
+    let some : 0 < number_at c.args.self.now.versions c.args.removed = omega (arith, c.at.ensures.value) in
+    init_some (parts_of c.args.self.now) c.args.removed c.args.view _ some (sym c.in-Marked.is ∙ c.first_step.ensures.init ∙ ap (λ m. init_as m c.args.view) c.get.ensures.value)
+
+pub returns-in_ok-put-in-Marked-clause-performed : goal.returns-in_ok-put-in-Marked-clause-performed
+returns-in_ok-put-in-Marked-clause-performed g c = λ r.
+    performed_still c.args.self.now.markers _ c.args.removed c.args.view c.args.owner c.with-seen.result c.in_ok-put-in-Marked.ensures.ok
+    (ap is_performed (sym c.get.ensures.value) ∙ unperformed c.get.result c.args.view (sym c.first_step.ensures.init ∙ c.in-Marked.is)) r
+
+pub returns-in_default-clause-init : goal.returns-in_default-clause-init
+returns-in_default-clause-init g c =
+    let some : 0 < number_at c.args.self.now.versions c.args.removed = omega (arith, c.at.ensures.value) in
+    init_some (parts_of c.args.self.now) c.args.removed c.args.view _ some (c.first_step.ensures.init ∙ ap (λ m. init_as m c.args.view) c.get.ensures.value)

@@ -1,4 +1,4 @@
-use Rattle.std.proofs.Common.{◌≡◌, ◌+◌, refl, ap, sym, ◌∙◌, subst}
+use Rattle.std.proofs.Common.{◌≡◌, ◌+◌, cond, refl, ap, sym, ◌∙◌, subst}
 use Rattle.std.specs.FinMap as map
 use Rattle.rd_history.specs.Vector.{with_member}
 use Rattle.rd_history.specs.History.{versions}
@@ -14,6 +14,7 @@ use Rattle.rd_envelope.specs.Images.{StandsFor}
 use Rattle.rd_envelope.specs.Words.{parts_of}
 use Rattle.rd_envelope.proofs.Tests.{performed_insert}
 use Rattle.rd_envelope.proofs.Holding.{holds_pruned, held_pruned}
+use Rattle.rd_envelope.proofs.Pruned.{pruned_numbers, marks_with}
 use Rattle.rd_envelope.proofs.Entries.{stands_pruned, next_of_prune, whole, blocked_same}
 use Rattle.rd_envelope.proofs.envelope.Envelope.prune.Goals as goal
 
@@ -60,3 +61,32 @@ returns-in-Err-Blocked-clause-blocked g c = λ log entry owner_share removed_sha
     sym (g.met.T.Replica.blocked_means one.value log held (performed_in one.markers) c.args.owner c.args.removed (held_pruned D _ log held s.holds) s.holds.state c.requires.member stays
     ∙ ap (g.T.Replica.data_type.blocked (g.T.Replica.kind_of one.value) c.args.owner c.args.removed) (whole D (parts_of one) log entry s))
     ∙ blocked_same meant _ _ _ _ owner_share removed_share (subst (λ x. IsPruneRefusal meant x) c.in-Err-Blocked.field-0-is c.in-Err-Blocked.ensures.refused) c.in-Err-Blocked.owner_share-is c.in-Err-Blocked.removed_share-is e
+
+pub returns-in-Ok-clause-pruned : goal.returns-in-Ok-clause-pruned
+returns-in-Ok-clause-pruned g c = λ _.
+    let one = c.args.self.now in
+    let owner = c.args.owner in
+    let id = c.args.removed in
+    let seq = c.at-at.ensures.value in
+    let versions = c.without.ensures ∙ ap (λ m. removed m id) (c.in_ok-raise.ensures.ok ∙ ap (λ m. raised m owner (c.at-at.result + 1)) c.in_ok-versions.ensures.same ∙ ap (λ n. raised one.versions owner (n + 1)) seq) in
+    let marks = c.in_ok-put.ensures.ok ∙ ap (λ m. map.insert m id (Performed owner (c.at-at.result + 1) c.at-upto.result)) c.in_ok-markers.ensures
+    ∙ (λ i. map.insert one.markers id (Performed owner (seq i + 1) (c.at-upto.ensures.value i))) in
+    record {
+      versions = pruned_numbers one.versions c.without.new.self owner id c.in_ok-versions.ensures.normal c.number-below_limit.ensures.range versions;
+      marks = marks_with one.markers c.put.new.self id _ marks;
+    }
+
+pub returns-in-Ok-clause-forgotten : goal.returns-in-Ok-clause-forgotten
+returns-in-Ok-clause-forgotten g c = λ log entry s taken _.
+    let D = g.T.Replica.IsDataOf in
+    let one = c.args.self.now in
+    let owner = c.args.owner in
+    let id = c.args.removed in
+    let held = versions entry.history in
+    let gone = performed_in one.markers in
+    let n = next_of_prune D (parts_of one) log entry owner id s taken in
+    let stays = c.requires.unpruned in
+    let seq : c.at-at.result + 1 ≡ held owner + 1 = ap (λ x. x + 1) (c.at-at.ensures.value ∙ s.holds.numbers owner ∙ uncleaned gone held owner c.requires.member) in
+    let made = subst (λ v. D v log (grown held owner) (with_member gone id)) (sym c.in-Ok.ensures.pruned)
+    (g.met.T.Replica.data_pruned one.value log held gone id (record { origin = owner; seq = c.at-at.result + 1 }) (held_pruned D _ log held s.holds) c.requires.member n seq s.holds.state c.requires.other stays c.in-Ok.ensures.unrefused) in
+    g.met.T.Replica.data_unmentioned c.prune.new.self log (grown held owner) (with_member gone id) id made (ap (λ b. cond b 0 (grown held owner id)) (with_member_is gone id id refl))

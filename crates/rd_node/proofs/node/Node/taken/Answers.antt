@@ -59,7 +59,8 @@ returns-clause-image g c = λ kinds logs node sent s i safe.
     let of_kinds = subst (AreOfTheirKinds R.kind_of) (sym keys_are) code.of_kinds in
     let held = subst (λ keys. AreHeld R.kind_of R.IsDataOf kinds logs code.id keys node.entries) (sym keys_are) (held_first R.kind_of R.IsDataOf kinds logs code node s) in
     let stands = subst (λ keys. StandsForTaken kinds logs keys c.args.message.now i.told) (sym keys_are) i.message_stands in
-    let t = c.in_ok-taken.ensures.image kinds logs (one_step_later node) i.told exact of_kinds held s.identity (ap (λ v. v.number) s.view ∙ sym c.number-view.ensures.number) (s.keys ∙ ap (map declared_by) (sym keys_are)) stands in
+    let t = c.in_ok-taken.ensures.image kinds logs (one_step_later node) i.told
+    (record { of_kinds = of_kinds; held = held; identity = s.identity; viewed = ap (λ v. v.number) s.view ∙ sym c.number-view.ensures.number; declares = s.keys ∙ ap (map declared_by) (sym keys_are) }) stands exact in
     let kept = subst (λ keys. AreMade (IsKept R.kind_of code.id) keys changes.items) keys_are c.in_ok-taken.ensures.kept in
     let leads = subst (λ keys. AreMade (LeadsTo R.IsDataOf logs node.entries next.node.entries) keys changes.items) keys_are t.leads in
     let prepared : Prepared g.row.T.Denot g.row.T-Kind.Denot g.row.T-Op.Denot g.row.T-Delta.Denot R = record { view = None; plan = Each changes; output = c.in_ok-taken.taken.output } in

@@ -1,7 +1,6 @@
 use Rattle.std.proofs.Common.{◌≡◌, ◌<◌, ◌≤◌, true, false, not, ◌&&◌, nat_le, length, rules, ap, sym, ◌∙◌, ℕ}
 use Rattle.rd_history.specs.Texts.{contains_text}
 use Rattle.rd_orset.specs.Dots.{Dots, shown_elements}
-use Rattle.rd_orset.specs.Keeping.{set_of}
 use Rattle.rd_orset.proofs.Changes.{shown_is, named_is}
 use Rattle.rd_orset.proofs.set.OrSet.is_full_for.Goals as goal
 
@@ -13,15 +12,15 @@ below m n h = grind rules
 
 pub returns-then-count_elements-ge-MOST_ELEMENTS : goal.returns-then-count_elements-ge-MOST_ELEMENTS
 returns-then-count_elements-ge-MOST_ELEMENTS c =
-    let view = ap set_of c.deref.ensures.value ∙ c.self.view_is in
-    let then_view = ap set_of c.deref-then-count_elements-ge-MOST_ELEMENTS.ensures.value ∙ c.self.view_is in
-    let count = c.count_elements.ensures ∙ ap length (shown_is c.deref.result.now ∙ ap shown_elements view) in
-    let has = c.has_element.ensures ∙ sym (named_is c.deref-then-count_elements-ge-MOST_ELEMENTS.result.now c.args.element.now) ∙ ap (λ (s : Dots). contains_text (shown_elements s) c.args.element.now) then_view in
+    let view = c.self.view_is in
+    let then_view = c.self.view_is in
+    let count = c.count_elements.ensures ∙ ap length (shown_is c.self.inside.dots ∙ ap shown_elements view) in
+    let has = c.has_element.ensures ∙ sym (named_is c.self.inside.dots c.args.element.now) ∙ ap (λ (s : Dots). contains_text (shown_elements s) c.args.element.now) then_view in
     ap not has ∙ sym (ap (λ b. b && not (contains_text (shown_elements c.args.self.now) c.args.element.now)) (ap (nat_le 256) (sym count) ∙ reached 256 c.count_elements.result c.if-count_elements-ge-MOST_ELEMENTS.true))
 
 pub returns-else-count_elements-ge-MOST_ELEMENTS : goal.returns-else-count_elements-ge-MOST_ELEMENTS
 returns-else-count_elements-ge-MOST_ELEMENTS c =
-    let view = ap set_of c.deref.ensures.value ∙ c.self.view_is in
-    let count = c.count_elements.ensures ∙ ap length (shown_is c.deref.result.now ∙ ap shown_elements view) in
+    let view = c.self.view_is in
+    let count = c.count_elements.ensures ∙ ap length (shown_is c.self.inside.dots ∙ ap shown_elements view) in
     let less = below 256 c.count_elements.result c.if-count_elements-ge-MOST_ELEMENTS.false in
     less ∙ sym (ap (λ b. b && not (contains_text (shown_elements c.args.self.now) c.args.element.now)) (ap (nat_le 256) (sym count) ∙ less))

@@ -1,13 +1,18 @@
-use Rattle.std.proofs.Common.{ap, sym, subst, ◌∙◌}
+use Rattle.std.proofs.Common.{ap, sym, ◌∙◌}
 use Rattle.std.specs.Str.{bytes_eq}
-use Rattle.rd_orset.specs.Placing.{AreDots}
+use Rattle.rd_orset.specs.Placing.{Placed}
 use Rattle.rd_orset.specs.Dots.{is_element}
 use Rattle.rd_orset.specs.Keeping.{set_of}
 use Rattle.rd_orset.proofs.SetsOfDots.{filtered_set, filtered_dots}
+use Rattle.rd_orset.proofs.Between.{named_run}
 use Rattle.rd_orset.proofs.set.OrSet.named.Goals as goal
 
 pub invariant_of-result : goal.invariant_of-result
-invariant_of-result c = filtered_dots (λ p. bytes_eq c.args.element.now p.element) c.deref.result.now c.in_ok-dots.dots.items (subst AreDots (sym c.deref.ensures.value) c.self.invariant) c.in_ok-dots.ensures
+invariant_of-result c =
+    filtered_dots (λ (p : Placed). bytes_eq c.args.element.now p.element) c.self.inside.dots c.in_ok-dots.dots c.self.invariant
+    (c.in_ok-dots.ensures ∙ sym (named_run c.self.inside.dots c.args.element.now c.run_of-run.result.0 c.run_of-run.result.1 c.run_of-run.ensures))
 
 pub returns : goal.returns
-returns c = ap set_of c.in_ok-dots.ensures ∙ filtered_set (is_element c.args.element.now) c.deref.result.now c.args.self.now (ap set_of c.deref.ensures.value ∙ c.self.view_is)
+returns c =
+    ap set_of (c.in_ok-dots.ensures ∙ sym (named_run c.self.inside.dots c.args.element.now c.run_of-run.result.0 c.run_of-run.result.1 c.run_of-run.ensures))
+    ∙ filtered_set (is_element c.args.element.now) c.self.inside.dots c.args.self.now c.self.view_is

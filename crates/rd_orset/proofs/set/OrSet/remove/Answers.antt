@@ -3,7 +3,7 @@ use Rattle.rd_orset.proofs.Changes.{removed_is, seen_is}
 use Rattle.rd_orset.proofs.set.OrSet.remove.Goals as goal
 
 pub returns-clause-applied : goal.returns-clause-applied
-returns-clause-applied c = c.drop.view_is ∙ c.in_ok-next.ensures ∙ removed_is c.args.self.now c.args.element.now c.args.dot.now
+returns-clause-applied c = c.drop_named.ensures ∙ removed_is c.args.self.now c.args.element.now c.args.dot.now
 
 pub returns-clause-delta : goal.returns-clause-delta
 returns-clause-delta c =

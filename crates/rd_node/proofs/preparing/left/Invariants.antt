@@ -1,0 +1,9 @@
+use Rattle.std.proofs.Common.{◌≡◌, not}
+use Rattle.std.specs.Prelude.{filter}
+use Rattle.std.specs.List.{range_with_len}
+use Rattle.rd_model.specs.View.{is_member}
+use Rattle.rd_node.proofs.preparing.left.Given as goal
+
+-- of the identities so far
+abbrev pub invariant-loop-number : goal.invariant-loop-number
+invariant-loop-number l = l.ids ≡ filter (λ i. not (is_member l.view i)) (range_with_len 0 l.number)

@@ -1,0 +1,26 @@
+use Rattle.std.proofs.Common.{◌≡◌, ℕ, ◌≤◌, ◌++◌, List, length, take}
+use Rattle.std.specs.Prelude.{map}
+use Rattle.rd_history.specs.Texts.{Text}
+use Rattle.rd_history.specs.History.{History, IsPartOf}
+use Rattle.rd_model.specs.Entry as model
+use Rattle.rd_model.specs.Node as nodes
+use Rattle.rd_kinds.specs.declared.shown.Shown.{Shown}
+use Rattle.rd_node.specs.Replies.{delta_groups, meant_at_key}
+use Rattle.rd_node.specs.Sending.{IsHeldBy}
+use Rattle.rd_node.specs.Ticking.{TicksIn, IsOwnCourse, IsInCourse}
+use Rattle.rd_node.proofs.Courses.{course_after}
+use Rattle.rd_node.proofs.ticking.key_tick.Given as goal
+
+-- the identities so far are done
+abbrev pub invariant-loop-identity : goal.invariant-loop-identity
+invariant-loop-identity g l =
+    let R = g.T.Replica in
+    record {
+      own : IsOwnCourse R.kind_of l.id l.state l.ticking;
+      few : length l.ticking.prunes ≤ l.identity-index;
+      course : (digest : g.row.T-Kind.Denot → model.Entry g.row.T-Op.Denot → List ℕ) (kinds : Text → g.row.T-Kind.Denot) (logs : Text → History g.row.T-Op.Denot) (node : nodes.Node g.row.T-Kind.Denot g.row.T-Op.Denot Shown)
+          → TicksIn node l.id l.view l.members → IsHeldBy R.kind_of R.IsDataOf R.IsDeltaOf kinds logs l.id node l.state
+          → IsPartOf (course_after (delta_groups R.data_type digest) node l.state (take l.identity-index l.removed)).entry.history (logs l.state.name)
+          → IsInCourse R (logs l.state.name) l.state (course_after (delta_groups R.data_type digest) node l.state (take l.identity-index l.removed)) l.ticking
+          × (map meant_at_key l.outcomes ≡ map meant_at_key l.initial.outcomes ++ (course_after (delta_groups R.data_type digest) node l.state (take l.identity-index l.removed)).outcomes);
+    }

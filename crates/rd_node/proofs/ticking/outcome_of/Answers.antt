@@ -1,0 +1,51 @@
+use Rattle.std.proofs.Common.{◌≡◌, ap, sym, ◌∙◌, subst, refl}
+use Rattle.std.specs.Prelude.{Ok}
+use Rattle.rd_model.specs.Entry.{ticked}
+use Rattle.rd_envelope.specs.Images.{StandsFor}
+use Rattle.rd_envelope.specs.Words.{parts_of}
+use Rattle.rd_node.specs.Ticking.{IsTicked}
+use Rattle.rd_node.proofs.Ticks.{nothing_at, marked_at, newer_at, standing_at}
+use Rattle.rd_node.proofs.Performing.{tick_as}
+use Rattle.rd_node.proofs.ticking.outcome_of.Goals as goal
+
+pub returns-in-NothingKnown-clause-image : goal.returns-in-NothingKnown-clause-image
+returns-in-NothingKnown-clause-image g c = λ log before s.
+    let R = g.T.Replica in
+    let one = c.args.entry.now in
+    let ensures = c.in_ok-init_prune.ensures in
+    let same = ensures.stays (λ w. cc (c.in-NothingKnown.is, w)) in
+    tick_as R.IsDataOf log c.args.owner c.args.removed before c.init_prune.new.self _ _ _
+    (nothing_at R.data_type (R.kind_of one.value) c.args.owner c.args.view c.args.members.now before c.args.removed (sym (ensures.outcome log before s) ∙ c.in-NothingKnown.is))
+    (subst (λ e. StandsFor R.IsDataOf (parts_of e) log before) (sym same) s)
+
+pub returns-in-Marked-clause-image : goal.returns-in-Marked-clause-image
+returns-in-Marked-clause-image g c = λ log before s.
+    let R = g.T.Replica in
+    let one = c.args.entry.now in
+    let ensures = c.in_ok-init_prune.ensures in
+    tick_as R.IsDataOf log c.args.owner c.args.removed before c.init_prune.new.self _ _ _
+    (marked_at R.data_type (R.kind_of one.value) c.args.owner c.args.view c.args.members.now before c.args.removed (sym (ensures.outcome log before s) ∙ c.in-Marked.is))
+    (record { image = λ part. ensures.image log before s (ap Ok c.in-Marked.is); told = refl; after = refl })
+
+pub returns-in-Newer-clause-image : goal.returns-in-Newer-clause-image
+returns-in-Newer-clause-image g c = λ log before s.
+    let R = g.T.Replica in
+    let one = c.args.entry.now in
+    let ensures = c.in_ok-init_prune.ensures in
+    let same = ensures.stays (λ w. cc (c.in-Newer.is, w)) in
+    tick_as R.IsDataOf log c.args.owner c.args.removed before c.init_prune.new.self _ _ _
+    (newer_at R.data_type (R.kind_of one.value) c.args.owner c.args.view c.args.members.now before c.args.removed (sym (ensures.outcome log before s) ∙ c.in-Newer.is))
+    (record { image = λ part. subst (λ e. StandsFor R.IsDataOf (parts_of e) log before) (sym same) s; told = refl; after = refl })
+
+pub returns-in_ok-outcome-in-Standing-clause-image : goal.returns-in_ok-outcome-in-Standing-clause-image
+returns-in_ok-outcome-in-Standing-clause-image g c = λ log before s.
+    let R = g.T.Replica in
+    let one = c.args.entry.now in
+    let ensures = c.in_ok-init_prune.ensures in
+    let same = ensures.stays (λ w. cc (c.in-Standing.is, w)) in
+    let told = c.in_ok-outcome-in-Standing.outcome in
+    let new = c.performed.new.entry in
+    tick_as R.IsDataOf log c.args.owner c.args.removed before c.performed.new.entry _ _ _
+    (standing_at R.data_type (R.kind_of one.value) c.args.owner c.args.view c.args.members.now before c.args.removed (sym (ensures.outcome log before s) ∙ c.in-Standing.is))
+    (subst (λ e. IsTicked R.IsDataOf log c.args.owner c.args.removed before (ticked (R.data_type.blocked (R.kind_of e.value) c.args.owner c.args.removed before.history) c.args.owner c.args.view c.args.members.now before c.args.removed) told new) same
+    (c.in_ok-outcome-in-Standing.ensures.image log before (subst (λ e. StandsFor R.IsDataOf (parts_of e) log before) (sym same) s)))

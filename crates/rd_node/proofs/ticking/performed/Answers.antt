@@ -1,0 +1,53 @@
+use Rattle.std.proofs.Common.{◌≡◌, ap, sym, subst, refl}
+use Rattle.std.specs.Prelude.{Ok}
+use Rattle.rd_envelope.specs.Images.{StandsFor}
+use Rattle.rd_envelope.specs.Words.{parts_of}
+use Rattle.rd_node.proofs.Ticks.{taken_next}
+use Rattle.rd_node.proofs.Performing.{standing, ticked_waits, ticked_blocks, ticked_performs, ticked_as}
+use Rattle.rd_node.proofs.ticking.performed.Goals as goal
+
+pub returns-in-Performed-clause-image : goal.returns-in-Performed-clause-image
+returns-in-Performed-clause-image g c = λ log before s.
+    let R = g.T.Replica in
+    let one = c.args.entry.now in
+    let owner = c.args.owner in
+    let removed = c.args.removed in
+    let view = c.args.view in
+    let members = c.args.members.now in
+    let shares = R.data_type.blocked (R.kind_of one.value) owner removed before.history in
+    let e = ap Ok c.in-Performed.is in
+    let ensures = c.in_ok-perform.ensures in
+    ticked_as R.IsDataOf log owner removed before c.perform.new.self _ _ _
+    (ticked_performs R.IsDataOf shares owner view members (parts_of one) log before removed s (standing (parts_of one) removed view c.requires.stands) _ ensures.seen (λ i w. cc (c.in-Performed.is, w)) (ensures.unblocked log before s e))
+    (record { image = λ part. ensures.image log before s (taken_next log before.history owner removed s.taken part) e; told = refl; after = refl })
+
+pub returns-in-Waiting-clause-image : goal.returns-in-Waiting-clause-image
+returns-in-Waiting-clause-image g c = λ log before s.
+    let R = g.T.Replica in
+    let one = c.args.entry.now in
+    let owner = c.args.owner in
+    let removed = c.args.removed in
+    let view = c.args.view in
+    let members = c.args.members.now in
+    let shares = R.data_type.blocked (R.kind_of one.value) owner removed before.history in
+    let ensures = c.in_ok-perform.ensures in
+    let same = ensures.stays (λ w. cc (c.in-Waiting.is, w)) in
+    ticked_as R.IsDataOf log owner removed before c.perform.new.self _ _ _
+    (ticked_waits R.IsDataOf shares owner view members (parts_of one) log before removed s (standing (parts_of one) removed view c.requires.stands) _ ensures.waiting c.in-Waiting.id (ap Ok c.in-Waiting.is))
+    (record { image = λ part. subst (λ e. StandsFor R.IsDataOf (parts_of e) log before) (sym same) s; told = refl; after = refl })
+
+pub returns-in-Blocked-clause-image : goal.returns-in-Blocked-clause-image
+returns-in-Blocked-clause-image g c = λ log before s.
+    let R = g.T.Replica in
+    let one = c.args.entry.now in
+    let owner = c.args.owner in
+    let removed = c.args.removed in
+    let view = c.args.view in
+    let members = c.args.members.now in
+    let shares = R.data_type.blocked (R.kind_of one.value) owner removed before.history in
+    let ensures = c.in_ok-perform.ensures in
+    let same = ensures.stays (λ w. cc (c.in-Blocked.is, w)) in
+    let blocked = ensures.blocked log before c.in-Blocked.owner_share c.in-Blocked.removed_share s (ap Ok c.in-Blocked.is) in
+    ticked_as R.IsDataOf log owner removed before c.perform.new.self _ _ _
+    (ticked_blocks R.IsDataOf shares owner view members (parts_of one) log before removed s (standing (parts_of one) removed view c.requires.stands) _ ensures.seen (λ i w. cc (c.in-Blocked.is, w)) _ blocked)
+    (record { image = λ part. subst (λ e. StandsFor R.IsDataOf (parts_of e) log before) (sym same) s; told = refl; after = refl })

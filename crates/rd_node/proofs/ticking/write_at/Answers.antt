@@ -1,0 +1,8 @@
+use Rattle.std.proofs.Common.{set, sym, ap, ◌∙◌}
+use Rattle.rd_node.specs.Planning.{ticked}
+use Rattle.rd_node.proofs.ticking.write_at.Goals as goal
+
+pub returns : goal.returns
+returns g c =
+    let at = c.index-keys-index.result in
+    (at, c.index-keys-index.is, ap (set c.args.keys.now c.args.index) (c.write.ensures ∙ ap (λ state. ticked state c.args.tick) (sym c.index-keys-index.is)))

@@ -1,0 +1,281 @@
+ghost use Rattle.std.specs.Prelude.{◌≡◌, ◌++◌, ℕ, ◌+◌, ◌<◌, ◌≤◌, ◌^◌, [], ◌∷◌, true, false, nat_lt, List, length, map, Some, All, IfOk, OnOk, slice_index_or, slice_set};
+ghost use Rattle.std.specs.List.{list_any};
+ghost use Rattle.rd_history.specs.Texts.{Text as Name};
+ghost use Rattle.rd_history.specs.History.{History, IsPartOf};
+ghost use Rattle.rd_model.specs.Entry.{Entry};
+ghost use Rattle.rd_model.specs.Node.{Node as Member, KeyOutcome as Told};
+ghost use Rattle.rd_model.specs.Step.{Ticking as Course, tick_identity};
+ghost use Rattle.rd_kinds.specs.declared.shown.Shown.{Shown};
+ghost use Rattle.rd_vectors.specs.Vectors.{number_at};
+ghost use Rattle.rd_markers.specs.Marks.{performed_in};
+ghost use Rattle.rd_envelope.specs.Images.{StandsFor};
+ghost use Rattle.rd_envelope.specs.Words.{parts_of};
+ghost use Rattle.rd_envelope.specs.Pruning.{init_of};
+ghost use Rattle.rd_envelope.specs.declared.outcomes.Init.TheVariants as initial;
+ghost use Rattle.rd_node.specs.Replies.{delta_groups, meant_at_key};
+ghost use Rattle.rd_node.specs.Sending.{state_in};
+ghost use Rattle.rd_node.specs.Changes.{AreMade};
+ghost use Rattle.rd_node.specs.Planning.{ticked as after_tick, AreTicked, CanFollow};
+ghost use Rattle.rd_node.specs.Ticking.{tick_of, tick_at, is_prune, TicksOwn, IsTickOf, IsTicked, IsNoted, IsOwnCourse, IsInCourse, CanTick, IsKeyTick, TicksIn, IsDue, TellsMore, IsTickedAs};
+
+use crate::key::KeyState;
+use crate::outcome::{KeyOutcome, Outcome, Outcomes};
+use rd_bytes::{Items, Memory};
+use rd_deltalog::{DeltaLog, NextRecord};
+use rd_envelope::{Envelope, Init, Perform};
+use rd_lattice::Replica;
+use rd_vectors::{Id, VersionVector};
+use std::alloc::Global;
+
+/// What a tick makes of a key, once all memory for it was given.
+#[derive(Drop)]
+pub(crate) struct KeyTick<T: Replica> {
+    /// Another entry, if there is one.
+    pub(crate) entry: Option<Envelope<T>>,
+    /// The prunes in it, for the log.
+    pub(crate) prunes: Vec<NextRecord<T::Delta>>,
+}
+
+/// What becomes of a prune whose mark of this view stands.
+fn performed<T: Replica>(
+    entry: &mut Envelope<T>,
+    removed: Id,
+    owner: Id,
+    view: u32,
+    members: &[Id],
+) -> Result<Outcome, Memory>
+    requires other { removed ≡ owner → ⊥ }
+    requires member { performed_in entry.old.markers owner ≡ false }
+    requires room { number_at entry.old.versions owner < 2 ^ 62 }
+    requires stands { init_of (parts_of entry.old) removed view ≡ initial.Standing }
+    ensures own { IfOk result (λ outcome. TicksOwn T.kind_of owner entry.old (Some outcome) entry.new) }
+    ensures image { (log : History T.Op) (before : Entry T.Op) → StandsFor T.IsDataOf (parts_of entry.old) log before
+        → IfOk result (λ outcome. IsTicked T.IsDataOf log owner removed before (tick_of T.data_type (T.kind_of entry.old.value) owner view members.now before removed) outcome entry.new) }
+{
+    match entry.perform(removed, owner, view, members)? {
+        Perform::Performed => Ok(Outcome::Performed),
+        Perform::Waiting(id) => Ok(Outcome::Waiting(id)),
+        Perform::Blocked {
+            owner_share,
+            removed_share,
+        } => Ok(Outcome::Blocked {
+            owner_share,
+            removed_share,
+        }),
+        Perform::NothingMarked => unreachable!(),
+    }
+}
+
+/// What a tick makes of the records of an identity that left, if the entry has any.
+fn outcome_of<T: Replica>(
+    entry: &mut Envelope<T>,
+    removed: Id,
+    owner: Id,
+    view: u32,
+    members: &[Id],
+) -> Result<Option<Outcome>, Memory>
+    requires other { removed ≡ owner → ⊥ }
+    requires member { performed_in entry.old.markers owner ≡ false }
+    requires room { number_at entry.old.versions owner < 2 ^ 62 }
+    ensures own { IfOk result (λ told. TicksOwn T.kind_of owner entry.old told entry.new) }
+    ensures image { (log : History T.Op) (before : Entry T.Op) → StandsFor T.IsDataOf (parts_of entry.old) log before
+        → IfOk result (λ told. IsTickOf T.IsDataOf log owner removed before (tick_at T.data_type (T.kind_of entry.old.value) owner view members.now before removed) told entry.new) }
+{
+    match entry.init_prune(removed, owner, view)? {
+        Init::NothingKnown => Ok(None),
+        Init::Marked => Ok(Some(Outcome::Marked)),
+        Init::Newer => Ok(Some(Outcome::Newer)),
+        Init::Standing => {
+            let outcome = performed(entry, removed, owner, view, members)?;
+            Ok(Some(outcome))
+        }
+    }
+}
+
+/// A key in the course of a tick.
+#[derive(Drop)]
+struct KeyTicking<T: Replica> {
+    alloc: Global,
+    entry: Envelope<T>,
+    /// How many records of each identity there are.
+    known: VersionVector,
+    /// The prunes so far, for the log.
+    prunes: Items<NextRecord<T::Delta>>,
+}
+
+impl<T: Replica> KeyTicking<T> {
+    /// Notes a prune for the log, if the outcome was one.
+    fn note(&mut self, log: &DeltaLog<T>, id: Id, pruned: bool) -> Result<(), Memory>
+        requires { pruned ≡ true → 1 ≤ number_at (parts_of self.old.entry).versions id }
+        ensures entry { self.new.entry ≡ self.old.entry }
+        ensures noted { OnOk result (IsNoted log.now id pruned self.old self.new) }
+    {
+        if !pruned {
+            return Ok(());
+        }
+        let before = self.known.copy(self.alloc)?;
+        let next = log.prepare(before, None)?;
+        let number = self.entry.versions().at(id);
+        self.known.raise(id, number)?;
+        self.prunes.push(next)
+    }
+
+    /// The tick of one identity that left.
+    fn tick(
+        &mut self,
+        state: &KeyState<T>,
+        removed: Id,
+        id: Id,
+        view: u32,
+        members: &[Id],
+        outcomes: &mut Outcomes,
+    ) -> Result<(), Memory>
+        requires other { removed ≡ id → ⊥ }
+        requires own { IsOwnCourse T.kind_of id state.now self.old }
+        requires room { number_at (parts_of self.old.entry).versions id < 2 ^ 62 }
+        ensures own { OnOk result (IsOwnCourse T.kind_of id state.now self.new) }
+        ensures few { OnOk result (length self.new.prunes ≤ length self.old.prunes + 1) }
+        ensures image { (digest : T.Kind → Entry T.Op → List ℕ) (log : History T.Op) (node : Member T.Kind T.Op Shown) (so_far : Course T.Op)
+            → state.now.log.origin ≡ id → TicksIn node id view members.now → IsInCourse T.Replica log state.now so_far self.old
+            → let next = tick_identity (delta_groups T.data_type digest) node (state_in node state.now) so_far removed in
+            IsPartOf next.entry.history log → OnOk result (IsInCourse T.Replica log state.now next self.new) }
+        ensures told { (digest : T.Kind → Entry T.Op → List ℕ) (log : History T.Op) (node : Member T.Kind T.Op Shown) (so_far : Course T.Op)
+            → TicksIn node id view members.now → IsInCourse T.Replica log state.now so_far self.old
+            → let next = tick_identity (delta_groups T.data_type digest) node (state_in node state.now) so_far removed in
+            (first : List Told) → map meant_at_key outcomes.old ≡ first ++ so_far.outcomes → OnOk result (map meant_at_key outcomes.new ≡ first ++ next.outcomes) }
+    {
+        let _below_limit = id.number();
+        let told = outcome_of(&mut self.entry, removed, id, view, members)?;
+        let Some(outcome) = told else {
+            return Ok(());
+        };
+        self.note(&state.log, id, outcome.is_prune())?;
+        let key = state.name.copy(self.alloc)?;
+        outcomes.push(KeyOutcome {
+            key,
+            removed,
+            outcome,
+        })
+    }
+}
+
+/// Whether the entry counts records of one of the identities.
+fn knows_any<T: Replica>(entry: &Envelope<T>, ids: &[Id]) -> bool
+    ensures { result ≡ list_any (λ r. nat_lt 0 (number_at entry.now.versions r)) ids.now }
+{
+    let versions = entry.versions();
+    ids.iter().any(|id| versions.at(*id) > 0)
+}
+
+/// What a tick makes of a key, and the outcomes that it adds.
+fn key_tick<T: Replica>(
+    alloc: Global,
+    state: &KeyState<T>,
+    id: Id,
+    view: u32,
+    members: &[Id],
+    removed: &[Id],
+    outcomes: &mut Outcomes,
+) -> Result<KeyTick<T>, Memory>
+    requires { CanTick T.kind_of id removed.now state.now }
+    ensures own { IfOk result (IsKeyTick T.Replica id state.now) }
+    ensures image { (digest : T.Kind → Entry T.Op → List ℕ) (kinds : Name → T.Kind) (logs : Name → History T.Op) (node : Member T.Kind T.Op Shown)
+        → TicksIn node id view members.now → IsDue (delta_groups T.data_type digest) node T.Replica kinds logs id removed.now state.now
+        → IfOk result (IsTickedAs (delta_groups T.data_type digest) node T.Replica logs state.now) }
+    ensures told { (digest : T.Kind → Entry T.Op → List ℕ) (kinds : Name → T.Kind) (logs : Name → History T.Op) (node : Member T.Kind T.Op Shown)
+        → TicksIn node id view members.now → IsDue (delta_groups T.data_type digest) node T.Replica kinds logs id removed.now state.now
+        → OnOk result (TellsMore (delta_groups T.data_type digest) node outcomes.old (state.now ∷ []) outcomes.new) }
+{
+    if !knows_any(&state.entry, removed) {
+        return Ok(KeyTick {
+            entry: None,
+            prunes: Vec::new(alloc),
+        });
+    }
+    let entry = state.entry.copy(alloc)?;
+    let known = state.entry.known(alloc)?;
+    let prunes = Items::new(alloc);
+    let mut ticking = KeyTicking {
+        alloc,
+        entry,
+        known,
+        prunes,
+    };
+    for identity in removed {
+        ticking.tick(state, *identity, id, view, members, outcomes)?;
+    }
+    let KeyTicking { entry, prunes, .. } = ticking;
+    Ok(KeyTick {
+        entry: Some(entry),
+        prunes: prunes.into_vec(),
+    })
+}
+
+/// What a tick makes of the keys, and its outcomes.
+#[derive(Drop)]
+pub(crate) struct Ticks<T: Replica> {
+    pub(crate) keys: Vec<KeyTick<T>>,
+    pub(crate) outcomes: Outcomes,
+}
+
+/// Ticks each key for the identities that left, as the leader of the members.
+pub(crate) fn tick_all<T: Replica>(
+    alloc: Global,
+    keys: &[KeyState<T>],
+    id: Id,
+    view: u32,
+    members: &[Id],
+    removed: &[Id],
+) -> Result<Ticks<T>, Memory>
+    requires { All (CanTick T.kind_of id removed.now) keys.now }
+    ensures own { IfOk result (λ ticks. AreMade (IsKeyTick T.Replica id) keys.now ticks.keys.items) }
+    ensures image { (digest : T.Kind → Entry T.Op → List ℕ) (kinds : Name → T.Kind) (logs : Name → History T.Op) (node : Member T.Kind T.Op Shown)
+        → TicksIn node id view members.now → All (IsDue (delta_groups T.data_type digest) node T.Replica kinds logs id removed.now) keys.now
+        → IfOk result (λ ticks. AreMade (IsTickedAs (delta_groups T.data_type digest) node T.Replica logs) keys.now ticks.keys.items) }
+    ensures told { (digest : T.Kind → Entry T.Op → List ℕ) (kinds : Name → T.Kind) (logs : Name → History T.Op) (node : Member T.Kind T.Op Shown)
+        → TicksIn node id view members.now → All (IsDue (delta_groups T.data_type digest) node T.Replica kinds logs id removed.now) keys.now
+        → IfOk result (λ ticks. TellsMore (delta_groups T.data_type digest) node [] keys.now ticks.outcomes) }
+{
+    let mut ticks = Items::new(alloc);
+    let mut outcomes = Items::new(alloc);
+    for state in keys {
+        let tick = key_tick(alloc, state, id, view, members, removed, &mut outcomes)?;
+        ticks.push(tick)?;
+    }
+    Ok(Ticks {
+        keys: ticks.into_vec(),
+        outcomes,
+    })
+}
+
+/// Writes what a tick makes of a key.
+fn write<T: Replica>(state: &mut KeyState<T>, tick: KeyTick<T>)
+    requires { CanFollow T.Replica state.old tick }
+    ensures { state.new ≡ after_tick state.old tick }
+{
+    let KeyTick { entry, prunes } = tick;
+    state.log.add_all(prunes);
+    if let Some(entry) = entry {
+        state.entry = entry;
+    }
+}
+
+/// Writes what a tick makes of the key at a place.
+fn write_at<T: Replica>(keys: &mut [KeyState<T>], index: usize, tick: KeyTick<T>)
+    requires within { index < length keys.old }
+    requires follows { (d : KeyState T T.Kind T.Op T.Delta) → CanFollow T.Replica (slice_index_or keys.old index d) tick }
+    ensures { (at : KeyState T T.Kind T.Op T.Delta) × (at ≡ slice_index_or keys.old index at) × (keys.new ≡ slice_set keys.old index (after_tick at tick)) }
+{
+    write(&mut keys[index], tick);
+}
+
+/// Writes what a tick makes of the keys, in their order.
+pub(crate) fn write_ticks<T: Replica>(keys: &mut [KeyState<T>], mut ticks: Vec<KeyTick<T>>)
+    requires { AreMade (CanFollow T.Replica) keys.old ticks.items }
+    ensures { AreTicked keys.old ticks.items keys.new }
+{
+    while let Some(tick) = ticks.pop() {
+        let index = ticks.len();
+        write_at(keys, index, tick);
+    }
+}

@@ -1,0 +1,10 @@
+use Rattle.std.proofs.Common.{◌-◌, not}
+use Rattle.rd_history.specs.Texts.{text_lt}
+use Rattle.rd_orset.proofs.Between.{IsHalved}
+use Rattle.rd_orset.proofs.elements.end_of.Given as goal
+
+abbrev pub invariant-loop-low : goal.invariant-loop-low
+invariant-loop-low l = IsHalved (λ p. not (text_lt l.element p.element)) l.dots l.low l.high
+
+abbrev pub decreases-loop-low : goal.decreases-loop-low
+decreases-loop-low l = l.high - l.low

@@ -1,0 +1,35 @@
+-- What a member holds of an identity that was pruned.
+--     IsHeld        the envelope that a running member holds of a key
+--     IsWithout        an envelope that has a prune of an identity, and nothing else of it
+use Rattle.std.specs.Prelude.{◌≡◌, ℕ, true, false, Some, slice_get}
+use Rattle.rd_history.specs.Texts.{Text}
+use Rattle.rd_vectors.specs.Vectors.{number_at}
+use Rattle.rd_lattice.specs.declared.replica.Replica.{Ghosts}
+use Rattle.rd_keeper.specs.declared.keeper.Keeper.{Ghosts as Keeping}
+use Rattle.rd_markers.specs.Marks.{performed_in}
+use Rattle.rd_envelope.specs.declared.envelope.Envelope.{Envelope}
+use Rattle.rd_views.specs.Sound.{last_view}
+use Rattle.rd_node.specs.declared.key.KeyState.{KeyState}
+use Rattle.rd_node.specs.declared.node.Node.{Node}
+use Rattle.rd_world.specs.declared.world.World.{World}
+use Rattle.rd_world.specs.Places.{member_of}
+
+module _ {T K Kind Op Delta : Type 0} {ghosts : Ghosts T Kind Op Delta} {keeping : Keeping K} where
+  pub record IsHeld (world : World T K Kind Op Delta ghosts keeping) (id : ℕ) (key : Text) (envelope : Envelope T Kind Op Delta) : Type 0 where
+    pub node : Node T K Kind Op Delta ghosts keeping
+    pub state : KeyState T Kind Op Delta
+    pub index : ℕ
+    pub runs : member_of (last_view world.views) world.nodes.items id ≡ Some node
+    pub declared : slice_get node.keys.items index ≡ Some state
+    pub named : state.name ≡ key
+    pub held : state.entry ≡ envelope
+
+-- a prune of the identity was performed or taken
+abbrev pub HasPruned : {T Kind Op Delta : Type 0} → ℕ → Envelope T Kind Op Delta → Type 0
+HasPruned removed envelope = performed_in envelope.markers removed ≡ true
+
+-- neither its versions nor its data mention the identity
+pub record IsWithout {T Kind Op Delta : Type 0} (ghosts : Ghosts T Kind Op Delta) (removed : ℕ) (envelope : Envelope T Kind Op Delta) : Type 0 where
+  pub pruned : HasPruned removed envelope
+  pub uncounted : number_at envelope.versions removed ≡ 0
+  pub unmentioned : ghosts.mentioned envelope.value removed ≡ false
