@@ -2,8 +2,9 @@
 #![tactic(auto)]
 
 use rd_embedding::{
-    Data, Id, Input, Items, KeyDecl, Kind, Memory, MemoryKeeper, Node, Op, Output, Post, Posts,
-    Reply, StepError, Text, TextError, View, ViewList, are_distinct, push_shown,
+    Data, Finished, Id, Input, Items, KeyDecl, Kind, Level, Memory, MemoryKeeper, Node, Op,
+    OperationResult, Output, Post, Posts, StepError, Text, TextError, View, ViewList, are_distinct,
+    push_shown,
 };
 use std::alloc::Global;
 use std::process::ExitCode;
@@ -66,8 +67,14 @@ fn member(
     }
 }
 
-/// Hands the messages of one member to another, and then what this answers back. A service would send and receive them.
-fn hand(from: &mut Member, to: &mut Member, posts: Posts<Data>) -> Result<(), Stopped> {
+/// Hands the messages of one member to another, and then what this answers back. A service would send and receive them. It
+/// tells which operation of the first member ended by an answer.
+fn hand(
+    from: &mut Member,
+    to: &mut Member,
+    posts: Posts<Data>,
+) -> Result<Option<Finished>, Stopped> {
+    let mut ended = None;
     for Post { to: _, message } in posts.into_vec() {
         let heard = Input::Take {
             from: from.id(),
@@ -78,18 +85,33 @@ fn hand(from: &mut Member, to: &mut Member, posts: Posts<Data>) -> Result<(), St
                 from: to.id(),
                 message,
             };
-            from.step(&answered)?;
+            let Output {
+                reply: _,
+                posts: _,
+                finished,
+            } = from.step(&answered)?;
+            if finished.is_some() {
+                ended = finished;
+            }
         }
     }
-    Ok(())
+    Ok(ended)
 }
 
-/// What a member shows of a key.
-fn shown(alloc: Global, member: &mut Member, key: Text) -> Result<String, Stopped> {
+/// What a member shows of a key, once it has asked the other one.
+fn shown(
+    alloc: Global,
+    member: &mut Member,
+    other: &mut Member,
+    key: Text,
+) -> Result<String, Stopped> {
     let mut text = String::new(alloc);
-    let Output { reply, posts: _ } = member.step(&Input::Get { key })?;
-    if let Reply::Value(value) = reply {
-        push_shown(alloc, &mut text, &value)?;
+    let level = Level::All;
+    let posts = member.step(&Input::Get { key, level })?.posts;
+    if let Some(ended) = hand(member, other, posts)? {
+        if let OperationResult::Read(value) = ended.result {
+            push_shown(alloc, &mut text, &value)?;
+        }
     }
     Ok(text)
 }
@@ -115,16 +137,18 @@ fn keys(alloc: Global) -> Result<Items<KeyDecl<Data>>, Stopped> {
 fn add(alloc: Global, member: &mut Member, element: &str) -> Result<(), Stopped> {
     let key = cart(alloc)?;
     let op = Op::Add(Text::new(alloc, element)?);
-    member.step(&Input::Update { key, op })?;
+    let level = Level::Local;
+    member.step(&Input::Update { key, op, level })?;
     Ok(())
 }
 
-/// One of the two members adds milk and sends what it has, and the other shows its cart.
+/// One of the two members adds milk and sends what it has, and then bread, and the other asks it and shows its cart.
 fn shop(alloc: Global, first: &mut Member, second: &mut Member) -> Result<String, Stopped> {
     add(alloc, first, "milk")?;
     let posts = first.step(&Input::Flush)?.posts;
     hand(first, second, posts)?;
-    shown(alloc, second, cart(alloc)?)
+    add(alloc, first, "bread")?;
+    shown(alloc, second, first, cart(alloc)?)
 }
 
 /// Two members of one view.

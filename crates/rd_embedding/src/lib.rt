@@ -10,8 +10,8 @@ pub use rd_envelope::Envelope;
 pub use rd_keeper::{Keeper, KeeperError, MemoryKeeper, Stored};
 pub use rd_kinds::{Kind, Op, Shown};
 pub use rd_node::{
-    Fate, Input, KeyDecl, KeyOutcome, KeyState, LoadError, MOST_STEPS, Message, Node, Outcome,
-    Outcomes, Output, Post, Posts, Reply, StepError,
+    Fate, Finished, Input, KeyDecl, KeyOutcome, KeyState, Level, LoadError, Look, MOST_STEPS,
+    Message, Node, OperationResult, Outcome, Outcomes, Output, Post, Posts, Reply, StepError,
 };
 pub use rd_sqlite_keeper::SqliteKeeper;
 pub use rd_texts::push_shown;

@@ -2,7 +2,7 @@
 --     StandsForEntry, StandsForKeyed        an envelope of a key stands for an entry
 --     StandsForKeyedGroup        a delta of a key, with its numbers, is a group of the key's log
 --     StandsForMessage, StandsForPosts        each group and each entry that is sent stands for the model's, and the keys are equal
-use Rattle.std.specs.Prelude.{◌≡◌, ℕ, List, Bool, true, map}
+use Rattle.std.specs.Prelude.{◌≡◌, ℕ, List, true, Some, None, map}
 use Rattle.std.specs.List.{AllZip}
 use Rattle.rd_history.specs.Texts.{Text}
 use Rattle.rd_history.specs.Vector.{VersionVector, IdentitySet}
@@ -18,7 +18,7 @@ use Rattle.rd_envelope.specs.Images.{StandsFor, StandsForGroup}
 use Rattle.rd_envelope.specs.Words.{parts_of, group_parts}
 use Rattle.rd_messages.specs.declared.message.Keyed.{Keyed}
 use Rattle.rd_messages.specs.declared.message.Message.{Message}
-use Rattle.rd_messages.specs.declared.message.Message.TheVariants.{Deltas, Nack, Status, Gossip}
+use Rattle.rd_messages.specs.declared.message.Message.TheVariants.{Deltas, Nack, Status, Gossip, Write, WriteAck, WriteNack, Read, ReadAnswer}
 use Rattle.rd_messages.specs.declared.message.Post.{Post}
 
 -- a digest of a key, as the model says it
@@ -40,6 +40,17 @@ module _ {T Kind Op Delta : Type 0} (kind_of : T → Kind) (IsDataOf : T → His
     pub is : message ≡ Sent.Gossip sent_entries wants
     pub entries_stand : AllZip StandsForKeyed entries sent_entries
 
+  pub record StandsForWrite (op : ℕ) (key : Text) (envelope : Envelope T Kind Op Delta) (message : Sent Op) : Type 0 where
+    pub entry : Entry Op
+    pub is : message ≡ Sent.Write op key entry
+    pub held : StandsForEntry key envelope entry
+
+  -- an answer with an entry
+  pub record StandsForAnswer (op : ℕ) (key : Text) (envelope : Envelope T Kind Op Delta) (message : Sent Op) : Type 0 where
+    pub entry : Entry Op
+    pub is : message ≡ Sent.ReadAnswer op key (Some entry)
+    pub held : StandsForEntry key envelope entry
+
 module _ {T Kind Op Delta : Type 0} {ghosts : Ghosts T Kind Op Delta} (kinds : Text → Kind) (logs : Text → History Op) where
   -- a group of a key, whose delta is of the key's kind
   pub record StandsForKeyedGroup (keyed : Keyed (Group T Kind Op Delta ghosts)) (group : sending.Keyed (model.Group Op)) : Type 0 where
@@ -60,6 +71,12 @@ module _ {T Kind Op Delta : Type 0} {ghosts : Ghosts T Kind Op Delta} (kind_of :
   StandsForMessage (Nack keys) message = message ≡ Sent.Nack keys
   StandsForMessage (Status digests) message = message ≡ Sent.Status (map digest_told digests)
   StandsForMessage (Gossip entries wants) message = StandsForGossip kind_of IsDataOf kinds logs entries wants message
+  StandsForMessage (Write op key envelope) message = StandsForWrite kind_of IsDataOf kinds logs op key envelope message
+  StandsForMessage (WriteAck op) message = message ≡ Sent.WriteAck op
+  StandsForMessage (WriteNack op) message = message ≡ Sent.WriteNack op
+  StandsForMessage (Read op key) message = message ≡ Sent.Read op key
+  StandsForMessage (ReadAnswer op key None) message = message ≡ Sent.ReadAnswer op key None
+  StandsForMessage (ReadAnswer op key (Some envelope)) message = StandsForAnswer kind_of IsDataOf kinds logs op key envelope message
 
   pub record StandsForPost (post : Post T Kind Op Delta ghosts) (sent : sending.Post Op) : Type 0 where
     pub to : sent.to ≡ post.to

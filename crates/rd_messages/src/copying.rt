@@ -2,6 +2,7 @@ ghost use Rattle.std.specs.Prelude.{◌≡◌, IfOk};
 
 use crate::message::{Digests, Entries, Groups, Keyed, Texts};
 use rd_bytes::{Items, Memory};
+use rd_envelope::Envelope;
 use rd_lattice::Replica;
 use std::alloc::Global;
 
@@ -59,4 +60,17 @@ pub(crate) fn copy_digests(alloc: Global, digests: &Digests) -> Result<Digests, 
         copies.push(Keyed { key, item })?;
     }
     Ok(copies)
+}
+
+/// An equal envelope, if there is one.
+pub(crate) fn copy_if_some<T: Replica>(
+    alloc: Global,
+    envelope: &Option<Envelope<T>>,
+) -> Result<Option<Envelope<T>>, Memory>
+    ensures { IfOk result (λ copy. copy ≡ envelope.now) }
+{
+    match envelope {
+        Some(envelope) => Ok(Some(envelope.copy(alloc)?)),
+        None => Ok(None),
+    }
 }

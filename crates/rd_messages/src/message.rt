@@ -1,4 +1,4 @@
-use crate::copying::{copy_digests, copy_entries, copy_groups, copy_texts};
+use crate::copying::{copy_digests, copy_entries, copy_groups, copy_if_some, copy_texts};
 use crate::sketch::{MessageKind, Sketch};
 use rd_bytes::{Items, Memory, Text};
 use rd_envelope::{Envelope, Group};
@@ -49,6 +49,31 @@ pub enum Message<T: Replica> {
         entries: Entries<T>,
         wants: Texts,
     },
+    /// The sender's entry of a key, to be answered under the number of the sender's operation.
+    Write {
+        op: u64,
+        key: Text,
+        envelope: Envelope<T>,
+    },
+    /// The sender has the entry that the receiver wrote.
+    WriteAck {
+        op: u64,
+    },
+    /// The sender has the entry that the receiver wrote, but did not store it.
+    WriteNack {
+        op: u64,
+    },
+    /// Asks for the receiver's entry of a key, under the number of the sender's operation.
+    Read {
+        op: u64,
+        key: Text,
+    },
+    /// The sender's entry of the key that the receiver asked for, if it has a record.
+    ReadAnswer {
+        op: u64,
+        key: Text,
+        envelope: Option<Envelope<T>>,
+    },
 }
 
 /// A message on its way to a member.
@@ -90,6 +115,11 @@ impl<T: Replica> Message<T> {
                 first: entries.len(),
                 second: wants.len(),
             },
+            Message::Write { .. } => Sketch::bare(MessageKind::Write),
+            Message::WriteAck { .. } => Sketch::bare(MessageKind::WriteAck),
+            Message::WriteNack { .. } => Sketch::bare(MessageKind::WriteNack),
+            Message::Read { .. } => Sketch::bare(MessageKind::Read),
+            Message::ReadAnswer { .. } => Sketch::bare(MessageKind::ReadAnswer),
         }
     }
 
@@ -103,7 +133,7 @@ impl<T: Replica> Message<T> {
         }
     }
 
-    /// The entries that the message brings.
+    /// The entries that the message lists, each under its key.
     pub fn entries(&self) -> &[Keyed<Envelope<T>>]
         ensures { result.now ≡ entries_of self.now }
     {
@@ -157,6 +187,30 @@ impl<T: Replica> Message<T> {
                 let entries = copy_entries(alloc, entries)?;
                 let wants = copy_texts(alloc, wants)?;
                 Ok(Message::Gossip { entries, wants })
+            }
+            Message::Write { op, key, envelope } => {
+                let key = key.copy(alloc)?;
+                let envelope = envelope.copy(alloc)?;
+                Ok(Message::Write {
+                    op: *op,
+                    key,
+                    envelope,
+                })
+            }
+            Message::WriteAck { op } => Ok(Message::WriteAck { op: *op }),
+            Message::WriteNack { op } => Ok(Message::WriteNack { op: *op }),
+            Message::Read { op, key } => {
+                let key = key.copy(alloc)?;
+                Ok(Message::Read { op: *op, key })
+            }
+            Message::ReadAnswer { op, key, envelope } => {
+                let key = key.copy(alloc)?;
+                let envelope = copy_if_some(alloc, envelope)?;
+                Ok(Message::ReadAnswer {
+                    op: *op,
+                    key,
+                    envelope,
+                })
             }
         }
     }

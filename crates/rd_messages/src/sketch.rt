@@ -1,3 +1,5 @@
+ghost use Rattle.std.specs.Prelude.{◌≡◌};
+
 /// The kind of a message.
 #[derive(Clone, Copy, Debug, PartialEq, Eq)]
 pub enum MessageKind {
@@ -18,4 +20,17 @@ pub struct Sketch {
     pub kind: MessageKind,
     pub first: usize,
     pub second: usize,
+}
+
+impl Sketch {
+    /// A kind alone.
+    pub(crate) fn bare(kind: MessageKind) -> Sketch
+        ensures { result ≡ record { kind = kind; first = 0; second = 0 } }
+    {
+        Sketch {
+            kind,
+            first: 0,
+            second: 0,
+        }
+    }
 }

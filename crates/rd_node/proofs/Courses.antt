@@ -1,13 +1,13 @@
 -- A key in the course of a tick, one identity further.
-use Rattle.std.proofs.Common.{◌≡◌, ◌≢◌, ℕ, ◌+◌, ◌<◌, ◌≤◌, max, List, [], ◌∷◌, ◌++◌, length, take, get_or, Bool, true, false, ◌||◌, Option, Some, None, refl, sym, ap, ◌∙◌, subst, arith, inl, inr, length-append, append_assoc}
-use Rattle.std.specs.Prelude.{map, fold, unwrap_or, nat_lt, All, if◌then◌else◌}
+use Rattle.std.proofs.Common.{◌≡◌, ℕ, ◌+◌, ◌<◌, ◌≤◌, max, List, [], ◌∷◌, ◌++◌, length, take, get_or, Bool, true, false, ◌||◌, Option, Some, None, refl, sym, ap, ◌∙◌, subst, arith, inl, inr, append_assoc}
+use Rattle.std.specs.Prelude.{map, fold, unwrap_or, nat_lt, All}
 use Rattle.std.specs.List.{list_any}
 use Rattle.std.proofs.lemmas.Bool.{cases_eq, cases_lt}
 use Rattle.std.proofs.lemmas.List.{map-append}
 use Rattle.std.proofs.lemmas.List.Sums.{fold-append}
-use Rattle.std.proofs.lemmas.List.Elements.{All-append, All-cons, All-nil}
+use Rattle.std.proofs.lemmas.List.Elements.{All-nil}
 use Rattle.rd_history.specs.Table.{identity_limit, with_at}
-use Rattle.rd_history.specs.History.{History, Record, at, versions, IsPartOf}
+use Rattle.rd_history.specs.History.{History, at, versions, IsPartOf}
 use Rattle.rd_history.specs.History.Action.{Prune}
 use Rattle.rd_history.specs.Log.{IsTakenFrom}
 use Rattle.rd_history.proofs.CutLaws.{uncleaned, with_at_is}
@@ -42,7 +42,7 @@ use Rattle.rd_node.specs.declared.ticking.KeyTick.{KeyTick}
 use Rattle.rd_node.specs.declared.ticking.KeyTicking.{KeyTicking}
 use Rattle.rd_node.specs.Replies.{delta_groups, meant_outcome, meant_at_key}
 use Rattle.rd_node.specs.Sending.{own_number, state_in, IsHeldBy}
-use Rattle.rd_node.specs.Ticking.{tick_at, is_prune, prunes_in, IsAfter, TicksOwn, IsTicked, IsTickOf, IsNoted, HasNoted, IsOwnCourse, IsInCourse, CanTick, IsKeyTick, TicksIn, IsTickedAs, tick_in}
+use Rattle.rd_node.specs.Ticking.{tick_at, is_prune, IsAfter, IsTickOf, IsNoted, HasNoted, IsOwnCourse, IsInCourse, CanTick, IsKeyTick, TicksIn, IsTickedAs, tick_in}
 use Rattle.rd_node.proofs.Lists.{one_more}
 use Rattle.rd_envelope.proofs.Judging.{init_absent}
 use Rattle.rd_node.proofs.Ticks.{course_by, tick_is, nothing_at}

@@ -1,51 +1,75 @@
 -- What a step has in common whatever the store does.
---     IsOfProgram        an input that members of the program take
---     node_same        the member after the step is the same
---     same_stored, same_failed        the output is, but for the reply where the store failed
-use Rattle.std.proofs.Common.{◌≡◌, ◌≢◌, ℕ, List, [], ◌∷◌, refl, sym, ap, ◌∙◌, subst, Bool, true, false, not, Option, Some, None}
-use Rattle.std.specs.Prelude.{map, filter, if◌then◌else◌, nat_le, ◌==◌, ◌||◌}
+--     entries_same        the entries after the step are the same
+--     same_stored, same_failed        the step is, but for what a failed store makes of it: the reply, an operation that was to be opened, and the acknowledgement of a write
+use Rattle.std.proofs.Common.{◌≡◌, ◌≢◌, ℕ, List, [], ◌∷◌, ◌++◌, refl, sym, ap, ◌∙◌, Bool, true, false, not, Option, Some, None}
+use Rattle.std.specs.Prelude.{length, map, filter, find, if◌then◌else◌, nat_le, ◌==◌, ◌||◌, ◌&&◌}
+use Rattle.std.specs.List.{list_any}
+use Rattle.std.specs.Str.{bytes_eq}
 use Rattle.rd_history.specs.Texts.{Text}
-use Rattle.rd_history.specs.History.{History}
+use Rattle.rd_history.specs.Vector.{members_of}
+use Rattle.rd_history.specs.History.{Action}
 use Rattle.rd_meanings.specs.Refusal.{Refusal}
 use Rattle.rd_model.specs.View.{View, is_member, leader}
-use Rattle.rd_model.specs.Entry.{Entry, Group, is_unchanged, seen_by}
+use Rattle.rd_model.specs.Entry.{Entry, is_unchanged, seen_by, with_action}
 use Rattle.rd_model.specs.DataType.{Replication}
 use Rattle.rd_model.specs.Message.{Keyed, Message, Post}
-use Rattle.rd_model.specs.Message.Message.{Deltas, Nack, Status, Gossip}
-use Rattle.rd_model.specs.Node.{KeyDecl, KeyState, Node, Input, Fate, Level, Reply, Stepped, state_of, key_state, one_step_later, needed}
+use Rattle.rd_model.specs.Message.Message.{Deltas, Nack, Status, Gossip, Write, WriteAck, WriteNack, Read, ReadAnswer}
+use Rattle.rd_model.specs.Node.{KeyDecl, KeyState, Node, OpenOperation, Finished, Input, Fate, Level, Reply, Stepped, state_of, key_state, one_step_later, needed, with_entry}
 use Rattle.rd_model.specs.Node.Fate.{NoStore, Stored, StoreFailed}
-use Rattle.rd_model.specs.Node.Reply.{Done, WrongKind, NotStored, NotFromMember, OldView, Installed, NotAPeer, Ticked, TickedNotStored, NotLeader}
-use Rattle.rd_model.specs.Step.{step, step_of_take, to_store, answered, sent, answer_to, status_of, member_count, outcomes_of, entry_after_tick, KeyGap, take_reply, took, is_changed, after_groups, after_entries, nack_to, gossip_to as gossip_after, named_entries}
-use Rattle.rd_model.proofs.Cases.{updated, updated_needing, updated_unless}
-use Rattle.rd_model.proofs.Changes.{step-get-only}
+use Rattle.rd_model.specs.Node.Reply.{Done, Pending, WrongKind, NotStored, Taken, NotFromMember, OldView, Installed, NotAPeer, Ticked, TickedNotStored, NotLeader, TimedOut, NoSuchOp}
+use Rattle.rd_model.specs.Step.{KeyGap, step, step_of_take, take_reply, took, to_store, answered, sent, opened, nack_to, gossip_to, answer_to, status_of, member_count, outcomes_of, entry_after_tick, after_groups, after_entries, named_entries, keyed_option, is_changed, is_answered_by, with_answer, result_of, value_reply, shown_of}
+use Rattle.rd_model.proofs.Cases.{updated, updated_needing, updated_unless, got, got_needing, counted_for}
 use Rattle.rd_model.proofs.Taking.{is_unchanged-same}
-use Rattle.rd_lattice.specs.declared.replica.Replica.{Ghosts}
-use Rattle.rd_messages.specs.declared.message.Message.{Message as Code}
-use Rattle.rd_messages.specs.declared.message.Message.TheVariants as code
-use Rattle.rd_node.specs.declared.key.KeyState as held
-use Rattle.rd_node.specs.declared.input.Input as given
-use Rattle.rd_node.specs.declared.input.Input.TheVariants as input
-use Rattle.rd_node.specs.Inputs.{StandsForInput, StandsForTaken}
 
-pub data IsOfProgram {Op : Type 0} : Input Op → Type 0 where
-  update : (key : Text) (op : Op) → IsOfProgram (Input.Update key op Level.Local)
-  get : (key : Text) → IsOfProgram (Input.Get key Level.Local)
-  deltas : (from : ℕ) (groups : List (Keyed (Group Op))) (entries : List (Keyed (Entry Op))) → IsOfProgram (Input.Take from (Deltas groups entries))
-  nack : (from : ℕ) (keys : List Text) → IsOfProgram (Input.Take from (Nack keys))
-  status : (from : ℕ) (digests : List (Keyed (List ℕ))) → IsOfProgram (Input.Take from (Status digests))
-  gossip : (from : ℕ) (entries : List (Keyed (Entry Op))) (wants : List Text) → IsOfProgram (Input.Take from (Gossip entries wants))
-  install : (view : View) → IsOfProgram (Input.Install view)
-  flush : IsOfProgram Input.Flush
-  gossip_to : (i : ℕ) → IsOfProgram (Input.GossipTo i)
-  prune_tick : IsOfProgram Input.PruneTick
+-- WHAT A FAILED STORE MAKES OF A STEP
 
--- the reply of a failed store
+-- the reply
 abbrev pub failed_reply : {Shown : Type 0} → Reply Shown → Reply Shown
 failed_reply (Ticked outcomes) = TickedNotStored outcomes
 failed_reply _ = NotStored
 
-abbrev pub failed : {Kind Op Shown : Type 0} → Stepped Kind Op Shown → Stepped Kind Op Shown
-failed stepped = record stepped { output = record stepped.output { reply = failed_reply stepped.output.reply } }
+abbrev pub opens : {Shown : Type 0} → Reply Shown → Bool
+opens (Pending op) = true
+opens _ = false
+
+-- a write is not acknowledged
+abbrev pub refused : {Op : Type 0} → Message Op → Message Op
+refused (WriteAck op) = WriteNack op
+refused message = message
+
+abbrev pub refused_post : {Op : Type 0} → Post Op → Post Op
+refused_post post = record { to = post.to; message = refused post.message }
+
+module _ {Kind Op Shown : Type 0} where
+  -- no operation is opened, and nobody is asked
+  abbrev pub unopened : Node Kind Op Shown → Stepped Kind Op Shown → Stepped Kind Op Shown
+  unopened before stepped = record {
+    node = record stepped.node { open_operations = before.open_operations; next_op = before.next_op };
+    output = record { reply = NotStored; posts = []; ended = stepped.output.ended };
+  }
+
+  abbrev pub unstored : Stepped Kind Op Shown → Stepped Kind Op Shown
+  unstored stepped = record stepped { output = record { reply = failed_reply stepped.output.reply; posts = map refused_post stepped.output.posts; ended = stepped.output.ended } }
+
+  abbrev pub failed : Node Kind Op Shown → Stepped Kind Op Shown → Stepped Kind Op Shown
+  failed before stepped = if opens stepped.output.reply then unopened before stepped else unstored stepped
+
+refused_gossip : {Op : Type 0} {Kind Shown : Type 0} (D : Replication Kind Op Shown) (i : ℕ) (entries : List (Keyed (Entry Op))) (wants : List Text) → map refused_post (gossip_to D i entries wants) ≡ gossip_to D i entries wants
+refused_gossip D i [] [] = refl
+refused_gossip D i [] (w ∷ wants) = refl
+refused_gossip D i (e ∷ entries) wants = refl
+
+refused_nack : {Op : Type 0} {Kind Shown : Type 0} (D : Replication Kind Op Shown) (i : ℕ) (gaps : List KeyGap) → map refused_post (nack_to D i gaps) ≡ nack_to D i gaps
+refused_nack D i [] = refl
+refused_nack D i (gap ∷ gaps) = refl
+
+-- a take that stores something, where the store fails
+failing_take : {Kind Op Shown : Type 0} (D : Replication Kind Op Shown) (before : Node Kind Op Shown) (gaps : List KeyGap) (unchanged : Bool) (next : Node Kind Op Shown) (posts : List (Post Op)) (ended : Option (Finished Shown))
+    → failed before (record { node = next; output = record { reply = take_reply D NoStore gaps unchanged; posts = posts; ended = ended } })
+    ≡ record { node = next; output = record { reply = NotStored; posts = map refused_post posts; ended = ended } }
+failing_take D before [] true next posts ended = refl
+failing_take D before [] false next posts ended = refl
+failing_take D before (gap ∷ gaps) unchanged next posts ended = refl
 
 module _ {Kind Op Shown : Type 0} (D : Replication Kind Op Shown) (node : Node Kind Op Shown) where
   abbrev later : Node Kind Op Shown
@@ -62,68 +86,147 @@ module _ {Kind Op Shown : Type 0} (D : Replication Kind Op Shown) (node : Node K
           ap (λ b. filter (λ (k : KeyState Kind Op). k.durable) (if b then state_of next decl ∷ filter (λ (k : KeyState Kind Op). not (is_unchanged (node.entries k.name) k.entry)) (map (state_of next) ks) else filter (λ (k : KeyState Kind Op). not (is_unchanged (node.entries k.name) k.entry)) (map (state_of next) ks)))
           (ap not (ap (is_unchanged (node.entries decl.name)) (same decl.name) ∙ is_unchanged-same (node.entries decl.name))) ∙ go ks
 
-  pub same_stored : (i : Input Op) → IsOfProgram i → step D node i Stored ≡ step D node i NoStore
-  same_stored i (update key op) = refl
-  same_stored i (get key) = refl
-  same_stored i (deltas from groups entries) = refl
-  same_stored i (nack from keys) = refl
-  same_stored i (status from digests) = refl
-  same_stored i (gossip from entries wants) = refl
-  same_stored i (install view) = refl
-  same_stored i flush = refl
-  same_stored i (gossip_to j) = refl
-  same_stored i prune_tick = refl
+  taken_stored : (from : ℕ) (m : Message Op) → step_of_take D later from Stored m ≡ step_of_take D later from NoStore m
+  taken_stored from (Deltas groups entries) = took_stored (after_entries (after_groups later groups).node entries) (after_groups later groups).gaps (nack_to D from (after_groups later groups).gaps)
+    where
+      took_stored : (after : Node Kind Op Shown) (gaps : List KeyGap) (posts : List (Post Op)) → took D later after Stored gaps posts ≡ took D later after NoStore gaps posts
+      took_stored after [] posts = refl
+      took_stored after (gap ∷ gaps) posts = refl
+  taken_stored from (Nack keys) = refl
+  taken_stored from (Status digests) = refl
+  taken_stored from (Gossip entries wants) = refl
+  taken_stored from (Write op key entry) = refl
+  taken_stored from (WriteAck op) = refl
+  taken_stored from (WriteNack op) = refl
+  taken_stored from (Read op key) = refl
+  taken_stored from (ReadAnswer op key entry) = refl
+
+  pub same_stored : (i : Input Op) → step D node i Stored ≡ step D node i NoStore
+  same_stored (Input.Update key op level) = refl
+  same_stored (Input.Get key level) = refl
+  same_stored (Input.Take from message) = ap (λ s. if is_member node.view from then s else answered later NotFromMember) (taken_stored from message)
+  same_stored (Input.Install view) = refl
+  same_stored Input.Flush = refl
+  same_stored (Input.GossipTo j) = refl
+  same_stored Input.PruneTick = refl
+  same_stored (Input.Timeout op) = refl
+
+  -- what a failed store makes of a step: the same entries, and what it says where something had to be stored
+  record Fails (one other : Stepped Kind Op Shown) : Type 0 where
+    entries_are : other.node.entries ≡ one.node.entries
+    failed_is : to_store node one.node ≢ [] → other ≡ failed node one
+
+  quiet : (one : Stepped Kind Op Shown) → ((key : Text) → one.node.entries key ≡ node.entries key) → Fails one one
+  quiet one same = record { entries_are = refl; failed_is = λ some. absurd (some (none_stored one.node same)) }
 
   -- UPDATES
 
-  -- what a failed store makes of a step: the same member, and its own reply where something had to be stored
-  record Fails (one other : Stepped Kind Op Shown) : Type 0 where
-    node_is : other.node ≡ one.node
-    failed_is : to_store node one.node ≢ [] → other ≡ failed one
+  update_accepted : (key : Text) (n : ℕ) (entry : Entry Op) (b : Bool)
+      → Fails (if b then answered (with_entry later key entry) Done else opened (with_entry later key entry) key false n (Write node.next_op key entry)) (answered (with_entry later key entry) NotStored)
+  update_accepted key n entry true = record { entries_are = refl; failed_is = λ some. refl }
+  update_accepted key n entry false = record { entries_are = refl; failed_is = λ some. refl }
 
-  quiet : (one : Stepped Kind Op Shown) → ((key : Text) → one.node.entries key ≡ node.entries key) → Fails one one
-  quiet one same = record { node_is = refl; failed_is = λ some. absurd (some (none_stored one.node same)) }
+  update_unless : (k : KeyState Kind Op) (op : Op) (n : ℕ) (o : Option Refusal) → Fails (updated_unless D later k op n NoStore o) (updated_unless D later k op n StoreFailed o)
+  update_unless k op n None = update_accepted k.name n (with_action k.entry node.identity (Action.Operation op)) (nat_le n 1)
+  update_unless k op n (Some refusal) = quiet (updated_unless D later k op n NoStore (Some refusal)) (λ key. refl)
 
-  update_unless : (k : KeyState Kind Op) (op : Op) (o : Option Refusal) → Fails (updated_unless D later k op 1 NoStore o) (updated_unless D later k op 1 StoreFailed o)
-  update_unless k op None = record { node_is = refl; failed_is = λ some. refl }
-  update_unless k op (Some refusal) = quiet (updated_unless D later k op 1 NoStore (Some refusal)) (λ key. refl)
+  update_needing : (k : KeyState Kind Op) (op : Op) (o : Option ℕ) → Fails (updated_needing D later k op o NoStore) (updated_needing D later k op o StoreFailed)
+  update_needing k op (Some n) = update_unless k op n (D.data_type.refusal k.kind node.identity op k.entry.history)
+  update_needing k op None = quiet (updated_needing D later k op None NoStore) (λ key. refl)
 
-  update_needing : (k : KeyState Kind Op) (op : Op) (b : Bool) → Fails (updated_needing D later k op (if b then Some 1 else None) NoStore) (updated_needing D later k op (if b then Some 1 else None) StoreFailed)
-  update_needing k op true = update_unless k op (D.data_type.refusal k.kind node.identity op k.entry.history)
-  update_needing k op false = quiet (updated_needing D later k op None NoStore) (λ key. refl)
+  update_at : (k : KeyState Kind Op) (op : Op) (level : Level) (b : Bool)
+      → Fails (if b then updated_needing D later k op (needed level (member_count later)) NoStore else answered later WrongKind) (if b then updated_needing D later k op (needed level (member_count later)) StoreFailed else answered later WrongKind)
+  update_at k op level true = update_needing k op (needed level (member_count later))
+  update_at k op level false = quiet (answered later WrongKind) (λ key. refl)
 
-  update_at : (k : KeyState Kind Op) (op : Op) (b : Bool)
-      → Fails (if b then updated_needing D later k op (needed Level.Local (member_count later)) NoStore else answered later WrongKind) (if b then updated_needing D later k op (needed Level.Local (member_count later)) StoreFailed else answered later WrongKind)
-  update_at k op true = update_needing k op (nat_le 1 (member_count later))
-  update_at k op false = quiet (answered later WrongKind) (λ key. refl)
+  update_by : (o : Option (KeyState Kind Op)) (op : Op) (level : Level) → Fails (updated D later o op level NoStore) (updated D later o op level StoreFailed)
+  update_by None op level = quiet (updated D later None op level NoStore) (λ key. refl)
+  update_by (Some k) op level = update_at k op level (D.data_type.fits k.kind op)
 
-  update_by : (o : Option (KeyState Kind Op)) (op : Op) → Fails (updated D later o op Level.Local NoStore) (updated D later o op Level.Local StoreFailed)
-  update_by None op = quiet (updated D later None op Level.Local NoStore) (λ key. refl)
-  update_by (Some k) op = update_at k op (D.data_type.fits k.kind op)
+  get_needing : (k : KeyState Kind Op) (o : Option ℕ) → (got_needing D later k o).node.entries ≡ node.entries
+  get_needing k None = refl
+  get_needing k (Some n) = go (nat_le n 1)
+    where
+      go : (b : Bool) → (if b then answered later (value_reply D (shown_of D k)) else opened later k.name true n (Read node.next_op k.name)).node.entries ≡ node.entries
+      go true = refl
+      go false = refl
+
+  get_by : (o : Option (KeyState Kind Op)) (level : Level) → (got D later o level).node.entries ≡ node.entries
+  get_by None level = refl
+  get_by (Some k) level = get_needing k (needed level (member_count later))
 
   -- MESSAGES
 
-  take_failed : (gaps : List KeyGap) (unchanged : Bool) → NotStored ≡ failed_reply (take_reply D NoStore gaps unchanged)
-  take_failed [] true = refl
-  take_failed [] false = refl
-  take_failed (gap ∷ gaps) unchanged = refl
+  module _ (from : ℕ) (after : Node Kind Op Shown) (o : OpenOperation) where
+    -- the operation ends, or goes on
+    abbrev ends : Reply Shown → Stepped Kind Op Shown
+    ends reply =
+        record {
+          node = record after { open_operations = filter (λ (p : OpenOperation). not (p.op == o.op)) after.open_operations; finished = after.finished ++ record { op = o.op; result = result_of D after o } ∷ [] };
+          output = record { reply = reply; posts = []; ended = Some (record { op = o.op; result = result_of D after o }) };
+        }
 
-  took_fails : (after : Node Kind Op Shown) (gaps : List KeyGap) (posts : List (Post Op)) → Fails (took D later after NoStore gaps posts) (took D later after StoreFailed gaps posts)
-  took_fails after gaps posts = record {
-    node_is = refl;
-    failed_is = λ some. ap (λ reply. sent after reply posts) (take_failed gaps (not (is_changed later after)));
+    abbrev goes_on : Reply Shown → Stepped Kind Op Shown
+    goes_on reply = record {
+      node = record after { open_operations = map (λ (p : OpenOperation). if p.op == o.op then with_answer from o else p) after.open_operations };
+      output = record { reply = reply; posts = []; ended = None };
+    }
+
+    counted_entries : (reply : Reply Shown) (b : Bool) → (if b then ends reply else goes_on reply).node.entries ≡ after.entries
+    counted_entries reply true = refl
+    counted_entries reply false = refl
+
+    counted_fails : (u : Bool) (b : Bool) → Fails (if b then ends (take_reply D NoStore [] u) else goes_on (take_reply D NoStore [] u)) (if b then ends NotStored else goes_on NotStored)
+    counted_fails u true = record { entries_are = refl; failed_is = λ some. sym (failing_take D node [] u (ends NotStored).node [] (ends NotStored).output.ended) }
+    counted_fails u false = record { entries_are = refl; failed_is = λ some. sym (failing_take D node [] u (goes_on NotStored).node [] None) }
+
+  -- an acknowledgement changes no entry
+  acknowledged : (from : ℕ) (o : Option OpenOperation) → (counted_for D (answered later Taken) from o).node.entries ≡ node.entries
+  acknowledged from None = refl
+  acknowledged from (Some o) = counted_entries from later o Taken (nat_le o.needed (length (members_of (with_answer from o).counted)))
+
+  answer_fails : (from : ℕ) (after : Node Kind Op Shown) (u : Bool) (o : Option OpenOperation)
+      → Fails (counted_for D (answered after (take_reply D NoStore [] u)) from o) (counted_for D (answered after NotStored) from o)
+  answer_fails from after u None = record { entries_are = refl; failed_is = λ some. sym (failing_take D node [] u after [] None) }
+  answer_fails from after u (Some o) = counted_fails from after o u (nat_le o.needed (length (members_of (with_answer from o).counted)))
+
+  -- a take with these gaps and answers
+  took_fails : (after : Node Kind Op Shown) (gaps : List KeyGap) (posts failing_posts : List (Post Op)) → map refused_post posts ≡ failing_posts → Fails (took D later after NoStore gaps posts) (took D later after StoreFailed gaps failing_posts)
+  took_fails after gaps posts failing_posts same = record {
+    entries_are = refl;
+    failed_is = λ some. ap (λ ps. sent after NotStored ps) (sym same) ∙ sym (failing_take D node gaps (not (is_changed later after)) after posts None);
   }
 
-  take_by : (from : ℕ) (m : Message Op) → Fails (step_of_take D later from NoStore m) (step_of_take D later from StoreFailed m) → (b : Bool)
+  take_fails : (from : ℕ) (m : Message Op) → Fails (step_of_take D later from NoStore m) (step_of_take D later from StoreFailed m)
+  take_fails from (Deltas groups entries) =
+      let taken = after_groups later groups in
+      took_fails (after_entries taken.node entries) taken.gaps (nack_to D from taken.gaps) (nack_to D from taken.gaps) (refused_nack D from taken.gaps)
+  take_fails from (Nack keys) = quiet (step_of_take D later from NoStore (Nack keys)) (λ key. refl)
+  take_fails from (Status digests) = quiet (step_of_take D later from NoStore (Status digests)) (λ key. refl)
+  take_fails from (Gossip entries wants) =
+      let after = after_entries later entries in
+      took_fails after [] (gossip_to D from (named_entries D after wants) []) (gossip_to D from (named_entries D after wants) []) (refused_gossip D from (named_entries D after wants) [])
+  take_fails from (Write op key entry) = took_fails (after_entries later (record { key = key; item = entry } ∷ [])) [] (answer_to D from (WriteAck op)) (answer_to D from (WriteNack op)) refl
+  take_fails from (WriteAck op) =
+      quiet (step_of_take D later from NoStore (WriteAck op)) (λ key. ap (λ (f : Text → Entry Op). f key) (acknowledged from (find (is_answered_by false op) node.open_operations)))
+  take_fails from (WriteNack op) = quiet (step_of_take D later from NoStore (WriteNack op)) (λ key. refl)
+  take_fails from (Read op key) = quiet (step_of_take D later from NoStore (Read op key)) (λ name. refl)
+  take_fails from (ReadAnswer op key entry) =
+      let after = after_entries later (keyed_option D key entry) in
+      answer_fails from after (not (is_changed later after)) (find (λ (o : OpenOperation). is_answered_by true op o && bytes_eq o.key key) after.open_operations)
+
+  take_by : (from : ℕ) (m : Message Op) (b : Bool)
       → Fails (if b then step_of_take D later from NoStore m else answered later NotFromMember) (if b then step_of_take D later from StoreFailed m else answered later NotFromMember)
-  take_by from m fails true = fails
-  take_by from m fails false = quiet (answered later NotFromMember) (λ key. refl)
+  take_by from m true = take_fails from m
+  take_by from m false = quiet (answered later NotFromMember) (λ key. refl)
+
+  -- THE OTHERS
 
   install_by : (view : View) (b : Bool) → Fails
       (if b then answered later OldView else answered (record later { view = view; entries = λ key. seen_by node.identity view.number (node.entries key) }) Installed)
       (if b then answered later OldView else answered (record later { view = view; entries = λ key. seen_by node.identity view.number (node.entries key) }) NotStored)
   install_by view true = quiet (answered later OldView) (λ key. refl)
-  install_by view false = record { node_is = refl; failed_is = λ some. refl }
+  install_by view false = record { entries_are = refl; failed_is = λ some. refl }
 
   gossip_by : (i : ℕ) (b : Bool) → Fails (if b then answered later NotAPeer else sent later Done (answer_to D i (status_of D later))) (if b then answered later NotAPeer else sent later Done (answer_to D i (status_of D later)))
   gossip_by i true = quiet (answered later NotAPeer) (λ key. refl)
@@ -133,44 +236,28 @@ module _ {Kind Op Shown : Type 0} (D : Replication Kind Op Shown) (node : Node K
       (if b then answered later (NotLeader (leader node.view)) else answered (record later { entries = entry_after_tick D later }) (Ticked (outcomes_of D later)))
       (if b then answered later (NotLeader (leader node.view)) else answered (record later { entries = entry_after_tick D later }) (TickedNotStored (outcomes_of D later)))
   tick_by true = quiet (answered later (NotLeader (leader node.view))) (λ key. refl)
-  tick_by false = record { node_is = refl; failed_is = λ some. refl }
+  tick_by false = record { entries_are = refl; failed_is = λ some. refl }
 
-  fails : (i : Input Op) → IsOfProgram i → Fails (step D node i NoStore) (step D node i StoreFailed)
-  fails i (update key op) = update_by (key_state later key) op
-  fails i (get key) = quiet (step D node (Input.Get key Level.Local) NoStore) (λ name. ap (λ n. n.entries name) (step-get-only D node key NoStore))
-  fails i (deltas from groups entries) = take_by from (Deltas groups entries)
-      (let taken = after_groups later groups in took_fails (after_entries taken.node entries) taken.gaps (nack_to D from taken.gaps)) (is_member node.view from)
-  fails i (nack from keys) = take_by from (Nack keys) (quiet (step_of_take D later from NoStore (Nack keys)) (λ key. refl)) (is_member node.view from)
-  fails i (status from digests) = take_by from (Status digests) (quiet (step_of_take D later from NoStore (Status digests)) (λ key. refl)) (is_member node.view from)
-  fails i (gossip from entries wants) = take_by from (Gossip entries wants)
-      (let after = after_entries later entries in took_fails after [] (gossip_after D from (named_entries D after wants) [])) (is_member node.view from)
-  fails i (install view) = install_by view (nat_le view.number node.view.number)
-  fails i flush = quiet (step D node Input.Flush NoStore) (λ key. refl)
-  fails i (gossip_to j) = gossip_by j ((j == node.identity) || not (is_member node.view j))
-  fails i prune_tick = tick_by (not (leader node.view == node.identity))
+  timeout_by : (op : ℕ) (b : Bool) → Fails
+      (if b then answered (record later { open_operations = filter (λ (o : OpenOperation). not (o.op == op)) node.open_operations }) TimedOut else answered later NoSuchOp)
+      (if b then answered (record later { open_operations = filter (λ (o : OpenOperation). not (o.op == op)) node.open_operations }) TimedOut else answered later NoSuchOp)
+  timeout_by op true = quiet (answered (record later { open_operations = filter (λ (o : OpenOperation). not (o.op == op)) node.open_operations }) TimedOut) (λ key. refl)
+  timeout_by op false = quiet (answered later NoSuchOp) (λ key. refl)
 
-  pub same_failed : (i : Input Op) → IsOfProgram i → to_store node (step D node i NoStore).node ≢ [] → step D node i StoreFailed ≡ failed (step D node i NoStore)
-  same_failed i of = (fails i of).failed_is
+  fails : (i : Input Op) → Fails (step D node i NoStore) (step D node i StoreFailed)
+  fails (Input.Update key op level) = update_by (key_state later key) op level
+  fails (Input.Get key level) = quiet (step D node (Input.Get key level) NoStore) (λ name. ap (λ (f : Text → Entry Op). f name) (get_by (key_state later key) level))
+  fails (Input.Take from message) = take_by from message (is_member node.view from)
+  fails (Input.Install view) = install_by view (nat_le view.number node.view.number)
+  fails Input.Flush = quiet (step D node Input.Flush NoStore) (λ key. refl)
+  fails (Input.GossipTo j) = gossip_by j ((j == node.identity) || not (is_member node.view j))
+  fails Input.PruneTick = tick_by (not (leader node.view == node.identity))
+  fails (Input.Timeout op) = timeout_by op (list_any (λ (o : OpenOperation). o.op == op) node.open_operations)
 
-  pub node_same : (i : Input Op) → IsOfProgram i → (fate : Fate) → (step D node i fate).node ≡ (step D node i NoStore).node
-  node_same i of NoStore = refl
-  node_same i of Stored = ap (λ s. s.node) (same_stored i of)
-  node_same i of StoreFailed = (fails i of).node_is
+  pub same_failed : (i : Input Op) → to_store node (step D node i NoStore).node ≢ [] → step D node i StoreFailed ≡ failed node (step D node i NoStore)
+  same_failed i = (fails i).failed_is
 
--- WHICH INPUTS
-
-module _ {T Kind Op Delta : Type 0} {ghosts : Ghosts T Kind Op Delta} (kinds : Text → Kind) (logs : Text → History Op) (keys : List (held.KeyState T Kind Op Delta)) where
-  message_of : (from : ℕ) (m : Code T Kind Op Delta ghosts) (told : Message Op) → StandsForTaken kinds logs keys m told → IsOfProgram (Input.Take from told)
-  message_of from (code.Deltas groups entries) told s = subst (λ m. IsOfProgram (Input.Take from m)) (sym s.is) (deltas from s.told_groups s.told_entries)
-  message_of from (code.Nack names) told s = subst (λ m. IsOfProgram (Input.Take from m)) (sym s) (nack from names)
-  message_of from (code.Status digests) told s = subst (λ m. IsOfProgram (Input.Take from m)) (sym s) (status from _)
-  message_of from (code.Gossip entries wants) told s = subst (λ m. IsOfProgram (Input.Take from m)) (sym s.is) (gossip from s.told_entries wants)
-
-  pub of_program : (i : given.Input T Kind Op Delta ghosts) (sent : Input Op) → StandsForInput kinds logs keys i sent → IsOfProgram sent
-  of_program (input.Update key op) sent s = subst IsOfProgram (sym s) (update key op)
-  of_program (input.Get key) sent s = subst IsOfProgram (sym s) (get key)
-  of_program (input.Take from message) sent s = subst IsOfProgram (sym s.is) (message_of from message s.told s.message_stands)
-  of_program (input.Install view) sent s = subst IsOfProgram (sym s) (install view)
-  of_program input.Flush sent s = subst IsOfProgram (sym s) flush
-  of_program (input.GossipTo i) sent s = subst IsOfProgram (sym s) (gossip_to i)
-  of_program input.PruneTick sent s = subst IsOfProgram (sym s) prune_tick
+  pub entries_same : (i : Input Op) (fate : Fate) → (step D node i fate).node.entries ≡ (step D node i NoStore).node.entries
+  entries_same i NoStore = refl
+  entries_same i Stored = ap (λ s. s.node.entries) (same_stored i)
+  entries_same i StoreFailed = (fails i).entries_are

@@ -63,3 +63,4 @@ no_status (Deltas groups entries) other = refl
 no_status (Nack keys) other = refl
 no_status (Status digests) other = absurd (other digests refl)
 no_status (Gossip entries wants) other = refl
+no_status message other = refl

@@ -1,5 +1,5 @@
 -- The leader of a view, and those that left.
-use Rattle.std.proofs.Common.{◌≡◌, ◌≢◌, ℕ, zero, suc, ◌+◌, ◌<◌, ◌≤◌, List, [], ◌∷◌, ◌++◌, length, Bool, true, false, ◌||◌, not, refl, sym, ap, ◌∙◌, subst, arith}
+use Rattle.std.proofs.Common.{◌≡◌, ◌≢◌, ℕ, suc, ◌+◌, ◌<◌, ◌≤◌, List, [], ◌∷◌, ◌++◌, length, Bool, true, false, ◌||◌, not, refl, sym, ap, ◌∙◌, arith}
 use Rattle.std.specs.Prelude.{map, filter, get_or, All, if◌then◌else◌, ◌==◌}
 use Rattle.std.specs.List.{list_any, range_with_len}
 use Rattle.std.proofs.lemmas.Bool.{eq-eqb, eqb-true}
@@ -8,7 +8,7 @@ use Rattle.std.proofs.lemmas.List.FromFn.{length-range_with_len}
 use Rattle.std.proofs.lemmas.List.{append-nil}
 use Rattle.rd_history.specs.Table.{identity_limit}
 use Rattle.rd_vectors.proofs.Walks.{counted_more}
-use Rattle.rd_model.specs.View.{View, Member, identities_of, is_member, leader, removed_of}
+use Rattle.rd_model.specs.View.{View, Member, is_member, leader, removed_of}
 
 -- numbers that are not told apart
 pub same_number : (a b : ℕ) → false ≡ not (a == b) → a ≡ b

@@ -46,6 +46,7 @@ use Rattle.rd_node.specs.Loading.{NamesEarlier}
 use Rattle.rd_node.specs.Restoring.{HoldsOne, HoldsKept}
 use Rattle.rd_node.proofs.Lists.{find_one}
 use Rattle.rd_node.proofs.Standing.{find-map}
+use Rattle.rd_node.proofs.Starting.{operates_first}
 use Rattle.rd_node.proofs.Restorings.{same_length, same_declared, names_apart}
 
 -- WHAT IS TRUE OF EACH OF ITS KEYS
@@ -236,12 +237,13 @@ module _ {T Kind Op Delta : Type 0} (ghosts : Ghosts T Kind Op Delta) (spelling 
           sent = s.sent;
         }
 
-    pub stands_loaded : id ≡ code.id → view ≡ code.view → code.steps ≡ 0 → StandsForNode ghosts.kind_of ghosts.IsDataOf kinds logs code (loaded_node (map declared_by keys) id view store)
-    stands_loaded identity viewed steps = record {
+    pub stands_loaded : id ≡ code.id → view ≡ code.view → code.operations ≡ [] → code.steps ≡ 0 → StandsForNode ghosts.kind_of ghosts.IsDataOf kinds logs code (loaded_node (map declared_by keys) id view store)
+    stands_loaded identity viewed operations steps = record {
       identity = identity;
       view = viewed;
       keys = sym same;
       distinct = names_loaded states keys same distinct;
       entries = key_stands;
+      operations = operates_first code.operations id view (map declared_by keys) store operations;
       steps = sym steps;
     }

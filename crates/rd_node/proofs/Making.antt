@@ -1,8 +1,13 @@
 -- A step that was prepared and carried out is one of the model.
-use Rattle.std.proofs.Common.{◌≡◌, ◌≢◌, ◌+◌, ◌<◌, List, [], ◌∷◌, refl, sym, ap, ◌∙◌, subst, arith}
-use Rattle.std.specs.Prelude.{map, All, unwrap_or, IsFalse}
+use Rattle.std.proofs.Common.{◌≡◌, ◌≢◌, ◌+◌, ◌<◌, Bool, true, false, Some, None, List, [], ◌∷◌, refl, sym, ap, ◌∙◌, subst, arith}
+use Rattle.std.specs.Prelude.{map, All, if◌then◌else◌, unwrap_or, IsFalse}
 use Rattle.rd_history.specs.Texts.{Text}
-use Rattle.rd_history.specs.History.{History}
+use Rattle.rd_history.specs.Vector.{VersionVector}
+use Rattle.rd_history.specs.History.{History, IsExactlyPruned}
+use Rattle.rd_history.specs.Log.{IsTakenFrom}
+use Rattle.rd_model.specs.Entry.{Entry}
+use Rattle.rd_model.specs.Message as sending
+use Rattle.rd_model.specs.Message.{Message as Sent}
 use Rattle.rd_model.specs.Node as nodes
 use Rattle.rd_model.specs.Node.{Stepped}
 use Rattle.rd_model.specs.Step.{step, is_full, to_store}
@@ -13,66 +18,111 @@ use Rattle.rd_lattice.specs.declared.spelled.SpelledData.{Ghosts as Spelling}
 use Rattle.rd_keeper.specs.declared.keeper.Keeper.{Ghosts as Keeping}
 use Rattle.rd_keeper.specs.Calls.{Becomes}
 use Rattle.rd_keeper.specs.Tables.{put_all}
+use Rattle.rd_messages.specs.declared.message.Message.{Message as Code}
+use Rattle.rd_messages.specs.declared.message.Message.TheVariants as message
+use Rattle.rd_messages.specs.declared.message.Post.{Post}
+use Rattle.rd_messages.specs.Standing.{StandsForMessage, StandsForPosts}
 use Rattle.rd_node.specs.declared.node.Node.{Node}
 use Rattle.rd_node.specs.declared.input.Input.{Input}
 use Rattle.rd_node.specs.declared.plan.Prepared.{Prepared}
+use Rattle.rd_node.specs.declared.operations.NextOperation.{NextOperation}
+use Rattle.rd_node.specs.declared.operations.OperationChange.{OperationChange}
+use Rattle.rd_node.specs.declared.operations.OperationChange.TheVariants.{Same, Opened, Put}
 use Rattle.rd_node.specs.declared.reply.Fate.{Fate}
 use Rattle.rd_node.specs.declared.reply.Fate.TheVariants.{NoStore, Stored, StoreFailed}
-use Rattle.rd_node.specs.declared.reply.Reply.{Reply}
 use Rattle.rd_node.specs.declared.reply.Reply.TheVariants as reply
-use Rattle.rd_node.specs.Replies.{meant, meant_fate}
-use Rattle.rd_node.specs.Members.{IsSafe, StandsForNode}
+use Rattle.rd_node.specs.Replies.{meant_fate}
+use Rattle.rd_node.specs.Members.{IsSafe, StandsForKey, StandsForNode}
 use Rattle.rd_node.specs.Stores.{spelled_entry, IsKept}
 use Rattle.rd_node.specs.Steps.{replication, StandsForOutput, IsCalled, IsKeptBy, KeepsTable, IsImage, IsStepOf}
 use Rattle.rd_node.specs.Planning.{IsPrepared}
 use Rattle.rd_node.specs.Preparing.{IsSoundFor, Prepares}
-use Rattle.rd_node.specs.Outputs.{failed as failed_code, after_fate}
+use Rattle.rd_node.specs.Outputs.{failed as failed_code, refused as refused_code, refused_post as refused_post_code, is_pending, failed_output, after_fate}
+use Rattle.rd_node.specs.Operations.{after_store, changed_operations, finished_at, opens_one, StandForOperations}
 use Rattle.rd_node.specs.Storing.{AreSpelled}
 use Rattle.rd_node.specs.Carrying.{IsCarried}
 use Rattle.rd_node.proofs.Keepers.{becomes_same}
-use Rattle.rd_node.proofs.Fates.{IsOfProgram, of_program, failed, failed_reply, same_stored, same_failed, node_same}
+use Rattle.rd_node.proofs.Pending.{failed_meant, opens_meant}
+use Rattle.rd_node.proofs.OperationLists.{finished-pushed}
+use Rattle.rd_node.proofs.Fates.{opens, refused, refused_post, unopened, unstored, failed, failed_reply, same_stored, same_failed, entries_same}
 
-failed_meant : (r : Reply) → meant (failed_code r) ≡ failed_reply (meant r)
-failed_meant reply.Done = refl
-failed_meant (reply.Value shown) = refl
-failed_meant reply.NotFound = refl
-failed_meant reply.UnknownKey = refl
-failed_meant reply.WrongKind = refl
-failed_meant (reply.Overflow share amount) = refl
-failed_meant reply.ClockSpent = refl
-failed_meant reply.SetFull = refl
-failed_meant reply.StoreFailed = refl
-failed_meant reply.Taken = refl
-failed_meant reply.Already = refl
-failed_meant (reply.Gap i) = refl
-failed_meant reply.NotFromMember = refl
-failed_meant reply.Installed = refl
-failed_meant reply.OldView = refl
-failed_meant reply.NotAPeer = refl
-failed_meant (reply.Ticked outcomes) = refl
-failed_meant (reply.TickedStoreFailed outcomes) = refl
-failed_meant (reply.NotLeader i) = refl
+-- after a failed store, messages stand for the model's as before
+module _ {T Kind Op Delta : Type 0} {ghosts : Ghosts T Kind Op Delta} (kinds : Text → Kind) (logs : Text → History Op) where
+  refused_stands : (m : Code T Kind Op Delta ghosts) (told : Sent Op) → StandsForMessage ghosts.kind_of ghosts.IsDataOf kinds logs m told → StandsForMessage ghosts.kind_of ghosts.IsDataOf kinds logs (refused_code m) (refused told)
+  refused_stands (message.Deltas groups entries) told s = record { sent_groups = s.sent_groups; sent_entries = s.sent_entries; is = ap refused s.is; groups_stand = s.groups_stand; entries_stand = s.entries_stand }
+  refused_stands (message.Nack keys) told s = ap refused s
+  refused_stands (message.Status digests) told s = ap refused s
+  refused_stands (message.Gossip entries wants) told s = record { sent_entries = s.sent_entries; is = ap refused s.is; entries_stand = s.entries_stand }
+  refused_stands (message.Write op key envelope) told s = record { entry = s.entry; is = ap refused s.is; held = s.held }
+  refused_stands (message.WriteAck op) told s = ap refused s
+  refused_stands (message.WriteNack op) told s = ap refused s
+  refused_stands (message.Read op key) told s = ap refused s
+  refused_stands (message.ReadAnswer op key None) told s = ap refused s
+  refused_stands (message.ReadAnswer op key (Some envelope)) told s = record { entry = s.entry; is = ap refused s.is; held = s.held }
+
+  refused_posts : (posts : List (Post T Kind Op Delta ghosts)) (sent : List (sending.Post Op)) → StandsForPosts ghosts.kind_of ghosts.IsDataOf kinds logs posts sent
+      → StandsForPosts ghosts.kind_of ghosts.IsDataOf kinds logs (map refused_post_code posts) (map refused_post sent)
+  refused_posts [] [] s = tt
+  refused_posts [] (y ∷ ys) s = absurd s
+  refused_posts (x ∷ xs) [] s = absurd s
+  refused_posts (x ∷ xs) (y ∷ ys) s = (record { to = s.0.to; message = refused_stands x.message y.message s.0.message }, refused_posts xs ys s.1)
+
+stored_same : (o : OperationChange) → after_store NoStore o ≡ o
+stored_same Same = refl
+stored_same (Opened next) = refl
+stored_same (Put op operation) = refl
+
+kept_same : (o : OperationChange) → after_store Stored o ≡ o
+kept_same Same = refl
+kept_same (Opened next) = refl
+kept_same (Put op operation) = refl
+
+-- safety is of the entries alone
+safe_with : {Kind Op : Type 0} (logs : Text → History Op) {one other : nodes.Node Kind Op Shown} → one.entries ≡ other.entries → IsSafe logs one → IsSafe logs other
+safe_with logs same safe = record {
+  taken = λ key. subst (λ (f : Text → Entry _). IsTakenFrom (logs key) (f key).history) same (safe.taken key);
+  exact = λ key. subst (λ (f : Text → Entry _). IsExactlyPruned (f key).history) same (safe.exact key);
+}
 
 map_none : {X Y : Type 0} (f : X → Y) (xs : List X) → map f xs ≡ [] → xs ≡ []
 map_none f [] e = refl
 map_none f (x ∷ xs) e = absurd (cc e)
 
 module _ {T K Kind Op Delta : Type 0} {ghosts : Ghosts T Kind Op Delta} {keeping : Keeping K} (spelling : Spelling T Kind Op Delta) (old : Node T K Kind Op Delta ghosts keeping) (prepared : Prepared T Kind Op Delta ghosts) (sound : IsSoundFor old prepared)
-    (fate : Fate) (new : Node T K Kind Op Delta ghosts keeping) (c : IsCarried spelling old prepared.view prepared.plan fate new) (few : old.steps < 16384) where
-  module _ (kinds : Text → Kind) (logs : Text → History Op) (node : nodes.Node Kind Op Shown) (s : StandsForNode ghosts.kind_of ghosts.IsDataOf kinds logs old node) (sent : nodes.Input Op) (of : IsOfProgram sent)
-      (p : IsPrepared {ghosts = ghosts} kinds logs old.keys.items node (step (replication ghosts spelling) node sent nodes.Fate.NoStore) prepared) where
+    (fate : Fate) (new : Node T K Kind Op Delta ghosts keeping) (c : IsCarried spelling old prepared.view prepared.plan prepared.operations fate new) (few : old.steps < 16384) where
+  module _ (kinds : Text → Kind) (logs : Text → History Op) (node : nodes.Node Kind Op Shown) (s : StandsForNode ghosts.kind_of ghosts.IsDataOf kinds logs old node) (sent : nodes.Input Op)
+      (p : IsPrepared {ghosts = ghosts} kinds logs old.keys.items old.operations node (step (replication ghosts spelling) node sent nodes.Fate.NoStore) prepared) where
     abbrev base : Stepped Kind Op Shown
     base = step (replication ghosts spelling) node sent nodes.Fate.NoStore
 
-    stands_base : StandsForNode ghosts.kind_of ghosts.IsDataOf kinds logs new base.node
-    stands_base = record {
-      identity = p.identity ∙ s.identity ∙ sym c.identity;
-      view = p.viewed ∙ ap (unwrap_or prepared.view) s.view ∙ sym c.viewed;
-      keys = p.declared ∙ s.keys ∙ sym (sound.declared new.keys.items c.planned);
+    -- the member stands for the model's where its operations do
+    stands_with : (next : nodes.Node Kind Op Shown) → next.identity ≡ base.node.identity → next.view ≡ base.node.view → next.keys ≡ base.node.keys → next.entries ≡ base.node.entries → next.flushed ≡ base.node.flushed → next.steps ≡ base.node.steps
+        → StandForOperations new.operations next → StandsForNode ghosts.kind_of ghosts.IsDataOf kinds logs new next
+    stands_with next identity view keys entries flushed steps operations = record {
+      identity = identity ∙ p.identity ∙ s.identity ∙ sym c.identity;
+      view = view ∙ p.viewed ∙ ap (unwrap_or prepared.view) s.view ∙ sym c.viewed;
+      keys = keys ∙ p.declared ∙ s.keys ∙ sym (sound.plan.declared new.keys.items c.planned);
       distinct = new.distinct;
-      entries = p.leads_on.stands new.keys.items c.planned;
-      steps = p.counted ∙ ap (λ n. n + 1) s.steps ∙ sym c.counted;
+      entries = subst (λ (f : Text → Entry Op). All (λ state. StandsForKey ghosts.kind_of ghosts.IsDataOf ghosts.IsDeltaOf kinds logs state (f state.name) (next.flushed state.name)) new.keys.items) (sym entries)
+          (subst (λ (f : Text → VersionVector). All (λ state. StandsForKey ghosts.kind_of ghosts.IsDataOf ghosts.IsDeltaOf kinds logs state (base.node.entries state.name) (f state.name)) new.keys.items) (sym flushed) (p.leads_on.stands new.keys.items c.planned));
+      operations = operations;
+      steps = steps ∙ p.counted ∙ ap (λ n. n + 1) s.steps ∙ sym c.counted;
     }
+
+    -- where the operations change as they were to
+    stands_base : after_store fate prepared.operations ≡ prepared.operations → StandsForNode ghosts.kind_of ghosts.IsDataOf kinds logs new base.node
+    stands_base same = stands_with base.node refl refl refl refl refl refl
+        (subst (λ os. StandForOperations os base.node) (sym (c.operated ∙ ap (changed_operations old.operations) same)) p.operates)
+
+    -- where none is opened
+    stands_unopened : (next : NextOperation) → prepared.operations ≡ Opened next → fate ≡ StoreFailed → StandsForNode ghosts.kind_of ghosts.IsDataOf kinds logs new (unopened node base).node
+    stands_unopened next opens fails =
+        let kept : new.operations ≡ old.operations = c.operated ∙ ap (λ f. changed_operations old.operations (after_store f prepared.operations)) fails ∙ ap (λ o. changed_operations old.operations (after_store StoreFailed o)) opens in
+        stands_with (unopened node base).node refl refl refl refl refl refl (subst (λ os. StandForOperations os (unopened node base).node) (sym kept) (record {
+          open_ones = s.operations.open_ones;
+          finished = λ op. p.operates.finished op ∙ ap (λ o. finished_at (changed_operations old.operations o) op) opens ∙ finished-pushed old.operations next.asked op;
+          next = s.operations.next;
+        }))
 
     spelled : AreSpelled ghosts spelling logs c.items (to_store node base.node)
     spelled = c.stores kinds logs node base.node s.keys (p.declared ∙ s.keys) s.entries p.leads_on
@@ -80,52 +130,93 @@ module _ {T K Kind Op Delta : Type 0} {ghosts : Ghosts T Kind Op Delta} {keeping
     room : IsFalse (is_full node)
     room = let steps = s.steps in (let apart : node.steps ≢ 16384 = omega arith in grind arith)
 
-    finish : (st : Stepped Kind Op Shown) → step (replication ghosts spelling) node sent (meant_fate fate) ≡ st → st.node ≡ base.node → FitsFate (replication ghosts spelling) node sent (meant_fate fate)
+    finish : (st : Stepped Kind Op Shown) → step (replication ghosts spelling) node sent (meant_fate fate) ≡ st → to_store node st.node ≡ to_store node base.node → StandsForNode ghosts.kind_of ghosts.IsDataOf kinds logs new st.node
+        → FitsFate (replication ghosts spelling) node sent (meant_fate fate)
         → StandsForOutput kinds logs (after_fate fate prepared.output) st.output → KeepsTable spelling keeping fate (to_store node base.node) old.keeper new.keeper
         → IsImage spelling kinds logs old fate (after_fate fate prepared.output) new node sent
-    finish st is same fits answers table =
-        let there : (step (replication ghosts spelling) node sent (meant_fate fate)).node ≡ base.node = ap (λ st. st.node) is ∙ same in
+    finish st is same stands fits answers table =
+        let there : to_store node (step (replication ghosts spelling) node sent (meant_fate fate)).node ≡ to_store node base.node = ap (λ st. to_store node st.node) is ∙ same in
         record {
           has_room = room;
           fate_fits = fits;
-          stands = subst (StandsForNode ghosts.kind_of ghosts.IsDataOf kinds logs new) (sym there) stands_base;
+          stands = subst (λ (st : Stepped Kind Op Shown). StandsForNode ghosts.kind_of ghosts.IsDataOf kinds logs new st.node) (sym is) stands;
           answers = subst (λ (st : Stepped Kind Op Shown). StandsForOutput kinds logs (after_fate fate prepared.output) st.output) (sym is) answers;
-          table = subst (λ n. KeepsTable spelling keeping fate (to_store node n) old.keeper new.keeper) (sym there) table;
-          kept = subst (λ n. All (λ (k : nodes.KeyState Kind Op). IsKept ghosts spelling k.kind (logs k.name) k.entry) (to_store node n)) (sym there) spelled.kept;
+          table = subst (λ entries. KeepsTable spelling keeping fate entries old.keeper new.keeper) (sym there) table;
+          kept = subst (λ entries. All (λ (k : nodes.KeyState Kind Op). IsKept ghosts spelling k.kind (logs k.name) k.entry) entries) (sym there) spelled.kept;
         }
 
   -- by what became of the store
-  module _ (kinds : Text → Kind) (logs : Text → History Op) (node : nodes.Node Kind Op Shown) (s : StandsForNode ghosts.kind_of ghosts.IsDataOf kinds logs old node) (sent : nodes.Input Op) (of : IsOfProgram sent)
-      (p : IsPrepared {ghosts = ghosts} kinds logs old.keys.items node (step (replication ghosts spelling) node sent nodes.Fate.NoStore) prepared) where
+  module _ (kinds : Text → Kind) (logs : Text → History Op) (node : nodes.Node Kind Op Shown) (s : StandsForNode ghosts.kind_of ghosts.IsDataOf kinds logs old node) (sent : nodes.Input Op)
+      (p : IsPrepared {ghosts = ghosts} kinds logs old.keys.items old.operations node (step (replication ghosts spelling) node sent nodes.Fate.NoStore) prepared) where
+    abbrev before : Stepped Kind Op Shown
+    before = step (replication ghosts spelling) node sent nodes.Fate.NoStore
+
     abbrev to_put : List (nodes.KeyState Kind Op)
-    to_put = to_store node (step (replication ghosts spelling) node sent nodes.Fate.NoStore).node
+    to_put = to_store node before.node
 
     these : c.items ≡ map (spelled_entry spelling) to_put
-    these = (spelled kinds logs node s sent of p).these
+    these = (spelled kinds logs node s sent p).these
 
-    as_stored : step (replication ghosts spelling) node sent nodes.Fate.Stored ≡ step (replication ghosts spelling) node sent nodes.Fate.NoStore
-    as_stored = same_stored (replication ghosts spelling) node sent of
+    as_stored : step (replication ghosts spelling) node sent nodes.Fate.Stored ≡ before
+    as_stored = same_stored (replication ghosts spelling) node sent
 
     some_put : c.items ≢ [] → to_put ≢ []
     some_put some none = some (these ∙ ap (map (spelled_entry spelling)) none)
 
+    -- the output of a failed store, by whether an operation was to be opened
+    failed_answers : (b : Bool) → is_pending prepared.output.reply ≡ b → StandsForOutput kinds logs (failed_output prepared.output) (failed node before).output
+    failed_answers b so = by b (opens_same ∙ so) so
+      where
+        opens_same : opens before.output.reply ≡ is_pending prepared.output.reply
+        opens_same = ap opens (sym p.answers.reply) ∙ opens_meant prepared.output.reply
+
+        by : (b : Bool) → opens before.output.reply ≡ b → is_pending prepared.output.reply ≡ b → StandsForOutput kinds logs (failed_output prepared.output) (failed node before).output
+        by true there here =
+            subst (λ c. StandsForOutput kinds logs (if c then record prepared.output { reply = reply.StoreFailed; posts = [] } else record prepared.output { reply = failed_code prepared.output.reply; posts = map refused_post_code prepared.output.posts }) (failed node before).output) (sym here)
+            (subst (λ c. StandsForOutput kinds logs (record prepared.output { reply = reply.StoreFailed; posts = [] }) (if c then unopened node before else unstored before).output) (sym there) (record { reply = refl; posts = tt; ended = p.answers.ended }))
+        by false there here =
+            subst (λ c. StandsForOutput kinds logs (if c then record prepared.output { reply = reply.StoreFailed; posts = [] } else record prepared.output { reply = failed_code prepared.output.reply; posts = map refused_post_code prepared.output.posts }) (failed node before).output) (sym here)
+            (subst (λ c. StandsForOutput kinds logs (record prepared.output { reply = failed_code prepared.output.reply; posts = map refused_post_code prepared.output.posts }) (if c then unopened node before else unstored before).output) (sym there)
+            (record { reply = failed_meant prepared.output.reply ∙ ap failed_reply p.answers.reply; posts = refused_posts kinds logs prepared.output.posts before.output.posts p.answers.posts; ended = p.answers.ended }))
+
+    -- and the member, by what becomes of the operations
+    failed_stands : (o : OperationChange) → prepared.operations ≡ o → fate ≡ StoreFailed → StandsForNode ghosts.kind_of ghosts.IsDataOf kinds logs new (failed node before).node
+    failed_stands (Opened next) is fails =
+        let yes : opens before.output.reply ≡ true = ap opens (sym p.answers.reply) ∙ opens_meant prepared.output.reply ∙ sound.pending ∙ ap opens_one is in
+        subst (λ b. StandsForNode ghosts.kind_of ghosts.IsDataOf kinds logs new (if b then unopened node before else unstored before).node) (sym yes) (stands_unopened kinds logs node s sent p next is fails)
+    failed_stands Same is fails =
+        let not_so : opens before.output.reply ≡ false = ap opens (sym p.answers.reply) ∙ opens_meant prepared.output.reply ∙ sound.pending ∙ ap opens_one is in
+        subst (λ b. StandsForNode ghosts.kind_of ghosts.IsDataOf kinds logs new (if b then unopened node before else unstored before).node) (sym not_so)
+        (stands_base kinds logs node s sent p (ap (λ f. after_store f prepared.operations) fails ∙ ap (after_store StoreFailed) is ∙ sym is))
+    failed_stands (Put op operation) is fails =
+        let not_so : opens before.output.reply ≡ false = ap opens (sym p.answers.reply) ∙ opens_meant prepared.output.reply ∙ sound.pending ∙ ap opens_one is in
+        subst (λ b. StandsForNode ghosts.kind_of ghosts.IsDataOf kinds logs new (if b then unopened node before else unstored before).node) (sym not_so)
+        (stands_base kinds logs node s sent p (ap (λ f. after_store f prepared.operations) fails ∙ ap (after_store StoreFailed) is ∙ sym is))
+
+    failed_store : (b : Bool) → to_store node (if b then unopened node before else unstored before).node ≡ to_store node before.node
+    failed_store true = refl
+    failed_store false = refl
+
     by_fate : (f : Fate) → fate ≡ f → IsKeptBy keeping c.items f old.keeper new.keeper → IsImage spelling kinds logs old fate (after_fate fate prepared.output) new node sent
     by_fate NoStore is kept =
         let none : to_put ≡ [] = map_none (spelled_entry spelling) to_put (sym these ∙ kept.0) in
-        finish kinds logs node s sent of p (step (replication ghosts spelling) node sent nodes.Fate.NoStore) (ap (λ f. step (replication ghosts spelling) node sent (meant_fate f)) is) refl
+        finish kinds logs node s sent p before (ap (λ f. step (replication ghosts spelling) node sent (meant_fate f)) is) refl
+        (stands_base kinds logs node s sent p (ap (λ f. after_store f prepared.operations) is ∙ stored_same prepared.operations))
         (subst (λ f. FitsFate (replication ghosts spelling) node sent (meant_fate f)) (sym is) (ap (λ st. to_store node st.node) as_stored ∙ none))
-        (subst (λ f. StandsForOutput kinds logs (after_fate f prepared.output) (step (replication ghosts spelling) node sent nodes.Fate.NoStore).output) (sym is) p.answers)
+        (subst (λ f. StandsForOutput kinds logs (after_fate f prepared.output) before.output) (sym is) p.answers)
         (subst (λ f. KeepsTable spelling keeping f to_put old.keeper new.keeper) (sym is) (subst (λ k. Becomes (keeping.table old.keeper) (keeping.table k) (λ table. table)) (sym kept.1) (becomes_same (keeping.table old.keeper))))
     by_fate Stored is kept =
-        finish kinds logs node s sent of p (step (replication ghosts spelling) node sent nodes.Fate.NoStore) (ap (λ f. step (replication ghosts spelling) node sent (meant_fate f)) is ∙ as_stored) refl
+        finish kinds logs node s sent p before (ap (λ f. step (replication ghosts spelling) node sent (meant_fate f)) is ∙ as_stored) refl
+        (stands_base kinds logs node s sent p (ap (λ f. after_store f prepared.operations) is ∙ kept_same prepared.operations))
         (subst (λ f. FitsFate (replication ghosts spelling) node sent (meant_fate f)) (sym is) (λ none. some_put kept.0 (sym (ap (λ st. to_store node st.node) as_stored) ∙ none)))
-        (subst (λ f. StandsForOutput kinds logs (after_fate f prepared.output) (step (replication ghosts spelling) node sent nodes.Fate.NoStore).output) (sym is) p.answers)
+        (subst (λ f. StandsForOutput kinds logs (after_fate f prepared.output) before.output) (sym is) p.answers)
         (subst (λ f. KeepsTable spelling keeping f to_put old.keeper new.keeper) (sym is) (subst (λ items. Becomes (keeping.table old.keeper) (keeping.table new.keeper) (λ table. put_all table items)) these kept.2))
     by_fate StoreFailed is kept =
-        finish kinds logs node s sent of p (failed (step (replication ghosts spelling) node sent nodes.Fate.NoStore))
-        (ap (λ f. step (replication ghosts spelling) node sent (meant_fate f)) is ∙ same_failed (replication ghosts spelling) node sent of (some_put kept.0)) refl
+        finish kinds logs node s sent p (failed node before)
+        (ap (λ f. step (replication ghosts spelling) node sent (meant_fate f)) is ∙ same_failed (replication ghosts spelling) node sent (some_put kept.0)) (failed_store (opens before.output.reply))
+        (failed_stands prepared.operations refl is)
         (subst (λ f. FitsFate (replication ghosts spelling) node sent (meant_fate f)) (sym is) (λ none. some_put kept.0 (sym (ap (λ st. to_store node st.node) as_stored) ∙ none)))
-        (subst (λ f. StandsForOutput kinds logs (after_fate f prepared.output) (failed (step (replication ghosts spelling) node sent nodes.Fate.NoStore)).output) (sym is) (record { reply = failed_meant prepared.output.reply ∙ ap failed_reply p.answers.reply; posts = p.answers.posts; ended = p.answers.ended }))
+        (subst (λ f. StandsForOutput kinds logs (after_fate f prepared.output) (failed node before).output) (sym is) (failed_answers (is_pending prepared.output.reply) refl))
         (subst (λ f. KeepsTable spelling keeping f to_put old.keeper new.keeper) (sym is) kept.2)
 
   called_by : (f : Fate) → IsKeptBy keeping c.items f old.keeper new.keeper → IsCalled keeping f old.keeper new.keeper
@@ -137,12 +228,11 @@ module _ {T K Kind Op Delta : Type 0} {ghosts : Ghosts T Kind Op Delta} {keeping
   pub makes_step : (input : Input T Kind Op Delta ghosts) → Prepares spelling old input prepared → IsStepOf spelling old input fate (after_fate fate prepared.output) new
   makes_step input prepares = record {
     image = λ kinds logs node sent s i safe.
-        let of = of_program kinds logs old.keys.items input sent i in
-        let before = subst (IsSafe logs) (node_same (replication ghosts spelling) node sent of (meant_fate fate)) safe in
-        by_fate kinds logs node s sent of (prepares kinds logs node sent s i before) fate refl c.kept;
+        let safe_before = safe_with logs (entries_same (replication ghosts spelling) node sent (meant_fate fate)) safe in
+        by_fate kinds logs node s sent (prepares kinds logs node sent s i safe_before) fate refl c.kept;
     called = called_by fate c.kept;
     had_room = few;
     counted = c.counted;
     identity = c.identity;
-    keys = sound.declared new.keys.items c.planned;
+    keys = sound.plan.declared new.keys.items c.planned;
   }

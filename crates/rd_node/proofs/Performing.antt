@@ -1,12 +1,9 @@
 -- A tick of one identity in the program, and in the model.
-use Rattle.std.proofs.Common.{◌≡◌, ◌≢◌, ℕ, ◌+◌, ◌<◌, ◌≤◌, List, Bool, true, false, nat_lt, Option, Some, None, refl, sym, ap, ◌∙◌, subst, arith, rules, inl, inr}
+use Rattle.std.proofs.Common.{◌≡◌, ℕ, ◌≤◌, List, Bool, true, false, nat_lt, Option, Some, None, refl, sym, ap, ◌∙◌, subst, arith, inl, inr}
 use Rattle.std.specs.Prelude.{if◌then◌else◌, ◌==◌, Result, Ok}
 use Rattle.std.proofs.lemmas.Bool.{cases_eq, cases_lt, eq-eqb, lt-ltb}
-use Rattle.rd_history.specs.Table.{with_at}
 use Rattle.rd_history.specs.Vector.{VersionVector, IdentitySet}
-use Rattle.rd_history.specs.History.{History, IsPartOf}
-use Rattle.rd_history.proofs.CutLaws.{with_at_is}
-use Rattle.rd_history.proofs.HistoryLaws.{with_at_other}
+use Rattle.rd_history.specs.History.{History}
 use Rattle.rd_meanings.specs.Refusal.{Shares}
 use Rattle.rd_model.specs.Entry as model
 use Rattle.rd_model.specs.Entry.{Mark, Tick, Outcome as Told, unseen, with_prune}
@@ -16,17 +13,15 @@ use Rattle.rd_vectors.specs.Vectors.{number_at}
 use Rattle.rd_vectors.specs.IdSets.{members_in}
 use Rattle.rd_markers.specs.declared.marker.Marker.{Marker}
 use Rattle.rd_markers.specs.declared.marker.Marker.TheVariants.{Initialized, Performed}
-use Rattle.rd_markers.specs.Marks.{mark_of, begun, is_performed, is_begun_at, performed_in}
+use Rattle.rd_markers.specs.Marks.{mark_of, begun}
 use Rattle.rd_envelope.specs.declared.envelope.Envelope.{Envelope}
 use Rattle.rd_envelope.specs.Images.{Parts, StandsFor}
-use Rattle.rd_envelope.specs.Words.{parts_of}
-use Rattle.rd_envelope.specs.Pruning.{init_as, init_of, IsPruned}
+use Rattle.rd_envelope.specs.Pruning.{init_as, init_of}
 use Rattle.rd_envelope.specs.declared.outcomes.Init.TheVariants as initial
 use Rattle.rd_envelope.specs.declared.outcomes.Perform.{Perform}
 use Rattle.rd_envelope.specs.declared.outcomes.Perform.TheVariants as perform
 use Rattle.rd_node.specs.declared.outcome.Outcome.{Outcome}
-use Rattle.rd_node.specs.declared.outcome.Outcome.TheVariants as outcome
-use Rattle.rd_node.specs.Ticking.{prunes_in, TicksOwn, IsTicked, IsTickOf}
+use Rattle.rd_node.specs.Ticking.{IsTicked, IsTickOf}
 use Rattle.rd_node.proofs.Ticks.{ticked_standing}
 
 -- A MARK THAT STANDS

@@ -1,35 +1,67 @@
 -- An update that becomes a record.
-use Rattle.std.proofs.Common.{◌≡◌, ◌≢◌, ℕ, ◌<◌, [], length, get_or, sym, ap, ◌∙◌, subst, None}
-use Rattle.std.specs.Prelude.{unwrap_or}
+use Rattle.std.proofs.Common.{◌≡◌, ◌≢◌, ℕ, ◌+◌, ◌<◌, length, get_or, Bool, false, refl, sym, ap, ◌∙◌, subst, None}
+use Rattle.std.specs.Prelude.{unwrap_or, if◌then◌else◌}
 use Rattle.std.specs.Str.{bytes_eq}
 use Rattle.std.proofs.lemmas.List.{get_or_default}
 use Rattle.rd_history.specs.Texts.{Text}
 use Rattle.rd_history.specs.History.{History}
-use Rattle.rd_model.specs.DataType.{Replication}
+use Rattle.rd_model.specs.Entry.{Entry}
+use Rattle.rd_model.specs.Message.{Message as Sent}
 use Rattle.rd_model.specs.Node as nodes
-use Rattle.rd_model.specs.Node.{Level}
-use Rattle.rd_model.specs.Step.{step}
-use Rattle.rd_model.proofs.Steps.{step-update-quiet}
-use Rattle.rd_model.proofs.Changes.{ChangesOnly, step-update-only}
+use Rattle.rd_model.specs.Node.{with_entry, one_step_later}
+use Rattle.rd_model.specs.Step.{opened}
 use Rattle.rd_kinds.specs.declared.shown.Shown.{Shown}
 use Rattle.rd_lattice.specs.declared.replica.Replica.{Ghosts}
 use Rattle.rd_keeper.specs.declared.keeper.Keeper.{Ghosts as Keeping}
 use Rattle.rd_envelope.specs.declared.envelope.Envelope.{Envelope}
+use Rattle.rd_envelope.specs.Images.{StandsFor}
+use Rattle.rd_envelope.specs.Words.{parts_of}
 use Rattle.rd_deltalog.specs.declared.delta_log.NextRecord.{NextRecord}
+use Rattle.rd_deltalog.specs.Images.{StandsForLog}
 use Rattle.rd_node.specs.declared.key.KeyState.{KeyState}
-use Rattle.rd_node.specs.declared.key.Updated.TheVariants.{Recorded}
 use Rattle.rd_node.specs.declared.node.Node.{Node}
 use Rattle.rd_node.specs.declared.plan.Plan.TheVariants.{At}
 use Rattle.rd_node.specs.declared.plan.Prepared.{Prepared}
-use Rattle.rd_node.specs.declared.reply.Output.{Output}
-use Rattle.rd_node.specs.declared.reply.Reply.TheVariants as reply
 use Rattle.rd_node.specs.Members.{StandsForKey, StandsForNode}
-use Rattle.rd_node.specs.Replies.{meant}
+use Rattle.rd_node.specs.Operations.{changed_operations, StandForOperations}
+use Rattle.rd_node.specs.Steps.{StandsForOutput}
 use Rattle.rd_node.specs.Planning.{recorded, CanRecord, IsSoundPlan, IsRecordable, IsPrepared, LeadsOn}
-use Rattle.rd_node.specs.Updates.{IsOwnRecord, IsUpdate}
+use Rattle.rd_node.specs.Updates.{IsOwnRecord}
 use Rattle.rd_node.proofs.Working.{other_name}
 use Rattle.rd_node.proofs.Planned.{sound_at, leads_at}
-use Rattle.rd_node.proofs.PreparedSteps.{owned, quiet_output}
+use Rattle.rd_node.proofs.PreparedSteps.{owned}
+
+-- a counted step that changes at most one key's entry, and it may be the operations
+pub record MovesOne {Kind Op : Type 0} (node : nodes.Node Kind Op Shown) (key : Text) (next : nodes.Node Kind Op Shown) : Type 0 where
+  pub identity : next.identity ≡ node.identity
+  pub declared : next.keys ≡ node.keys
+  pub counted : next.steps ≡ node.steps + 1
+  pub viewed : next.view ≡ node.view
+  pub flushed : next.flushed ≡ node.flushed
+  pub others : (name : Text) → bytes_eq name key ≡ false → next.entries name ≡ node.entries name
+
+module _ {Kind Op : Type 0} (node : nodes.Node Kind Op Shown) (key : Text) (entry : Entry Op) where
+  -- an entry is another
+  pub moves_entry : MovesOne node key (with_entry (one_step_later node) key entry)
+  moves_entry = record {
+    identity = refl;
+    declared = refl;
+    counted = refl;
+    viewed = refl;
+    flushed = refl;
+    others = λ name other. ap (λ b. if b then entry else node.entries name) other;
+  }
+
+  -- and an operation is opened
+  pub moves_opened : (reads : Bool) (n : ℕ) (message : Sent Op) → MovesOne node key (opened (with_entry (one_step_later node) key entry) key reads n message).node
+  moves_opened reads n message = record {
+    identity = refl;
+    declared = refl;
+    counted = refl;
+    viewed = refl;
+    flushed = refl;
+    others = λ name other. ap (λ b. if b then entry else node.entries name) other;
+  }
 
 module _ {T K Kind Op Delta : Type 0} {ghosts : Ghosts T Kind Op Delta} {keeping : Keeping K} (code : Node T K Kind Op Delta ghosts keeping) (index : ℕ) (at : KeyState T Kind Op Delta) (entry : Envelope T Kind Op Delta) (next : NextRecord Delta)
     (within : index < length code.keys.items) (is : at ≡ get_or code.keys.items index at) (own : IsOwnRecord ghosts code.id at entry next) where
@@ -42,45 +74,36 @@ module _ {T K Kind Op Delta : Type 0} {ghosts : Ghosts T Kind Op Delta} {keeping
   pub sound_recorded : IsSoundPlan ghosts code.id code.steps code.keys.items (At index entry next)
   sound_recorded = sound_at ghosts code.id code.steps code.keys.items (owned code) index at entry next can is own.number own.marks own.kind
 
-  module _ (kinds : Text → Kind) (logs : Text → History Op) (node : nodes.Node Kind Op Shown) (s : StandsForNode ghosts.kind_of ghosts.IsDataOf kinds logs code node) (D : Replication Kind Op Shown) (op : Op) where
-    abbrev stepped : nodes.Stepped Kind Op Shown
-    stepped = step D node (nodes.Input.Update at.name op Level.Local) nodes.Fate.NoStore
-
-    only : ChangesOnly node at.name stepped.node
-    only = step-update-only D node at.name nodes.Fate.NoStore op
-
-    same_flushed : stepped.node.flushed ≡ node.flushed
-    same_flushed = ap (λ n. n.flushed) only.only
-
+  -- a step of the model that makes this of the key
+  module _ (kinds : Text → Kind) (logs : Text → History Op) (node : nodes.Node Kind Op Shown) (s : StandsForNode ghosts.kind_of ghosts.IsDataOf kinds logs code node) (stepped : nodes.Stepped Kind Op Shown) (moves : MovesOne node at.name stepped.node)
+      (image : StandsFor ghosts.IsDataOf (parts_of entry) (logs at.name) (stepped.node.entries at.name)) (logged : StandsForLog ghosts.IsDeltaOf (recorded at entry next).log (logs at.name) (stepped.node.entries at.name)) where
     others : (k : ℕ) (d : KeyState T Kind Op Delta) → k < length code.keys.items → k ≢ index
         → (stepped.node.entries (get_or code.keys.items k d).name ≡ node.entries (get_or code.keys.items k d).name) × (stepped.node.flushed (get_or code.keys.items k d).name ≡ node.flushed (get_or code.keys.items k d).name)
     others k d inside apart =
         let here : (get_or code.keys.items index at).name ≡ at.name = ap (λ (state : KeyState T Kind Op Delta). state.name) (sym is) in (
-          only.others (get_or code.keys.items k d).name (ap (bytes_eq (get_or code.keys.items k d).name) (sym here) ∙ other_name code.keys.items s.distinct k index d at inside within apart),
-          ap (λ (f : Text → _). f (get_or code.keys.items k d).name) same_flushed,
+          moves.others (get_or code.keys.items k d).name (ap (bytes_eq (get_or code.keys.items k d).name) (sym here) ∙ other_name code.keys.items s.distinct k index d at inside within apart),
+          ap (λ (f : Text → _). f (get_or code.keys.items k d).name) moves.flushed,
         )
 
-    module _ (u : IsUpdate ghosts at (logs at.name) node stepped (Recorded entry next)) where
-      new : StandsForKey ghosts.kind_of ghosts.IsDataOf ghosts.IsDeltaOf kinds logs (recorded at entry next) (stepped.node.entries at.name) (stepped.node.flushed at.name)
-      new =
-          let held = subst (λ (state : KeyState T Kind Op Delta). StandsForKey ghosts.kind_of ghosts.IsDataOf ghosts.IsDeltaOf kinds logs state (node.entries state.name) (node.flushed state.name)) (sym is) (s.entries index at within) in
-          record {
-            kind = held.kind;
-            held = record { kind = own.kind ∙ held.held.kind; image = u.0 };
-            logged = u.1;
-            sent = λ i. held.sent i ∙ ap (λ f. f at.name i) (sym same_flushed);
-          }
+    new : StandsForKey ghosts.kind_of ghosts.IsDataOf ghosts.IsDeltaOf kinds logs (recorded at entry next) (stepped.node.entries at.name) (stepped.node.flushed at.name)
+    new =
+        let held = subst (λ (state : KeyState T Kind Op Delta). StandsForKey ghosts.kind_of ghosts.IsDataOf ghosts.IsDeltaOf kinds logs state (node.entries state.name) (node.flushed state.name)) (sym is) (s.entries index at within) in
+        record {
+          kind = held.kind;
+          held = record { kind = own.kind ∙ held.held.kind; image = image };
+          logged = logged;
+          sent = λ i. held.sent i ∙ ap (λ f. f at.name i) (sym moves.flushed);
+        }
 
-      pub prepared_recorded : (prepared : Prepared T Kind Op Delta ghosts) → prepared.view ≡ None → prepared.plan ≡ At index entry next → prepared.output ≡ record { reply = reply.Done; posts = [] }
-          → IsPrepared {ghosts = ghosts} kinds logs code.keys.items node stepped prepared
-      prepared_recorded prepared none plan output = record {
-        identity = ap (λ n. n.identity) only.only;
-        declared = ap (λ n. n.keys) only.only;
-        counted = ap (λ n. n.steps) only.only;
-        viewed = ap (λ n. n.view) only.only ∙ sym (ap (λ o. unwrap_or o node.view) none);
-        leads_on = subst (LeadsOn ghosts kinds logs code.keys.items node stepped.node) (sym plan)
-            (leads_at ghosts code.id code.steps code.keys.items (owned code) index at entry next can is own.number own.marks own.kind kinds logs node stepped.node others s.entries new);
-        answers =
-            let quiet = step-update-quiet D node at.name nodes.Fate.NoStore op in
-            quiet_output kinds logs prepared.output stepped.output (ap (λ (o : Output T Kind Op Delta ghosts). o.posts) output) (ap (λ (o : Output T Kind Op Delta ghosts). meant o.reply) output ∙ u.2) quiet.posts quiet.ended;
-      }
+    pub prepared_record : (prepared : Prepared T Kind Op Delta ghosts) → prepared.view ≡ None → prepared.plan ≡ At index entry next → StandForOperations (changed_operations code.operations prepared.operations) stepped.node
+        → StandsForOutput kinds logs prepared.output stepped.output → IsPrepared {ghosts = ghosts} kinds logs code.keys.items code.operations node stepped prepared
+    prepared_record prepared none plan operates answers = record {
+      identity = moves.identity;
+      declared = moves.declared;
+      counted = moves.counted;
+      viewed = moves.viewed ∙ sym (ap (λ o. unwrap_or o node.view) none);
+      leads_on = subst (LeadsOn ghosts kinds logs code.keys.items node stepped.node) (sym plan)
+          (leads_at ghosts code.id code.steps code.keys.items (owned code) index at entry next can is own.number own.marks own.kind kinds logs node stepped.node others s.entries new);
+      operates = operates;
+      answers = answers;
+    }

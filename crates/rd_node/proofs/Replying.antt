@@ -1,7 +1,8 @@
 -- What a member answers to a message: its reply and its posts.
-use Rattle.std.proofs.Common.{◌≡◌, ℕ, ◌≤◌, List, [], ◌∷◌, ◌++◌, length, refl, sym, ap, ◌∙◌, subst, arith, Bool, true, false, not, None}
-use Rattle.std.specs.Prelude.{map, filter, if◌then◌else◌, ◌&&◌}
+use Rattle.std.proofs.Common.{◌≡◌, ℕ, ◌≤◌, List, [], ◌∷◌, ◌++◌, length, refl, sym, ap, ◌∙◌, subst, arith, Bool, true, false, not, Some, None, inl, inr}
+use Rattle.std.specs.Prelude.{map, filter, if◌then◌else◌, ◌&&◌, ◌==◌}
 use Rattle.std.specs.List.{AllZip, list_any}
+use Rattle.std.proofs.lemmas.Bool.Decides.{eqb_tells}
 use Rattle.std.proofs.lemmas.List.{append-nil}
 use Rattle.rd_history.specs.Texts.{Text, contains_text}
 use Rattle.rd_history.specs.Vector.{VersionVector, IdentitySet}
@@ -20,11 +21,15 @@ use Rattle.rd_lattice.specs.declared.replica.Replica.{Ghosts}
 use Rattle.rd_envelope.specs.declared.envelope.Envelope.{Envelope}
 use Rattle.rd_messages.specs.declared.message.Keyed.{Keyed}
 use Rattle.rd_messages.specs.declared.message.Message.{Message}
-use Rattle.rd_messages.specs.declared.message.Message.TheVariants.{Deltas, Nack, Status, Gossip}
+use Rattle.rd_messages.specs.declared.message.Message.TheVariants.{Deltas, Nack, Status, Gossip, Write, WriteAck, WriteNack, Read, ReadAnswer}
 use Rattle.rd_messages.specs.Sketches.{groups_of, entries_of, names_of}
-use Rattle.rd_messages.specs.Standing.{StandsForKeyed, StandsForPost, StandsForPosts}
-use Rattle.rd_node.specs.Answers.{reply_to, is_status, only_asks, nack_of, gossip_of, answers_of}
+use Rattle.rd_messages.specs.Standing.{StandsForEntry, StandsForKeyed, StandsForMessage, StandsForPost, StandsForPosts}
+use Rattle.rd_node.specs.Answers.{reply_to, is_status, is_exchange, only_asks, nack_of, gossip_of, answers_of}
 use Rattle.rd_node.specs.declared.key.KeyState.{KeyState}
+use Rattle.rd_node.specs.declared.reply.Reply.{Reply}
+use Rattle.rd_node.specs.declared.reply.Reply.TheVariants as reply
+use Rattle.rd_node.specs.Replies.{meant}
+use Rattle.rd_node.specs.Outputs.{is_pending}
 use Rattle.rd_node.specs.Keys.{declared_by}
 use Rattle.rd_node.specs.Inputs.{StandsForTaken, TellsGroups, TellsEntries}
 use Rattle.rd_node.specs.Inputs.Tells.{nothing}
@@ -71,8 +76,8 @@ module _ {Kind Op : Type 0} (D : Replication Kind Op Shown) where
     pub takes : Takes node from sent_groups sent_entries (names_of message) (only_asks message) (step_of_take D node from Fate.NoStore sent)
 
   pub brings : {T Delta : Type 0} {ghosts : Ghosts T Kind Op Delta} (kinds : Text → Kind) (logs : Text → History Op) (keys : List (KeyState T Kind Op Delta)) (node : nodes.Node Kind Op Shown) (from : ℕ)
-      (message : Message T Kind Op Delta ghosts) (sent : Sent Op) → StandsForTaken kinds logs keys message sent → is_status message ≡ false → Brings kinds logs keys node from message sent
-  brings kinds logs keys node from (Deltas groups entries) sent s other =
+      (message : Message T Kind Op Delta ghosts) (sent : Sent Op) → StandsForTaken kinds logs keys message sent → is_status message ≡ false → is_exchange message ≡ true → Brings kinds logs keys node from message sent
+  brings kinds logs keys node from (Deltas groups entries) sent s other exchange =
       let gs = s.told_groups in
       let es = s.told_entries in
       let after = after_groups node gs in
@@ -88,21 +93,26 @@ module _ {Kind Op : Type 0} (D : Replication Kind Op Shown) where
           posts = sym (ap (λ named. nack_to D from after.gaps ++ gossip_to D from named []) (none_named (after_entries after.node es)) ∙ append-nil (nack_to D from after.gaps));
         });
       }
-  brings kinds logs keys node from (Nack names) sent s other = record {
+  brings kinds logs keys node from (Nack names) sent s other exchange = record {
     sent_groups = [];
     sent_entries = [];
     groups_stand = nothing;
     entries_stand = nothing;
     takes = subst (λ m. Takes node from [] [] names true (step_of_take D node from Fate.NoStore m)) (sym s) (record { next = refl; reply = refl; posts = refl; ends = refl });
   }
-  brings kinds logs keys node from (Status digests) sent s other = absurd (cc other)
-  brings kinds logs keys node from (Gossip entries wants) sent s other = record {
+  brings kinds logs keys node from (Status digests) sent s other exchange = absurd (cc other)
+  brings kinds logs keys node from (Gossip entries wants) sent s other exchange = record {
     sent_groups = [];
     sent_entries = s.told_entries;
     groups_stand = nothing;
     entries_stand = s.entries_stand;
     takes = subst (λ m. Takes node from [] s.told_entries wants false (step_of_take D node from Fate.NoStore m)) (sym s.is) (record { next = refl; reply = refl; posts = refl; ends = refl });
   }
+  brings kinds logs keys node from (Write op key envelope) sent s other exchange = absurd (cc exchange)
+  brings kinds logs keys node from (WriteAck op) sent s other exchange = absurd (cc exchange)
+  brings kinds logs keys node from (WriteNack op) sent s other exchange = absurd (cc exchange)
+  brings kinds logs keys node from (Read op key) sent s other exchange = absurd (cc exchange)
+  brings kinds logs keys node from (ReadAnswer op key envelope) sent s other exchange = absurd (cc exchange)
 
   -- THE REPLY
 
@@ -114,6 +124,11 @@ module _ {Kind Op : Type 0} (D : Replication Kind Op Shown) where
       go [] true b = refl
       go [] false true = refl
       go [] false false = refl
+
+  -- a message with entries alone, in which nothing lacks
+  pub took_reply : (told : Reply) (changed : Bool) (before after : nodes.Node Kind Op Shown) → meant told ≡ (if changed then Meant.Taken else Meant.Already) → changed ≡ is_changed before after
+      → meant told ≡ take_reply D Fate.NoStore [] (not (is_changed before after))
+  took_reply told changed before after is same = is ∙ ap (reply_to false []) same ∙ replies false (is_changed before after) [] [] refl
 
   -- THE POSTS
 
@@ -134,6 +149,36 @@ module _ {Kind Op : Type 0} (D : Replication Kind Op Shown) where
     answers_stand gaps told entries sent is stand =
         zip_both (StandsForPost {ghosts = ghosts} kind_of IsDataOf kinds logs) (nack_of from gaps) (gossip_of from entries) (nack_to D from told) (gossip_to D from sent [])
         (subst (λ gs. StandsForPosts {ghosts = ghosts} kind_of IsDataOf kinds logs (nack_of from gs) (nack_to D from told)) (sym is) (nacks told)) (gossips entries sent stand)
+
+-- an answer to a read: the entry, where it has records
+pub read_stands : {T Kind Op Delta : Type 0} (ghosts : Ghosts T Kind Op Delta) (kinds : Text → Kind) (logs : Text → History Op) (op : ℕ) (key : Text) (b : Bool) (envelope : Envelope T Kind Op Delta) (entry : model.Entry Op)
+    → StandsForEntry ghosts.kind_of ghosts.IsDataOf kinds logs key envelope entry
+    → StandsForMessage {ghosts = ghosts} ghosts.kind_of ghosts.IsDataOf kinds logs (ReadAnswer op key (if b then Some envelope else None)) (Sent.ReadAnswer op key (if b then Some entry else None))
+read_stands ghosts kinds logs op key true envelope entry s = record { entry = entry; is = refl; held = s }
+read_stands ghosts kinds logs op key false envelope entry s = refl
+
+-- a reply to a message opens no operation
+pub not_opened : (told : Reply) (asks changed : Bool) (gaps : List (Keyed ℕ)) → meant told ≡ reply_to asks gaps changed → is_pending told ≡ false
+not_opened (reply.Pending op) asks changed (gap ∷ gaps) is = absurd (cc is)
+not_opened (reply.Pending op) true changed [] is = absurd (cc is)
+not_opened (reply.Pending op) false true [] is = absurd (cc is)
+not_opened (reply.Pending op) false false [] is = absurd (cc is)
+not_opened told asks changed gaps is = refl
+
+-- THE POSTS OF THE PROGRAM
+
+pub empty_is : {X : Type 0} (xs : List X) → (length xs == 0) ≡ true → xs ≡ []
+empty_is [] e = refl
+empty_is (x ∷ xs) e = absurd (let never : ⊥ = elim (eqb_tells (length (x ∷ xs)) 0) [ inl t ↦ omega (arith, t.1) | inr f ↦ cc (e, f.0) ] in never)
+
+module _ {T Kind Op Delta : Type 0} (ghosts : Ghosts T Kind Op Delta) (from : ℕ) where
+  pub nack_so : (gaps : List (Keyed ℕ)) → (length gaps == 0) ≡ false → record { to = from; message = Nack (map (λ (g : Keyed ℕ). g.key) gaps) } ∷ [] ≡ nack_of {ghosts = ghosts} from gaps
+  nack_so [] e = absurd (cc e)
+  nack_so (gap ∷ gaps) e = refl
+
+  pub gossip_so : (entries : List (Keyed (Envelope T Kind Op Delta))) → (length entries == 0) ≡ false → record { to = from; message = Gossip entries [] } ∷ [] ≡ gossip_of {ghosts = ghosts} from entries
+  gossip_so [] e = absurd (cc e)
+  gossip_so (keyed ∷ entries) e = refl
 
 -- WHETHER SOMETHING CHANGED
 

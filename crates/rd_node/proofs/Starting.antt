@@ -1,5 +1,5 @@
 -- A member before its first step.
-use Rattle.std.proofs.Common.{◌≡◌, ℕ, List, get_or, refl, sym, ap, ◌∙◌, subst, arith, Bool, true, false, Option, Some, None}
+use Rattle.std.proofs.Common.{◌≡◌, ℕ, List, [], get_or, refl, sym, ap, ◌∙◌, subst, arith, Bool, true, false, Option, Some, None}
 use Rattle.std.specs.Prelude.{if◌then◌else◌, unwrap_or, map, find, option_map, All}
 use Rattle.std.specs.Str.{bytes_eq}
 use Rattle.std.specs.FinMap.{get-empty}
@@ -13,7 +13,7 @@ use Rattle.rd_history.specs.History.{History, IsHistory}
 use Rattle.rd_model.specs.View.{View}
 use Rattle.rd_model.specs.Entry.{Entry, empty_entry, seen_by}
 use Rattle.rd_model.specs.Node as nodes
-use Rattle.rd_model.specs.World.{loaded_entry, loaded_node, no_entries}
+use Rattle.rd_model.specs.World.{Store, loaded_entry, loaded_node, no_entries}
 use Rattle.rd_vectors.specs.Vectors.{Numbers, number_at}
 use Rattle.rd_vectors.proofs.Laws.{number_at-empty}
 use Rattle.rd_markers.specs.Marks.{Marks, is_performed, performed_in}
@@ -27,10 +27,12 @@ use Rattle.rd_deltalog.specs.Images.{StandsForLog}
 use Rattle.rd_node.specs.declared.node.Node.{Node}
 use Rattle.rd_node.specs.declared.key.KeyDecl.{KeyDecl}
 use Rattle.rd_node.specs.declared.key.KeyState.{KeyState}
+use Rattle.rd_node.specs.declared.operation.Operation.{Operation}
 use Rattle.rd_node.specs.Own.{HasFewOwn, IsUnpruned, AreLogged, AreOfTheirKinds}
 use Rattle.rd_node.specs.Fresh.{IsFresh}
 use Rattle.rd_node.specs.Keys.{AreDistinct, AreOfKinds, declared, declared_by}
 use Rattle.rd_node.specs.Members.{StandsForNode}
+use Rattle.rd_node.specs.Operations.{StandForOperations}
 use Rattle.rd_node.proofs.Standing.{find-map}
 
 module _ {T Kind Op Delta : Type 0} (kind_of : T → Kind) (IsDataOf : T → History Op → VersionVector → IdentitySet → Type 0) (IsDeltaOf : Delta → History Op → ℕ → ℕ → ℕ → Type 0) (id : ℕ) (states : List (KeyState T Kind Op Delta)) (fresh : All (IsFresh kind_of IsDataOf IsDeltaOf id) states) where
@@ -70,14 +72,19 @@ nothing_loaded {T} {Kind} {Op} {Delta} id view decls name =
         by true = refl
         by false = refl
 
+-- no operation was opened
+pub operates_first : {Kind Op : Type 0} (operations : List Operation) (id : ℕ) (view : View) (keys : List (nodes.KeyDecl Kind)) (store : Store Op) → operations ≡ [] → StandForOperations operations (loaded_node {Shown = Shown} keys id view store)
+operates_first operations id view keys store none =
+    subst (λ os. StandForOperations os (loaded_node {Shown = Shown} keys id view store)) (sym none) (record { open_ones = refl; finished = λ op. refl; next = refl })
+
 module _ {T K Kind Op Delta : Type 0} {ghosts : Ghosts T Kind Op Delta} {keeping : Keeping K} (kind_of : T → Kind) (IsDataOf : T → History Op → VersionVector → IdentitySet → Type 0) (kinds : Text → Kind) (logs : Text → History Op) where
   -- its keys are those that are declared, and fresh
   pub stands_first : (code : Node T K Kind Op Delta ghosts keeping) (decls : List (KeyDecl T Kind Op Delta)) (view : View)
       → map declared_by code.keys.items ≡ map declared decls → All (IsFresh kind_of IsDataOf ghosts.IsDeltaOf code.id) code.keys.items → AreDistinct (map (λ (decl : KeyDecl T Kind Op Delta). decl.key) decls)
       → ((key : Text) → IsHistory (logs key)) → AreOfKinds kinds decls
-      → view ≡ code.view → code.steps ≡ 0
+      → view ≡ code.view → code.operations ≡ [] → code.steps ≡ 0
       → StandsForNode kind_of IsDataOf kinds logs code (loaded_node (map declared decls) code.id view no_entries)
-  stands_first code decls view same fresh distinct histories of_kinds viewed steps =
+  stands_first code decls view same fresh distinct histories of_kinds viewed operations steps =
       let keys = code.keys.items in
       let names : map (λ (state : KeyState T Kind Op Delta). state.name) keys ≡ map (λ (decl : KeyDecl T Kind Op Delta). decl.key) decls =
       sym (map-map (λ (decl : nodes.KeyDecl Kind). decl.name) declared_by keys) ∙ ap (map (λ (decl : nodes.KeyDecl Kind). decl.name)) same ∙ map-map (λ (decl : nodes.KeyDecl Kind). decl.name) declared decls in
@@ -99,5 +106,6 @@ module _ {T K Kind Op Delta : Type 0} {ghosts : Ghosts T Kind Op Delta} {keeping
               logged = subst (λ (entry : Entry Op). StandsForLog ghosts.IsDeltaOf state.log (logs state.name) entry) (sym (nothing_loaded code.id view decls state.name)) (f.logged (logs state.name) (histories state.name));
               sent = λ i. ap (λ (m : Numbers). number_at m i) f.sent ∙ number_at-empty i;
             };
+        operations = operates_first code.operations code.id view (map declared decls) no_entries operations;
         steps = sym steps;
       }

@@ -32,11 +32,11 @@ use Rattle.rd_node.specs.Own.{AreOfTheirKinds}
 use Rattle.rd_node.specs.Inputs.{IsEntryPassedOver, IsGroupPassedOver}
 use Rattle.rd_node.specs.Keys.{declared_by}
 use Rattle.rd_node.specs.Changes.{AreMade}
-use Rattle.rd_node.specs.Taking.{current_of, put_at, IsKept, StandsAfter, LeadsTo, AreHeld, AreExactAt, IsAtWork, judged_for, entry_after, lacking_in, gap_told, gaps_at}
+use Rattle.rd_node.specs.Taking.{current_of, put_at, IsKept, StandsAfter, LeadsTo, AreHeld, AreHeldBy, AreExactAt, IsAtWork, judged_for, entry_after, lacking_in, gap_told, gaps_at}
 use Rattle.rd_node.proofs.Lookup.{IsFound}
 use Rattle.rd_node.proofs.GroupSteps.{Judges, take_group-judges, take_group-undeclared}
 use Rattle.rd_node.proofs.Growing.{exact_part, taken_one, grows, has_still}
-use Rattle.rd_node.proofs.Working.{current_kind, name_at, made_at, other_name, declared_at, has_key_at, undeclared_in, stands_current, leads_put}
+use Rattle.rd_node.proofs.Working.{current_kind, name_at, made_at, other_name, declared_at, has_key_at, undeclared_in, stands_current, leads_first, leads_put}
 
 -- where a key stands, and what is held of it in the course of a step
 record IsPlace {T Kind Op Delta : Type 0} (kind_of : T → Kind) (IsDataOf : T → History Op → VersionVector → IdentitySet → Type 0) (kinds : Text → Kind) (logs : Text → History Op) (id : ℕ) (keys : List (KeyState T Kind Op Delta)) (key : Text)
@@ -159,6 +159,18 @@ module _ {T Kind Op Delta : Type 0} (kind_of : T → Kind) (IsDataOf : T → His
           moved node (take_entry node sent) work (take_entry-only node sent) index at found.within is elsewhere_is taken
           (subst (StandsAfter IsDataOf (logs at.name) taken (node.entries at.name)) (sym here_is)
           (image (logs at.name) (node.entries at.name) sent.item p.unpruned (p.kind ∙ sym s.held.kind) p.current theirs merges))
+
+-- NOTHING YET
+
+-- nothing was taken yet
+pub work_first : {T Kind Op Delta : Type 0} (kind_of : T → Kind) (IsDataOf : T → History Op → VersionVector → IdentitySet → Type 0) (kinds : Text → Kind) (logs : Text → History Op) (id : ℕ) (keys : List (KeyState T Kind Op Delta)) (view : ℕ) (node : nodes.Node Kind Op Shown)
+    → AreHeldBy kind_of IsDataOf kinds logs id keys view node → (changes : List (Change T Kind Op Delta)) → changes ≡ map (λ state. Same) keys → IsAtWork kind_of IsDataOf kinds logs id keys view node.entries changes node
+work_first kind_of IsDataOf kinds logs id keys view node held changes is = record {
+  identity = held.identity;
+  viewed = held.viewed;
+  declares = held.declares;
+  leads = leads_first IsDataOf logs node.entries keys changes is;
+}
 
 -- WHAT IS PASSED OVER
 

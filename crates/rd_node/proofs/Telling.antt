@@ -30,6 +30,17 @@ module _ {X Y : Type 0} (Stands : X → Y → Type 0) (IsPassedOver : X → Type
   tells_first v vs zs (told x y xs ys s rest) = first_told y ys refl s rest
   tells_first v vs zs (passed_over x xs ys p rest) = first_passed p rest
 
+  -- of one item, it or nothing is told
+  pub data TellsOne (x : X) (zs : List Y) : Type 0 where
+    one_told : (y : Y) → zs ≡ y ∷ [] → Stands x y → TellsOne x zs
+    one_passed : zs ≡ [] → IsPassedOver x → TellsOne x zs
+
+  pub tells_one : (x : X) (zs : List Y) → Tells Stands IsPassedOver (x ∷ []) zs → TellsOne x zs
+  tells_one x zs t = elim (tells_first x [] zs t) [
+    | first_told y ys is s rest ↦ one_told y (is ∙ ap (λ vs. y ∷ vs) (tells_none ys rest)) s
+    | first_passed p rest ↦ one_passed (tells_none zs rest) p
+  ]
+
   pub tells_last : (xs : List X) (x : X) (zs : List Y) → Tells Stands IsPassedOver (xs ++ x ∷ []) zs → TellsLast xs x zs
   tells_last [] x zs t = elim (tells_first x [] zs t) [
     | first_told y ys is s rest ↦ last_told [] y (is ∙ ap (λ vs. y ∷ vs) (tells_none ys rest)) nothing s

@@ -1,5 +1,5 @@
 -- A tick as a step of the model, and the plan that leads to it.
-use Rattle.std.proofs.Common.{◌≡◌, ◌≢◌, ℕ, ◌+◌, ◌<◌, List, [], ◌∷◌, ◌++◌, length, get_or, Bool, true, false, not, refl, sym, ap, ◌∙◌, subst, None, Some}
+use Rattle.std.proofs.Common.{◌≡◌, ℕ, ◌<◌, List, [], ◌∷◌, ◌++◌, length, get_or, true, false, not, refl, sym, ap, ◌∙◌, subst, None}
 use Rattle.std.specs.Prelude.{map, flat_map, option_map, unwrap_or, if◌then◌else◌, ◌==◌, All}
 use Rattle.std.specs.Global.{Vec}
 use Rattle.rd_history.specs.Texts.{Text}
@@ -20,6 +20,7 @@ use Rattle.rd_lattice.specs.declared.replica.Replica.{Ghosts}
 use Rattle.rd_keeper.specs.declared.keeper.Keeper.{Ghosts as Keeping}
 use Rattle.rd_node.specs.declared.key.KeyState.{KeyState}
 use Rattle.rd_node.specs.declared.node.Node.{Node}
+use Rattle.rd_node.specs.declared.operations.OperationChange.TheVariants.{Same}
 use Rattle.rd_node.specs.declared.outcome.KeyOutcome.{KeyOutcome}
 use Rattle.rd_node.specs.declared.plan.Plan.TheVariants as Plans
 use Rattle.rd_node.specs.declared.plan.Prepared.{Prepared}
@@ -34,7 +35,7 @@ use Rattle.rd_node.specs.Planning.{ticked, LeadsOn, IsPrepared}
 use Rattle.rd_node.specs.Ticking.{IsKeyTick, IsDue, IsTickedAs, TellsMore, TicksIn, tick_in}
 use Rattle.rd_node.proofs.Flushes.{held_by}
 use Rattle.rd_node.proofs.Planned.{leads_ticked}
-use Rattle.rd_node.proofs.PreparedSteps.{quiet_output}
+use Rattle.rd_node.proofs.PreparedSteps.{operates_still, quiet_output}
 use Rattle.rd_node.proofs.Working.{declared_at}
 
 module _ {Kind Op : Type 0} (D : Replication Kind Op Shown) (node : nodes.Node Kind Op Shown) where
@@ -101,13 +102,15 @@ module _ {T K Kind Op Delta : Type 0} {ghosts : Ghosts T Kind Op Delta} {keeping
         (λ k d e within held. stands_ticked ghosts D (one_step_later node) kinds logs code.id (get_or code.keys.items k d) (get_or ticks.items k e) _ _ _ (entry_ticked D (one_step_later node) code.keys.items s.keys s.distinct k d within) (own.made k d e within) (made.made k d e within) held)
         (λ k d e within none. entry_ticked D (one_step_later node) code.keys.items s.keys s.distinct k d within ∙ (made.made k d e within).still none)
 
-    pub prepared_ticked : (prepared : Prepared T Kind Op Delta ghosts) → prepared.view ≡ None → prepared.plan ≡ Plans.Ticked ticks → prepared.output ≡ record { reply = replies.Ticked outcomes; posts = [] } → IsPrepared {ghosts = ghosts} kinds logs code.keys.items node (after_tick D node) prepared
-    prepared_ticked prepared none plan output = record {
+    pub prepared_ticked : (prepared : Prepared T Kind Op Delta ghosts) → prepared.view ≡ None → prepared.plan ≡ Plans.Ticked ticks → prepared.operations ≡ Same → prepared.output ≡ record { reply = replies.Ticked outcomes; posts = []; finished = None }
+        → IsPrepared {ghosts = ghosts} kinds logs code.keys.items code.operations node (after_tick D node) prepared
+    prepared_ticked prepared none plan same output = record {
       identity = refl;
       declared = refl;
       counted = refl;
       viewed = sym (ap (λ o. unwrap_or o node.view) none);
       leads_on = subst (LeadsOn ghosts kinds logs code.keys.items node (after_tick D node).node) (sym plan) leads_on;
-      answers = quiet_output kinds logs prepared.output (after_tick D node).output (ap (λ (o : Output T Kind Op Delta ghosts). o.posts) output)
+      operates = operates_still kinds logs code node s prepared (after_tick D node).node same refl refl refl;
+      answers = quiet_output kinds logs prepared.output (after_tick D node).output (ap (λ (o : Output T Kind Op Delta ghosts). o.posts) output) (ap (λ (o : Output T Kind Op Delta ghosts). o.finished) output)
           (ap (λ (o : Output T Kind Op Delta ghosts). meant o.reply) output ∙ ap (λ l. Ticked l) (told ∙ sym (outcomes_ticked D (one_step_later node) code.keys.items s.keys s.distinct))) refl refl;
     }

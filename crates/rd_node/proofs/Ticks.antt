@@ -1,15 +1,12 @@
 -- A tick in the model: by what it finds of an identity, what it makes of an entry.
-use Rattle.std.proofs.Common.{◌≡◌, ◌≢◌, ℕ, ◌+◌, ◌<◌, ◌≤◌, List, [], ◌∷◌, ◌++◌, take, length, Bool, true, false, ◌||◌, nat_lt, Option, Some, None, refl, sym, ap, ◌∙◌, subst, arith, rules, inl, inr}
-use Rattle.std.specs.Prelude.{if◌then◌else◌, ◌==◌, fold}
+use Rattle.std.proofs.Common.{◌≡◌, ℕ, ◌≤◌, List, [], ◌∷◌, ◌++◌, take, Bool, true, false, ◌||◌, nat_lt, Option, Some, None, refl, sym, ap, ◌∙◌, subst, arith, rules, inl, inr}
+use Rattle.std.specs.Prelude.{if◌then◌else◌, ◌==◌}
 use Rattle.std.proofs.lemmas.Bool.{cases_eq}
-use Rattle.rd_history.specs.Table.{identity_limit, with_at}
-use Rattle.rd_history.specs.Vector.{VersionVector, IdentitySet}
-use Rattle.rd_history.specs.History.{Record, History, at, versions, is_pruned, with_record, IsPartOf, HasRecord}
+use Rattle.rd_history.specs.History.{Record, History, at, versions, is_pruned, with_record, IsPartOf}
 use Rattle.rd_history.specs.History.Action.{Prune}
 use Rattle.rd_history.specs.Log.{IsTakenFrom}
-use Rattle.rd_history.proofs.HistoryLaws.{with_at_same, with_at_other, has_with_record}
+use Rattle.rd_history.proofs.HistoryLaws.{with_at_other, has_with_record}
 use Rattle.rd_history.proofs.CutLaws.{with_at_is}
-use Rattle.rd_history.proofs.Bridge.{versions-with_record}
 use Rattle.rd_history.proofs.PartLaws.{take_whole, take_front, part_trans, part-le}
 use Rattle.rd_meanings.specs.Refusal.{Shares}
 use Rattle.rd_model.specs.View.{identities_of}

@@ -36,6 +36,15 @@ module _ {T Kind Op Delta : Type 0} {ghosts : Ghosts T Kind Op Delta} where
   only_asks (Nack keys) = true
   only_asks (Status digests) = true
   only_asks (Gossip entries wants) = false
+  only_asks _ = false
+
+  -- a message of groups, entries, nacks or digests: of no operation
+  abbrev pub is_exchange : Message T Kind Op Delta ghosts → Bool
+  is_exchange (Deltas groups entries) = true
+  is_exchange (Nack keys) = true
+  is_exchange (Status digests) = true
+  is_exchange (Gossip entries wants) = true
+  is_exchange _ = false
 
   -- the keys with gaps
   abbrev pub nack_of : ℕ → List (Keyed ℕ) → List (Post T Kind Op Delta ghosts)

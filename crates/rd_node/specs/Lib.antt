@@ -1,4 +1,5 @@
 pub mod Own
+pub mod Operations
 pub mod Recording
 pub mod Replies
 pub mod Fresh
@@ -20,5 +21,7 @@ pub mod Updates
 pub mod Preparing
 pub mod Installing
 pub mod Outputs
+pub mod Opening
+pub mod Counting
 pub mod Carrying
 pub mod Ticking

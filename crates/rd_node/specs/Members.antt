@@ -15,6 +15,7 @@ use Rattle.rd_messages.specs.Standing.{StandsForEntry}
 use Rattle.rd_deltalog.specs.Images.{StandsForLog}
 use Rattle.rd_node.specs.declared.key.KeyState.{KeyState}
 use Rattle.rd_node.specs.declared.node.Node.{Node}
+use Rattle.rd_node.specs.Operations.{StandForOperations}
 pub use Rattle.rd_node.specs.Keys.{AreDistinct, AreOfKinds, declared, declared_by}
 pub use Rattle.rd_messages.specs.Standing.{StandsForEntry, StandsForKeyed, StandsForKeyedGroup, StandsForMessage, StandsForPost, StandsForPosts}
 pub use Rattle.rd_node.specs.Replies.{delta_groups, spelled_groups, meant}
@@ -47,4 +48,5 @@ module _ {T Kind Op Delta : Type 0} (kind_of : T → Kind) (IsDataOf : T → His
     pub keys : node.keys ≡ map declared_by code.keys.items
     pub distinct : AreDistinct (map (λ (state : KeyState T Kind Op Delta). state.name) code.keys.items)
     pub entries : All (λ state. StandsForKey kind_of IsDataOf ghosts.IsDeltaOf kinds logs state (node.entries state.name) (node.flushed state.name)) code.keys.items
+    pub operations : StandForOperations code.operations node
     pub steps : node.steps ≡ code.steps

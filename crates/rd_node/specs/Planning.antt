@@ -22,6 +22,8 @@ use Rattle.rd_node.specs.declared.plan.Plan.{Plan}
 use Rattle.rd_node.specs.declared.plan.Plan.TheVariants.{Nothing, At, Each, Ticked}
 use Rattle.rd_node.specs.declared.ticking.KeyTick.{KeyTick}
 use Rattle.rd_node.specs.declared.plan.Prepared.{Prepared}
+use Rattle.rd_node.specs.declared.operation.Operation.{Operation}
+use Rattle.rd_node.specs.Operations.{changed_operations, StandForOperations}
 use Rattle.rd_node.specs.Own.{HasFewOwn, IsUnpruned, AreLogged, AreOfTheirKinds}
 use Rattle.rd_node.specs.Keys.{AreDistinctKeys, declared_by}
 use Rattle.rd_node.specs.Changes.{AreChanged, AreMade}
@@ -104,11 +106,12 @@ module _ {T Kind Op Delta : Type 0} (ghosts : Ghosts T Kind Op Delta) (kinds : T
     pub leads : (k : ℕ) (d : KeyState T Kind Op Delta) → k < length keys
         → StandsAfter ghosts.IsDataOf (logs (slice_index_or keys k d).name) (entry_in plan k) (old.entries (slice_index_or keys k d).name) (next.entries (slice_index_or keys k d).name)
 
-module _ {T Kind Op Delta : Type 0} {ghosts : Ghosts T Kind Op Delta} (kinds : Text → Kind) (logs : Text → History Op) (keys : List (KeyState T Kind Op Delta)) (node : nodes.Node Kind Op Shown) (next : nodes.Stepped Kind Op Shown) where
+module _ {T Kind Op Delta : Type 0} {ghosts : Ghosts T Kind Op Delta} (kinds : Text → Kind) (logs : Text → History Op) (keys : List (KeyState T Kind Op Delta)) (operations : List Operation) (node : nodes.Node Kind Op Shown) (next : nodes.Stepped Kind Op Shown) where
   pub record IsPrepared (prepared : Prepared T Kind Op Delta ghosts) : Type 0 where
     pub identity : next.node.identity ≡ node.identity
     pub declared : next.node.keys ≡ node.keys
     pub counted : next.node.steps ≡ node.steps + 1
     pub viewed : next.node.view ≡ unwrap_or prepared.view node.view
     pub leads_on : LeadsOn ghosts kinds logs keys node next.node prepared.plan
+    pub operates : StandForOperations (changed_operations operations prepared.operations) next.node
     pub answers : StandsForOutput kinds logs prepared.output next.output

@@ -14,14 +14,19 @@ use Rattle.rd_node.specs.Members.{IsSafe, StandsForNode}
 use Rattle.rd_node.specs.Inputs.{StandsForInput}
 use Rattle.rd_node.specs.Steps.{replication}
 use Rattle.rd_node.specs.Planning.{IsSoundPlan, IsPrepared}
+use Rattle.rd_node.specs.Operations.{CanChange, opens_one}
+use Rattle.rd_node.specs.Outputs.{is_pending}
+use Rattle.std.specs.Prelude.{◌≡◌}
 
 module _ {T K Kind Op Delta : Type 0} {ghosts : Ghosts T Kind Op Delta} {keeping : Keeping K} where
-  -- the plan can be carried out by this member
-  abbrev pub IsSoundFor : Node T K Kind Op Delta ghosts keeping → Prepared T Kind Op Delta ghosts → Type 0
-  IsSoundFor node prepared = IsSoundPlan ghosts node.id node.steps node.keys.items prepared.plan
+  -- what was prepared can be carried out by this member
+  pub record IsSoundFor (node : Node T K Kind Op Delta ghosts keeping) (prepared : Prepared T Kind Op Delta ghosts) : Type 0 where
+    pub plan : IsSoundPlan ghosts node.id node.steps node.keys.items prepared.plan
+    pub operations : CanChange node.operations prepared.operations
+    pub pending : is_pending prepared.output.reply ≡ opens_one prepared.operations
 
   -- it is that of the model's step for the input, as if the store worked
   abbrev pub Prepares : Spelling T Kind Op Delta → Node T K Kind Op Delta ghosts keeping → Input T Kind Op Delta ghosts → Prepared T Kind Op Delta ghosts → Type 0
   Prepares spelling code input prepared =
       (kinds : Text → Kind) (logs : Text → History Op) (node : nodes.Node Kind Op Shown) (sent : nodes.Input Op) → StandsForNode ghosts.kind_of ghosts.IsDataOf kinds logs code node → StandsForInput kinds logs code.keys.items input sent
-      → IsSafe logs (step (replication ghosts spelling) node sent nodes.Fate.NoStore).node → IsPrepared kinds logs code.keys.items node (step (replication ghosts spelling) node sent nodes.Fate.NoStore) prepared
+      → IsSafe logs (step (replication ghosts spelling) node sent nodes.Fate.NoStore).node → IsPrepared kinds logs code.keys.items code.operations node (step (replication ghosts spelling) node sent nodes.Fate.NoStore) prepared

@@ -37,10 +37,12 @@ meant_at_key told = record { key = told.key; removed = told.removed; outcome = m
 
 abbrev pub meant : Reply → Meant Shown
 meant reply.Done = Meant.Done
+meant (reply.Pending op) = Meant.Pending op
 meant (reply.Value shown) = Meant.Value shown
 meant reply.NotFound = Meant.NotFound
 meant reply.UnknownKey = Meant.UnknownKey
 meant reply.WrongKind = Meant.WrongKind
+meant reply.TooFew = Meant.TooFew
 meant (reply.Overflow share amount) = Meant.Refused (Refusal.Overflow share amount)
 meant reply.ClockSpent = Meant.Refused Refusal.ClockSpent
 meant reply.SetFull = Meant.Refused Refusal.SetFull
@@ -55,6 +57,8 @@ meant reply.NotAPeer = Meant.NotAPeer
 meant (reply.Ticked outcomes) = Meant.Ticked (map meant_at_key outcomes)
 meant (reply.TickedStoreFailed outcomes) = Meant.TickedNotStored (map meant_at_key outcomes)
 meant (reply.NotLeader i) = Meant.NotLeader i
+meant reply.TimedOut = Meant.TimedOut
+meant reply.NoSuchOp = Meant.NoSuchOp
 
 abbrev pub meant_fate : Fate → nodes.Fate
 meant_fate fate.NoStore = nodes.Fate.NoStore

@@ -3,7 +3,7 @@
 --     KeepsTable        what the keeper's table is after the step
 --     IsImage        the step is that of a member of the model for which the member stands
 --     IsStepOf        it is so for all of them, in all logs
-use Rattle.std.specs.Prelude.{◌≡◌, ◌≢◌, ◌+◌, ◌<◌, ◌≤◌, List, ◌∷◌, [], ◌++◌, Bool, true, false, None, map, IsFalse, All, ◌⊎◌}
+use Rattle.std.specs.Prelude.{◌≡◌, ◌≢◌, ◌+◌, ◌<◌, ◌≤◌, List, ◌∷◌, [], ◌++◌, Bool, true, false, option_map, map, IsFalse, All, ◌⊎◌}
 use Rattle.rd_history.specs.Texts.{Text}
 use Rattle.rd_history.specs.History.{History}
 use Rattle.rd_outside.specs.Causes.{Rose}
@@ -30,6 +30,7 @@ use Rattle.rd_node.specs.Replies.{spelled_groups, meant, meant_fate}
 use Rattle.rd_node.specs.Members.{IsSafe, StandsForNode, StandsForPosts}
 use Rattle.rd_node.specs.Inputs.{StandsForInput}
 use Rattle.rd_node.specs.Stores.{spelled_entry, IsKept}
+use Rattle.rd_node.specs.Operations.{finished_meant}
 
 -- the store failed
 abbrev pub is_failure : Fate → Bool
@@ -37,11 +38,11 @@ is_failure StoreFailed = true
 is_failure _ = false
 
 module _ {T Kind Op Delta : Type 0} {ghosts : Ghosts T Kind Op Delta} (kinds : Text → Kind) (logs : Text → History Op) where
-  -- the reply and the messages are those of the model. No operation is open, so none ends
+  -- the reply, the messages and the operation that ended are those of the model
   pub record StandsForOutput (output : Output T Kind Op Delta ghosts) (meaning : nodes.Output Op Shown) : Type 0 where
     pub reply : meant output.reply ≡ meaning.reply
     pub posts : StandsForPosts ghosts.kind_of ghosts.IsDataOf kinds logs output.posts meaning.posts
-    pub ended : meaning.ended ≡ None
+    pub ended : meaning.ended ≡ option_map finished_meant output.finished
 
 -- THE KEEPER
 

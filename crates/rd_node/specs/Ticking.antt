@@ -4,7 +4,7 @@
 --     IsInCourse        the model's entry in the course of a tick, with the prunes in the log
 --     IsKeyTick        a key keeps what a member keeps, each prune being an own record
 --     IsTickedAs        a key becomes what it becomes in the model
-use Rattle.std.specs.Prelude.{◌≡◌, ◌≢◌, ℕ, ◌+◌, ◌≤◌, ◌^◌, ◌==◌, ◌||◌, ◌++◌, List, [], ◌∷◌, length, Bool, true, false, if◌then◌else◌, Option, Some, None, option_map, map, flat_map, All}
+use Rattle.std.specs.Prelude.{◌≡◌, ◌≢◌, ℕ, ◌+◌, ◌≤◌, ◌^◌, ◌==◌, ◌||◌, ◌++◌, List, [], ◌∷◌, length, Bool, true, false, if◌then◌else◌, Option, Some, None, map, flat_map, All}
 use Rattle.rd_history.specs.Texts.{Text}
 use Rattle.rd_history.specs.Vector.{VersionVector, IdentitySet}
 use Rattle.rd_history.specs.History.{History, at, is_pruned, IsPartOf}

@@ -1,9 +1,10 @@
 -- What an own operation comes to at its key.
-use Rattle.std.specs.Prelude.{◌≡◌, ℕ, ◌+◌}
+use Rattle.std.specs.Prelude.{◌≡◌, ℕ, ◌+◌, false, Option, Some, None}
 use Rattle.rd_history.specs.History.{History}
-use Rattle.rd_model.specs.Node as nodes
+use Rattle.rd_history.specs.History.Action.{Operation}
+use Rattle.rd_meanings.specs.Refusal.{Refusal}
+use Rattle.rd_model.specs.Entry.{Entry, with_action}
 use Rattle.rd_model.specs.Node.{Reply as Meant}
-use Rattle.rd_kinds.specs.declared.shown.Shown.{Shown}
 use Rattle.rd_lattice.specs.declared.replica.Replica.{Ghosts}
 use Rattle.rd_envelope.specs.declared.envelope.Envelope.{Envelope}
 use Rattle.rd_envelope.specs.Images.{StandsFor}
@@ -11,9 +12,11 @@ use Rattle.rd_envelope.specs.Words.{parts_of}
 use Rattle.rd_deltalog.specs.declared.delta_log.NextRecord.{NextRecord}
 use Rattle.rd_deltalog.specs.Images.{StandsForLog}
 use Rattle.rd_node.specs.declared.key.KeyState.{KeyState}
+use Rattle.rd_node.specs.declared.reply.Reply.{Reply}
 use Rattle.rd_node.specs.declared.key.Updated.{Updated}
 use Rattle.rd_node.specs.declared.key.Updated.TheVariants.{Refused, Recorded}
 use Rattle.rd_node.specs.Replies.{meant}
+use Rattle.rd_node.specs.Outputs.{is_pending}
 use Rattle.rd_node.specs.Sending.{own_number}
 use Rattle.rd_node.specs.Planning.{recorded, IsRecordable}
 
@@ -25,12 +28,27 @@ module _ {T Kind Op Delta : Type 0} (ghosts : Ghosts T Kind Op Delta) where
     pub marks : (parts_of entry).marks ≡ (parts_of state.entry).marks
     pub kind : ghosts.kind_of entry.value ≡ ghosts.kind_of state.entry.value
 
+  -- or a refusal, which opens no operation
   abbrev pub IsOwn : ℕ → KeyState T Kind Op Delta → Updated T Kind Op Delta → Type 0
-  IsOwn id state (Refused reply) = Unit {0}
+  IsOwn id state (Refused reply) = is_pending reply ≡ false
   IsOwn id state (Recorded entry next) = IsOwnRecord id state entry next
 
-  -- it is what the model's entry becomes, or it changes nothing
-  abbrev pub IsUpdate : KeyState T Kind Op Delta → History Op → nodes.Node Kind Op Shown → nodes.Stepped Kind Op Shown → Updated T Kind Op Delta → Type 0
-  IsUpdate state log node next (Refused reply) = (next.node.entries state.name ≡ node.entries state.name) × (meant reply ≡ next.output.reply)
-  IsUpdate state log node next (Recorded entry record') = StandsFor ghosts.IsDataOf (parts_of entry) log (next.node.entries state.name)
-      × StandsForLog ghosts.IsDeltaOf (recorded state entry record').log log (next.node.entries state.name) × (Meant.Done ≡ next.output.reply)
+  -- how the data type refuses the operation
+  abbrev pub refusal_at : ℕ → Op → KeyState T Kind Op Delta → Entry Op → Option Refusal
+  refusal_at id op state held = ghosts.data_type.refusal (ghosts.kind_of state.entry.value) id op held.history
+
+  pub record IsRefusal (id : ℕ) (op : Op) (state : KeyState T Kind Op Delta) (held : Entry Op) (reply : Reply) : Type 0 where
+    pub refusal : Refusal
+    pub refuses : refusal_at id op state held ≡ Some refusal
+    pub told : meant reply ≡ Meant.Refused refusal
+
+  -- the operation is the member's next record
+  pub record IsNextOperation (id : ℕ) (op : Op) (state : KeyState T Kind Op Delta) (log : History Op) (held : Entry Op) (entry : Envelope T Kind Op Delta) (next : NextRecord Delta) : Type 0 where
+    pub unrefused : refusal_at id op state held ≡ None
+    pub image : StandsFor ghosts.IsDataOf (parts_of entry) log (with_action held id (Operation op))
+    pub logged : StandsForLog ghosts.IsDeltaOf (recorded state entry next).log log (with_action held id (Operation op))
+
+  -- it is what the model makes of the entry that is held
+  abbrev pub IsUpdate : ℕ → Op → KeyState T Kind Op Delta → History Op → Entry Op → Updated T Kind Op Delta → Type 0
+  IsUpdate id op state log held (Refused reply) = IsRefusal id op state held reply
+  IsUpdate id op state log held (Recorded entry next) = IsNextOperation id op state log held entry next

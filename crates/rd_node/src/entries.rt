@@ -1,5 +1,6 @@
-ghost use Rattle.std.specs.Prelude.{◌≡◌, ◌≢◌, ℕ, ◌||◌, false, None, List, not, nat_lt, length, if◌then◌else◌, IfOk, OnOk, IfSome};
+ghost use Rattle.std.specs.Prelude.{◌≡◌, ◌≢◌, ℕ, ◌||◌, false, None, List, not, nat_lt, length, map, if◌then◌else◌, IfOk, OnOk, IfSome};
 ghost use Rattle.std.specs.List.{list_any};
+ghost use Rattle.std.specs.Option.{option_copied};
 ghost use Rattle.rd_history.specs.Texts.{Text as Name};
 ghost use Rattle.rd_history.specs.History.{History, union, IsExactlyPruned};
 ghost use Rattle.rd_model.specs.Entry as model;
@@ -15,12 +16,12 @@ ghost use Rattle.rd_envelope.specs.Words.{parts_of};
 ghost use Rattle.rd_messages.specs.Standing.{StandsForKeyed};
 ghost use Rattle.rd_node.specs.Changes.{AreMade};
 ghost use Rattle.rd_node.specs.Own.{AreOfTheirKinds};
-ghost use Rattle.rd_node.specs.Inputs.{IsEntryPassedOver, TellsEntries};
-ghost use Rattle.rd_node.specs.Taking.{KeepsOwn, IsKept, StandsAfter, LeadsTo, AreExactAt, AreHeld, AreOnTheWay, IsAtWork};
+ghost use Rattle.rd_node.specs.Inputs.{IsEntryPassedOver, TellsEntries, keyed_envelope};
+ghost use Rattle.rd_node.specs.Taking.{KeepsOwn, IsKept, StandsAfter, LeadsTo, AreExactAt, AreHeld, AreHeldBy, AreOnTheWay, IsAtWork};
 
-use crate::change::{Change, current, put};
+use crate::change::{Change, current, put, unchanged};
 use crate::key::{KeyState, index_of};
-use rd_bytes::Memory;
+use rd_bytes::{Memory, Text};
 use rd_envelope::Envelope;
 use rd_lattice::Replica;
 use rd_messages::Keyed;
@@ -58,27 +59,28 @@ fn take_entry<T: Replica>(
 }
 
 /// Takes an entry of a key, if the key is declared.
-fn take_entry_at<T: Replica>(
+pub(crate) fn take_envelope<T: Replica>(
     alloc: Global,
     keys: &[KeyState<T>],
     changes: &mut [Change<T>],
     id: Id,
     view: u32,
-    keyed: &Keyed<Envelope<T>>,
+    key: &Text,
+    envelope: &Envelope<T>,
 ) -> Result<(), Memory>
     requires { length changes.old ≡ length keys.now }
     ensures kept { AreMade (IsKept T.kind_of id) keys.now changes.old → OnOk result (AreMade (IsKept T.kind_of id) keys.now changes.new) }
     ensures image { (kinds : Name → T.Kind) (logs : Name → History T.Op) (entries : Name → model.Entry T.Op) (node : Member T.Kind T.Op Shown) (sent : sending.Keyed (model.Entry T.Op))
-        → AreExactAt keys.now (take_entry node sent).entries → AreHeld T.kind_of T.IsDataOf kinds logs id keys.now entries → AreMade (IsKept T.kind_of id) keys.now changes.old → StandsForKeyed T.kind_of T.IsDataOf kinds logs keyed.now sent
+        → AreExactAt keys.now (take_entry node sent).entries → AreHeld T.kind_of T.IsDataOf kinds logs id keys.now entries → AreMade (IsKept T.kind_of id) keys.now changes.old → StandsForKeyed T.kind_of T.IsDataOf kinds logs (record { key = key.now; item = envelope.now }) sent
         → IsAtWork T.kind_of T.IsDataOf kinds logs id keys.now view entries changes.old node
         → OnOk result (IsAtWork T.kind_of T.IsDataOf kinds logs id keys.now view entries changes.new (take_entry node sent)) }
-    ensures passed_over { AreOfTheirKinds T.kind_of keys.now → AreMade (IsKept T.kind_of id) keys.now changes.old → IsEntryPassedOver T.Replica keys.now keyed.now → OnOk result (changes.new ≡ changes.old) }
+    ensures passed_over { AreOfTheirKinds T.kind_of keys.now → AreMade (IsKept T.kind_of id) keys.now changes.old → IsEntryPassedOver T.Replica keys.now (record { key = key.now; item = envelope.now }) → OnOk result (changes.new ≡ changes.old) }
 {
-    let Some(index) = index_of(keys, &keyed.key) else {
+    let Some(index) = index_of(keys, key) else {
         return Ok(());
     };
     let now = current(&keys[index], &changes[index]);
-    let taken = take_entry(alloc, now, &keyed.item, id, view)?;
+    let taken = take_entry(alloc, now, envelope, id, view)?;
     put(changes, index, taken);
     Ok(())
 }
@@ -100,9 +102,32 @@ pub(crate) fn take_entries<T: Replica>(
         → OnOk result (IsAtWork T.kind_of T.IsDataOf kinds logs id keys.now view before changes.new (after_entries node sent)) }
 {
     for keyed in entries {
-        take_entry_at(alloc, keys, changes, id, view, keyed)?;
+        take_envelope(alloc, keys, changes, id, view, &keyed.key, &keyed.item)?;
     }
     Ok(())
+}
+
+/// The change of each key after an entry of one was taken, if there is an entry.
+pub(crate) fn merged<T: Replica>(
+    alloc: Global,
+    keys: &[KeyState<T>],
+    id: Id,
+    view: u32,
+    key: &Text,
+    envelope: Option<&Envelope<T>>,
+) -> Result<Vec<Change<T>>, Memory>
+    ensures kept { IfOk result (λ changes. AreMade (IsKept T.kind_of id) keys.now changes.items) }
+    ensures image { (kinds : Name → T.Kind) (logs : Name → History T.Op) (node : Member T.Kind T.Op Shown) (sent : List (sending.Keyed (model.Entry T.Op)))
+        → AreExactAt keys.now (after_entries node sent).entries → AreHeldBy T.kind_of T.IsDataOf kinds logs id keys.now view node
+        → TellsEntries T.Replica kinds logs keys.now (keyed_envelope key.now (option_copied envelope.entry)) sent
+        → IfOk result (λ changes. IsAtWork T.kind_of T.IsDataOf kinds logs id keys.now view node.entries changes.items (after_entries node sent)) }
+{
+    let mut changes = unchanged(alloc, keys)?;
+    let Some(envelope) = envelope else {
+        return Ok(changes);
+    };
+    take_envelope(alloc, keys, changes.as_mut_slice(), id, view, key, envelope)?;
+    Ok(changes)
 }
 
 /// Whether the entry would be another.

@@ -1,16 +1,17 @@
 use rd_bytes::Text;
 use rd_lattice::Replica;
 use rd_messages::Message;
+use rd_quorum::Level;
 use rd_vectors::Id;
 use rd_views::View;
 
 /// What a member makes a step for.
 #[derive(Drop)]
 pub enum Input<T: Replica> {
-    /// The operation becomes the member's next record of the key.
-    Update { key: Text, op: T::Op },
-    /// Shows the value of the key.
-    Get { key: Text },
+    /// The operation becomes the member's next record of the key, and so many members are to have it.
+    Update { key: Text, op: T::Op, level: Level },
+    /// Shows the value of the key, as it is when the entries of so many members are merged.
+    Get { key: Text, level: Level },
     /// Takes a message.
     Take { from: Id, message: Message<T> },
     /// Takes a view in place of its own, if its number is greater.
@@ -21,4 +22,6 @@ pub enum Input<T: Replica> {
     GossipTo(Id),
     /// Marks, or prunes, what is left of members that left, if the member leads its view.
     PruneTick,
+    /// Closes the open operation of this number, without a result.
+    Timeout(u64),
 }

@@ -31,13 +31,13 @@ pub struct KeyState<T: Replica> {
 }
 
 impl<T: Replica> KeyState<T> {
-    ghost use Rattle.std.specs.Prelude.{ℕ, ◌<◌, ◌^◌, List, length, false, IfOk, map, All};
+    ghost use Rattle.std.specs.Prelude.{ℕ, ◌<◌, ◌^◌, List, true, false, None, Some, if◌then◌else◌, IfOk, map, All};
     ghost use Rattle.rd_history.specs.History.{History};
     ghost use Rattle.rd_history.specs.Log.{IsTakenFrom};
-    ghost use Rattle.rd_model.specs.Entry.{Entry};
-    ghost use Rattle.rd_model.specs.Node.{Node as Member, HasKey, Input, Fate, Level};
-    ghost use Rattle.rd_model.specs.Step.{step};
-    ghost use Rattle.rd_kinds.specs.declared.shown.Shown.{Shown};
+    ghost use Rattle.rd_history.specs.History.Action.{Operation};
+    ghost use Rattle.rd_model.specs.Entry.{Entry, with_action, has_records};
+    ghost use Rattle.rd_model.specs.Step.{value_reply};
+    ghost use Rattle.rd_node.specs.Outputs.{is_pending};
     ghost use Rattle.rd_vectors.specs.Vectors.{number_at};
     ghost use Rattle.rd_markers.specs.Marks.{performed_in};
     ghost use Rattle.rd_envelope.specs.Images.{StandsFor};
@@ -47,7 +47,7 @@ impl<T: Replica> KeyState<T> {
     ghost use Rattle.rd_node.specs.Keys.{declared, declared_by};
     ghost use Rattle.rd_node.specs.Fresh.{IsFresh};
     ghost use Rattle.rd_node.specs.Replies.{delta_groups, meant};
-    ghost use Rattle.rd_node.specs.Updates.{IsOwn, IsUpdate};
+    ghost use Rattle.rd_node.specs.Updates.{IsOwn, refusal_at, IsUpdate};
 
     /// A key without records.
     pub(crate) fn new(alloc: Global, id: Id, decl: &KeyDecl<T>) -> Result<KeyState<T>, Memory>
@@ -103,20 +103,24 @@ impl<T: Replica> KeyState<T> {
         &self.entry
     }
 
+    /// Whether the operation is one of the key's kind.
+    pub(crate) fn fits(&self, op: &T::Op) -> bool
+        ensures { result ≡ T.data_type.fits (T.kind_of self.now.entry.value) op.now }
+    {
+        self.entry.value().fits(op)
+    }
+
     /// The member's own operation.
     pub(crate) fn update(&self, alloc: Global, id: Id, op: &T::Op) -> Result<Updated<T>, Memory>
+        requires fits { T.data_type.fits (T.kind_of self.now.entry.value) op.now ≡ true }
         requires member { performed_in (parts_of self.now.entry).marks id ≡ false }
         requires room { number_at (parts_of self.now.entry).versions id < 2 ^ 62 }
         requires logged { IsLogged T.kind_of id self.now }
         ensures owned { IfOk result (IsOwn T.Replica id self.now) }
-        ensures image { (digest : T.Kind → Entry T.Op → List ℕ) (node : Member T.Kind T.Op Shown) (log : History T.Op) → HasKey node self.now.name (T.kind_of self.now.entry.value) → node.identity ≡ id → 0 < length node.view.members
-            → StandsFor T.IsDataOf (parts_of self.now.entry) log (node.entries self.now.name) → StandsForLog T.IsDeltaOf self.now.log log (node.entries self.now.name)
-            → let next = step (delta_groups T.data_type digest) node (Input.Update self.now.name op.now Level.Local) Fate.NoStore in
-            IsTakenFrom log (next.node.entries self.now.name).history → IfOk result (IsUpdate T.Replica self.now log node next) }
+        ensures image { (log : History T.Op) (held : Entry T.Op) → StandsFor T.IsDataOf (parts_of self.now.entry) log held → StandsForLog T.IsDeltaOf self.now.log log held
+            → (refusal_at T.Replica id op.now self.now held ≡ None → IsTakenFrom log (with_action held id (Operation op.now)).history)
+            → IfOk result (IsUpdate T.Replica id op.now self.now log held) }
     {
-        if !self.entry.value().fits(op) {
-            return Ok(Updated::Refused(Reply::WrongKind));
-        }
         match next_record(alloc, &self.entry, op, id) {
             Ok(made) => {
                 let Recorded {
@@ -138,9 +142,9 @@ impl<T: Replica> KeyState<T> {
 
     /// The value as it is shown, or that there is none.
     pub(crate) fn show(&self, alloc: Global) -> Result<Reply, Memory>
-        ensures { (digest : T.Kind → Entry T.Op → List ℕ) (node : Member T.Kind T.Op Shown) (log : History T.Op) → HasKey node self.now.name (T.kind_of self.now.entry.value) → 0 < length node.view.members
-            → let next = step (delta_groups T.data_type digest) node (Input.Get self.now.name Level.Local) Fate.NoStore in
-            StandsFor T.IsDataOf (parts_of self.now.entry) log (node.entries self.now.name) → IfOk result (λ reply. meant reply ≡ next.output.reply) }
+        ensures quiet { IfOk result (λ reply. is_pending reply ≡ false) }
+        ensures image { (digest : T.Kind → Entry T.Op → List ℕ) (log : History T.Op) (held : Entry T.Op) → StandsFor T.IsDataOf (parts_of self.now.entry) log held
+            → IfOk result (λ reply. meant reply ≡ value_reply (delta_groups T.data_type digest) (if has_records held then Some (T.data_type.shown (T.kind_of self.now.entry.value) held.history) else None)) }
     {
         if !self.entry.has_records() {
             return Ok(Reply::NotFound);

@@ -4,6 +4,8 @@
 
 mod answering;
 mod change;
+mod closing;
+mod counting;
 mod entries;
 mod gossip;
 mod groups;
@@ -11,24 +13,28 @@ mod input;
 mod key;
 mod loading;
 mod node;
+mod opening;
+mod operation;
+mod operations;
 mod outcome;
 mod plan;
 mod preparing;
 mod recording;
 mod reply;
 mod restoring;
+mod room;
 mod sending;
 mod shown;
 mod storing;
 mod taking;
-#[cfg(test)]
-mod tests;
 mod ticking;
 
 pub use input::Input;
 pub use key::{KeyDecl, KeyState};
 pub use loading::LoadError;
 pub use node::{MOST_STEPS, Node};
+pub use operation::{Finished, Look, OperationResult};
 pub use outcome::{KeyOutcome, Outcome, Outcomes};
 pub use rd_messages::{Entries, Groups, Keyed, Message, MessageKind, Post, Posts, Sketch, Texts};
+pub use rd_quorum::Level;
 pub use reply::{Fate, Output, Reply, StepError};

@@ -10,6 +10,7 @@ ghost use Rattle.rd_node.specs.Stores.{SpellsStore, AreFit};
 ghost use Rattle.rd_node.specs.Loading.{IsLoaded, IsRefusedLoad, IsUndamaged, IsFirstUnfit, AreSound};
 
 use crate::node::Node;
+use crate::operations::Operations;
 use crate::restoring::{Unfit, restored};
 use rd_bytes::Text;
 use rd_keeper::{Keeper, KeeperError};
@@ -60,6 +61,7 @@ impl<T: SpelledData, K: Keeper + Drop> Node<T, K> {
                 id,
                 view,
                 keys,
+                operations: Operations::new(old.alloc),
                 steps: 0,
                 keeper: old.keeper,
             }),

@@ -1,9 +1,10 @@
-ghost use Rattle.std.specs.Prelude.{◌≡◌, ◌≤◌, ◌<◌, unwrap_or};
+ghost use Rattle.std.specs.Prelude.{◌≡◌, ◌≤◌, ◌<◌, length, unwrap_or};
 ghost use Rattle.rd_node.specs.Own.{HasFewOwn, IsUnpruned, AreLogged, AreOfTheirKinds};
 ghost use Rattle.rd_node.specs.Keys.{AreDistinctKeys};
 
 use crate::input::Input;
 use crate::key::{KeyDecl, KeyState, index_of};
+use crate::operations::{OperationChange, Operations};
 use crate::plan::{Plan, Prepared, carry_out};
 use crate::reply::{Fate, Output, StepError};
 use crate::storing::{keep, stores};
@@ -19,17 +20,19 @@ use std::alloc::Global;
 /// A member makes at most so many steps, whatever it replies.
 pub const MOST_STEPS: usize = 16_384;
 
-/// A member: its identity, the view that it has installed, what it holds of each declared key, and where it keeps what it
-/// holds of the durable ones.
+/// A member: its identity, the view that it has installed, what it holds of each declared key, the operations that it has
+/// opened, and where it keeps what it holds of the durable keys.
 #[derive(Drop)]
 pub struct Node<T: Replica, K: Keeper> {
     pub(crate) alloc: Global,
     pub(crate) id: Id,
     pub(crate) view: View,
     pub(crate) keys: Vec<KeyState<T>>,
+    pub(crate) operations: Operations,
     pub(crate) steps: usize,
     pub(crate) keeper: K,
     ghost few_steps: { steps ≤ 16384 },
+    ghost few_operations: { length operations ≤ steps },
     ghost few_own: { HasFewOwn id steps keys.items },
     ghost unpruned: { IsUnpruned id keys.items },
     ghost logged: { AreLogged T.kind_of id keys.items },
@@ -49,6 +52,7 @@ impl<T: SpelledData, K: Keeper + Drop> Node<T, K> {
     ghost use Rattle.rd_node.specs.Members.{StandsForNode};
     ghost use Rattle.rd_node.specs.Steps.{MakesStep, MayRefuse, IsUnchanged};
     ghost use Rattle.rd_node.specs.Planning.{IsSoundPlan};
+    ghost use Rattle.rd_node.specs.Operations.{CanChange};
     ghost use Rattle.rd_node.specs.Carrying.{IsCommitted, IsCarried};
 
     /// A member without records, over a keeper that it does not call. The keys are held in the order in which they are given.
@@ -78,6 +82,7 @@ impl<T: SpelledData, K: Keeper + Drop> Node<T, K> {
                 id,
                 view,
                 keys,
+                operations: Operations::new(alloc),
                 steps: 0,
                 keeper,
             }),
@@ -145,32 +150,45 @@ impl<T: SpelledData, K: Keeper + Drop> Node<T, K> {
         if self.steps >= MOST_STEPS {
             return Err(StepError::HistoryFull);
         }
-        let Prepared { view, plan, output } = self.prepare(input)?;
-        let fate = self.carry(view, plan)?;
+        let Prepared {
+            view,
+            plan,
+            operations,
+            output,
+        } = self.prepare(input)?;
+        let fate = self.carry(view, plan, operations)?;
         Ok(output.after(fate))
     }
 
     /// Makes of the member what was planned, once what has to be stored was offered to the keeper.
-    fn carry(&mut self, view: Option<View>, plan: Plan<T>) -> Result<Fate, Memory>
+    fn carry(
+        &mut self,
+        view: Option<View>,
+        plan: Plan<T>,
+        operations: OperationChange,
+    ) -> Result<Fate, Memory>
         requires room { self.old.steps < 16384 }
         requires sound { IsSoundPlan T.Replica self.old.id self.old.steps self.old.keys.items plan }
-        ensures carried { IfOk result (λ fate. IsCarried T.SpelledData.own self.old view plan fate self.new) }
+        requires can { CanChange self.old.operations operations }
+        ensures carried { IfOk result (λ fate. IsCarried T.SpelledData.own self.old view plan operations fate self.new) }
         ensures unchanged { OnErr result (IsUnchanged self.old self.new) }
         ensures later { K.faults self.old.keeper ≤ K.faults self.new.keeper }
     {
         let stores = stores(self.alloc, &self.keys, &plan)?;
         let fate = keep(&mut self.keeper, stores.as_slice())?;
-        self.commit(view, plan);
+        self.commit(view, plan, operations.after(fate));
         Ok(fate)
     }
 
     /// Makes of the member what was planned, which takes no memory.
-    fn commit(&mut self, view: Option<View>, plan: Plan<T>)
+    fn commit(&mut self, view: Option<View>, plan: Plan<T>, operations: OperationChange)
         requires room { self.old.steps < 16384 }
         requires sound { IsSoundPlan T.Replica self.old.id self.old.steps self.old.keys.items plan }
-        ensures { IsCommitted self.old view plan self.new }
+        requires can { CanChange self.old.operations operations }
+        ensures { IsCommitted self.old view plan operations self.new }
     {
         carry_out(self.keys.as_mut_slice(), plan);
+        self.operations.change(operations);
         install(&mut self.view, view);
         self.steps += 1;
     }
@@ -213,9 +231,14 @@ where
         if self.steps >= MOST_STEPS {
             return Err(StepError::HistoryFull);
         }
-        let Prepared { view, plan, output } = self.prepare(input)?;
+        let Prepared {
+            view,
+            plan,
+            operations,
+            output,
+        } = self.prepare(input)?;
         let copy = output.copy(self.alloc)?;
-        let fate = self.carry(view, plan)?;
+        let fate = self.carry(view, plan, operations)?;
         Ok((fate, output.after(fate), copy.after(fate)))
     }
 }

@@ -2,9 +2,11 @@ ghost use Rattle.std.specs.Prelude.{◌≡◌, ◌<◌, length, slice_get, slice
 ghost use Rattle.std.specs.Option.{option_copied};
 ghost use Rattle.rd_node.specs.Planning.{recorded, IsPlanned, entry_in, IsRecordable, CanCarryOut, new_entry};
 ghost use Rattle.rd_node.specs.declared.plan.Plan.TheVariants as plan;
+ghost use Rattle.rd_node.specs.declared.operations.OperationChange.TheVariants as operations;
 
 use crate::change::{Change, write_all};
 use crate::key::KeyState;
+use crate::operations::OperationChange;
 use crate::reply::{Output, Reply};
 use crate::ticking::{KeyTick, write_ticks};
 use rd_deltalog::NextRecord;
@@ -30,11 +32,13 @@ pub(crate) enum Plan<T: Replica> {
     Ticked(Vec<KeyTick<T>>),
 }
 
-/// A step before it is made: the view that is installed by it, what becomes of the keys, and the output.
+/// A step before it is made: the view that is installed by it, what becomes of the keys and of the operations, and the
+/// output.
 #[derive(Drop)]
 pub(crate) struct Prepared<T: Replica> {
     pub(crate) view: Option<View>,
     pub(crate) plan: Plan<T>,
+    pub(crate) operations: OperationChange,
     pub(crate) output: Output<T>,
 }
 
@@ -45,11 +49,13 @@ impl<T: Replica> Prepared<T> {
     pub(crate) fn reply(alloc: Global, reply: Reply) -> Prepared<T>
         ensures view { result.view ≡ None }
         ensures plan { result.plan ≡ plan.Nothing }
-        ensures output { result.output ≡ record { reply = reply; posts = [] } }
+        ensures operations { result.operations ≡ operations.Same }
+        ensures output { result.output ≡ record { reply = reply; posts = []; finished = None } }
     {
         Prepared {
             view: None,
             plan: Plan::Nothing,
+            operations: OperationChange::Same,
             output: Output::told(alloc, reply),
         }
     }

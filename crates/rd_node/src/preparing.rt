@@ -1,6 +1,7 @@
-ghost use Rattle.std.specs.Prelude.{◌≡◌, ◌<◌, ◌&&◌, ◌==◌, not, IfOk};
+ghost use Rattle.std.specs.Prelude.{◌≡◌, ◌<◌, ◌&&◌, ◌==◌, true, not, IfOk};
 ghost use Rattle.rd_model.specs.View.{is_member, identities_of, removed_of};
 ghost use Rattle.rd_node.specs.declared.input.Input.TheVariants as input;
+ghost use Rattle.rd_node.specs.Answers.{is_exchange};
 ghost use Rattle.rd_node.specs.Changes.{AreMade};
 ghost use Rattle.rd_node.specs.Preparing.{IsSoundFor, Prepares};
 ghost use Rattle.rd_node.specs.Installing.{IsSeen};
@@ -8,14 +9,15 @@ ghost use Rattle.rd_node.specs.Installing.{IsSeen};
 use crate::change::Change;
 use crate::gossip::status;
 use crate::input::Input;
-use crate::key::{KeyState, Updated};
+use crate::key::KeyState;
 use crate::node::Node;
+use crate::operations::OperationChange;
 use crate::plan::{Plan, Prepared};
 use crate::reply::{Output, Reply};
 use crate::sending::{flushes, posts};
 use crate::taking::{MessageTaken, taken};
 use crate::ticking::{Ticks, tick_all};
-use rd_bytes::{Items, Memory, Text};
+use rd_bytes::{Items, Memory};
 use rd_keeper::Keeper;
 use rd_lattice::{Replica, SpelledData};
 use rd_messages::Message;
@@ -24,7 +26,7 @@ use rd_views::View;
 use std::alloc::Global;
 
 /// The identities of the members.
-fn identities(alloc: Global, view: &View) -> Result<Vec<Id>, Memory>
+pub(crate) fn identities(alloc: Global, view: &View) -> Result<Vec<Id>, Memory>
     ensures { IfOk result (λ ids. ids.items ≡ identities_of view.now) }
 {
     let ids = view
@@ -77,45 +79,15 @@ impl<T: SpelledData, K: Keeper + Drop> Node<T, K> {
         ensures image { IfOk result (Prepares T.SpelledData.own self.now input.now) }
     {
         match input {
-            Input::Update { key, op } => self.updated(key, op),
-            Input::Get { key } => self.shown(key),
+            Input::Update { key, op, level } => self.updated(key, op, *level),
+            Input::Get { key, level } => self.shown(key, *level),
             Input::Take { from, message } => self.taken(*from, message),
             Input::Install(view) => self.installed(view),
             Input::Flush => self.flushed(),
             Input::GossipTo(to) => self.gossiped(*to),
             Input::PruneTick => self.ticked(),
+            Input::Timeout(op) => Ok(self.timed_out(*op)),
         }
-    }
-
-    fn updated(&self, key: &Text, op: &T::Op) -> Result<Prepared<T>, Memory>
-        requires { self.now.steps < 16384 }
-        ensures sound { IfOk result (IsSoundFor self.now) }
-        ensures image { IfOk result (Prepares T.SpelledData.own self.now (input.Update key.now op.now)) }
-    {
-        let _seats = self.view.members();
-        let Some(index) = self.position(key) else {
-            return Ok(Prepared::reply(self.alloc, Reply::UnknownKey));
-        };
-        match self.keys[index].update(self.alloc, self.id, op)? {
-            Updated::Refused(reply) => Ok(Prepared::reply(self.alloc, reply)),
-            Updated::Recorded { entry, next } => Ok(Prepared {
-                view: None,
-                plan: Plan::At { index, entry, next },
-                output: Output::told(self.alloc, Reply::Done),
-            }),
-        }
-    }
-
-    fn shown(&self, key: &Text) -> Result<Prepared<T>, Memory>
-        ensures sound { IfOk result (IsSoundFor self.now) }
-        ensures image { IfOk result (Prepares T.SpelledData.own self.now (input.Get key.now)) }
-    {
-        let _seats = self.view.members();
-        let Some(index) = self.position(key) else {
-            return Ok(Prepared::reply(self.alloc, Reply::UnknownKey));
-        };
-        let reply = self.keys[index].show(self.alloc)?;
-        Ok(Prepared::reply(self.alloc, reply))
     }
 
     fn taken(&self, from: Id, message: &Message<T>) -> Result<Prepared<T>, Memory>
@@ -125,12 +97,32 @@ impl<T: SpelledData, K: Keeper + Drop> Node<T, K> {
         if !self.view.contains(from) {
             return Ok(Prepared::reply(self.alloc, Reply::NotFromMember));
         }
+        match message {
+            Message::Write { op, key, envelope } => self.write_taken(from, *op, key, envelope),
+            Message::WriteAck { op } => self.acknowledged(from, *op),
+            Message::WriteNack { .. } => Ok(Prepared::reply(self.alloc, Reply::Taken)),
+            Message::Read { op, key } => self.read_taken(from, *op, key),
+            Message::ReadAnswer { op, key, envelope } => {
+                self.answer_taken(from, *op, key, envelope.as_ref())
+            }
+            _ => self.exchanged(from, message),
+        }
+    }
+
+    /// Takes groups, entries, nacks and digests.
+    fn exchanged(&self, from: Id, message: &Message<T>) -> Result<Prepared<T>, Memory>
+        requires member { is_member self.now.view from ≡ true }
+        requires exchange { is_exchange message.now ≡ true }
+        ensures sound { IfOk result (IsSoundFor self.now) }
+        ensures image { IfOk result (Prepares T.SpelledData.own self.now (input.Take from message.now)) }
+    {
         let view = self.view.number();
         let taken = taken(self.alloc, &self.keys, self.id, view, from, message)?;
         let MessageTaken { changes, output } = taken;
         Ok(Prepared {
             view: None,
             plan: Plan::Each(changes),
+            operations: OperationChange::Same,
             output,
         })
     }
@@ -149,6 +141,7 @@ impl<T: SpelledData, K: Keeper + Drop> Node<T, K> {
         Ok(Prepared {
             view: Some(view),
             plan: Plan::Each(changes),
+            operations: OperationChange::Same,
             output: Output::told(self.alloc, Reply::Installed),
         })
     }
@@ -164,7 +157,12 @@ impl<T: SpelledData, K: Keeper + Drop> Node<T, K> {
         Ok(Prepared {
             view: None,
             plan: Plan::Each(changes),
-            output: Output { reply, posts },
+            operations: OperationChange::Same,
+            output: Output {
+                reply,
+                posts,
+                finished: None,
+            },
         })
     }
 
@@ -187,7 +185,12 @@ impl<T: SpelledData, K: Keeper + Drop> Node<T, K> {
         Ok(Prepared {
             view: None,
             plan: Plan::Nothing,
-            output: Output { reply, posts },
+            operations: OperationChange::Same,
+            output: Output {
+                reply,
+                posts,
+                finished: None,
+            },
         })
     }
 
@@ -208,6 +211,7 @@ impl<T: SpelledData, K: Keeper + Drop> Node<T, K> {
         Ok(Prepared {
             view: None,
             plan: Plan::Ticked(keys),
+            operations: OperationChange::Same,
             output: Output::told(self.alloc, Reply::Ticked(outcomes)),
         })
     }

@@ -1,9 +1,13 @@
+ghost use Rattle.std.specs.Prelude.{◌≡◌, [], map};
+ghost use Rattle.rd_node.specs.Outputs.{refused_post};
+
+use crate::operation::{Finished, copy_finished};
 use crate::outcome::{Outcomes, copy_outcomes};
 use crate::shown::copy_shown;
 use rd_bytes::{Items, Memory};
 use rd_kinds::Shown;
 use rd_lattice::Replica;
-use rd_messages::{Post, Posts};
+use rd_messages::{Message, Post, Posts};
 use rd_vectors::Id;
 use std::alloc::Global;
 
@@ -12,6 +16,8 @@ use std::alloc::Global;
 pub enum Reply {
     /// The update, the flush or the gossip was done.
     Done,
+    /// The operation of this number was opened, and waits for answers.
+    Pending(u64),
     /// The value of the key.
     Value(Shown),
     /// The key has no record.
@@ -20,6 +26,8 @@ pub enum Reply {
     UnknownKey,
     /// The operation is not one of the key's kind.
     WrongKind,
+    /// The level asks for more members than the view has; nothing changed.
+    TooFew,
     /// The own share of a counter and the amount add to more than `2^63 - 1`; nothing changed.
     Overflow { share: u64, amount: u64 },
     /// The timestamp of the register is `2^63 - 1` already; nothing changed.
@@ -48,13 +56,17 @@ pub enum Reply {
     TickedStoreFailed(Outcomes),
     /// This member leads the view.
     NotLeader(Id),
+    /// The operation was open, and is closed.
+    TimedOut,
+    /// No operation of this number is open.
+    NoSuchOp,
 }
 
 impl Reply {
     ghost use Rattle.std.specs.Prelude.{◌≡◌, if◌then◌else◌, IfOk};
     ghost use Rattle.rd_model.specs.Node.{Reply as Meant};
     ghost use Rattle.rd_node.specs.Replies.{meant};
-    ghost use Rattle.rd_node.specs.Outputs.{failed};
+    ghost use Rattle.rd_node.specs.Outputs.{failed, is_pending};
 
     /// An equal reply.
     pub fn copy(&self, alloc: Global) -> Result<Reply, Memory>
@@ -62,10 +74,12 @@ impl Reply {
     {
         match self {
             Reply::Done => Ok(Reply::Done),
+            Reply::Pending(op) => Ok(Reply::Pending(*op)),
             Reply::Value(shown) => Ok(Reply::Value(copy_shown(alloc, shown)?)),
             Reply::NotFound => Ok(Reply::NotFound),
             Reply::UnknownKey => Ok(Reply::UnknownKey),
             Reply::WrongKind => Ok(Reply::WrongKind),
+            Reply::TooFew => Ok(Reply::TooFew),
             Reply::Overflow { share, amount } => Ok(Reply::Overflow {
                 share: *share,
                 amount: *amount,
@@ -85,7 +99,16 @@ impl Reply {
                 Ok(Reply::TickedStoreFailed(copy_outcomes(alloc, outcomes)?))
             }
             Reply::NotLeader(id) => Ok(Reply::NotLeader(*id)),
+            Reply::TimedOut => Ok(Reply::TimedOut),
+            Reply::NoSuchOp => Ok(Reply::NoSuchOp),
         }
+    }
+
+    /// Whether an operation was opened.
+    fn is_pending(&self) -> bool
+        ensures { result ≡ is_pending self.now }
+    {
+        matches!(self, Reply::Pending(_))
     }
 
     /// What is replied where the store failed.
@@ -141,34 +164,45 @@ impl From<Memory> for StepError {
     }
 }
 
-/// What a member answers: a reply, and messages where there is something to tell.
+/// What a member answers: a reply, messages where there is something to tell, and the operation that ended by the step.
 #[derive(Drop)]
 pub struct Output<T: Replica> {
     pub reply: Reply,
     pub posts: Posts<T>,
+    pub finished: Option<Finished>,
 }
 
 impl<T: Replica> Output<T> {
-    ghost use Rattle.std.specs.Prelude.{◌≡◌, [], IfOk};
-    ghost use Rattle.rd_node.specs.Outputs.{failed, after_fate};
+    ghost use Rattle.std.specs.Prelude.{◌≡◌, [], None, IfOk};
+    ghost use Rattle.rd_node.specs.Outputs.{failed, failed_output, after_fate};
 
     /// A reply alone.
     pub(crate) fn told(alloc: Global, reply: Reply) -> Output<T>
-        ensures { result ≡ record { reply = reply; posts = [] } }
+        ensures { result ≡ record { reply = reply; posts = []; finished = None } }
     {
         Output {
             reply,
             posts: Items::new(alloc),
+            finished: None,
         }
     }
 
-    /// What is answered where the store failed: the messages are the same.
+    /// What is answered where the store failed. An operation that was to be opened asks nobody, and a write is not
+    /// acknowledged.
     fn fail(self) -> Output<T>
-        ensures { result ≡ record self { reply = failed self.reply } }
+        ensures { result ≡ failed_output self }
     {
+        if self.reply.is_pending() {
+            return Output {
+                reply: Reply::StoreFailed,
+                posts: silenced(self.posts),
+                finished: self.finished,
+            };
+        }
         Output {
             reply: self.reply.failed(),
-            posts: self.posts,
+            posts: refused_posts(self.posts),
+            finished: self.finished,
         }
     }
 
@@ -195,6 +229,48 @@ impl<T: Replica> Output<T> {
             })?;
         }
         let reply = self.reply.copy(alloc)?;
-        Ok(Output { reply, posts })
+        let finished = copy_finished(alloc, &self.finished)?;
+        Ok(Output {
+            reply,
+            posts,
+            finished,
+        })
     }
+}
+
+/// No message in place of these.
+fn silenced<T: Replica>(posts: Posts<T>) -> Posts<T>
+    ensures { result ≡ [] }
+{
+    let mut posts = posts.into_vec();
+    posts.clear();
+    Items::from_vec(posts)
+}
+
+/// An acknowledgement of a write becomes its refusal; other messages stay.
+fn refuse<T: Replica>(post: &mut Post<T>)
+    ensures { post.new ≡ refused_post post.old }
+{
+    if let Message::WriteAck { op } = &post.message {
+        let op = *op;
+        post.message = Message::WriteNack { op };
+    }
+}
+
+/// The same of each message.
+fn refuse_all<T: Replica>(posts: &mut [Post<T>])
+    ensures { posts.new ≡ map refused_post posts.old }
+{
+    for post in posts.iter_mut() {
+        refuse(post);
+    }
+}
+
+/// The messages, each acknowledgement of a write in them as its refusal.
+fn refused_posts<T: Replica>(posts: Posts<T>) -> Posts<T>
+    ensures { result ≡ map refused_post posts }
+{
+    let mut posts = posts.into_vec();
+    refuse_all(posts.as_mut_slice());
+    Items::from_vec(posts)
 }

@@ -1,4 +1,4 @@
-ghost use Rattle.std.specs.Prelude.{◌≡◌, ◌≤◌, ℕ, false, List, length, map, vec_len, IfOk};
+ghost use Rattle.std.specs.Prelude.{◌≡◌, ◌≤◌, ℕ, true, false, List, length, map, vec_len, None, IfOk};
 ghost use Rattle.rd_history.specs.Texts.{Text as Name};
 ghost use Rattle.rd_history.specs.History.{History};
 ghost use Rattle.rd_model.specs.Entry.{Entry};
@@ -12,7 +12,8 @@ ghost use Rattle.rd_node.specs.Keys.{declared_by};
 ghost use Rattle.rd_node.specs.Changes.{AreMade};
 ghost use Rattle.rd_node.specs.Inputs.{StandsForTaken};
 ghost use Rattle.rd_node.specs.Taking.{IsKept, AreHeld, AreHeldBy, AreExactAt};
-ghost use Rattle.rd_node.specs.Answers.{is_status, IsTaken};
+ghost use Rattle.rd_node.specs.Answers.{is_status, is_exchange, IsTaken};
+ghost use Rattle.rd_node.specs.Outputs.{is_pending};
 
 use crate::answering::{answers, named, reply};
 use crate::change::{Change, unchanged};
@@ -44,6 +45,8 @@ fn compared<T: SpelledData>(
 ) -> Result<MessageTaken<T>, Memory>
     ensures counted { IfOk result (λ taken. vec_len taken.changes ≡ length keys.now) }
     ensures few { IfOk result (λ taken. length taken.output.posts ≤ 2) }
+    ensures opens_none { IfOk result (λ taken. is_pending taken.output.reply ≡ false) }
+    ensures ends_none { IfOk result (λ taken. taken.output.finished ≡ None) }
     ensures kept { IfOk result (λ taken. AreMade (IsKept T.kind_of id) keys.now taken.changes.items) }
     ensures image { (kinds : Name → T.Kind) (logs : Name → History T.Op) (node : Member T.Kind T.Op Shown)
         → AreHeld T.kind_of T.IsDataOf kinds logs id keys.now node.entries → node.keys ≡ map declared_by keys.now
@@ -53,7 +56,11 @@ fn compared<T: SpelledData>(
     let changes = unchanged(alloc, keys)?;
     let posts = answer(alloc, keys, from, digests)?;
     let reply = Reply::Taken;
-    let output = Output { reply, posts };
+    let output = Output {
+        reply,
+        posts,
+        finished: None,
+    };
     Ok(MessageTaken { changes, output })
 }
 
@@ -68,9 +75,11 @@ fn brought<T: Replica>(
 ) -> Result<MessageTaken<T>, Memory>
     ensures counted { IfOk result (λ taken. vec_len taken.changes ≡ length keys.now) }
     ensures few { IfOk result (λ taken. length taken.output.posts ≤ 2) }
+    ensures opens_none { IfOk result (λ taken. is_pending taken.output.reply ≡ false) }
+    ensures ends_none { IfOk result (λ taken. taken.output.finished ≡ None) }
     ensures kept { IfOk result (λ taken. AreMade (IsKept T.kind_of id) keys.now taken.changes.items) }
     ensures image { (digest : T.Kind → Entry T.Op → List ℕ) (kinds : Name → T.Kind) (logs : Name → History T.Op) (node : Member T.Kind T.Op Shown) (sent : Sent T.Op)
-        → AreHeldBy T.kind_of T.IsDataOf kinds logs id keys.now view node → StandsForTaken kinds logs keys.now message.now sent → is_status message.now ≡ false
+        → AreHeldBy T.kind_of T.IsDataOf kinds logs id keys.now view node → StandsForTaken kinds logs keys.now message.now sent → is_status message.now ≡ false → is_exchange message.now ≡ true
         → AreExactAt keys.now (step.step_of_take (delta_groups T.data_type digest) node from Fate.NoStore sent).node.entries
         → IfOk result (IsTaken T.kind_of T.IsDataOf kinds logs keys.now node (step.step_of_take (delta_groups T.data_type digest) node from Fate.NoStore sent)) }
 {
@@ -88,7 +97,11 @@ fn brought<T: Replica>(
     let changed = any_changed(keys, &changes);
     let reply = reply(message, gaps.as_slice(), changed);
     let posts = answers(alloc, from, gaps.as_slice(), entries)?;
-    let output = Output { reply, posts };
+    let output = Output {
+        reply,
+        posts,
+        finished: None,
+    };
     Ok(MessageTaken { changes, output })
 }
 
@@ -103,9 +116,11 @@ pub(crate) fn taken<T: SpelledData>(
 ) -> Result<MessageTaken<T>, Memory>
     ensures counted { IfOk result (λ taken. vec_len taken.changes ≡ length keys.now) }
     ensures few { IfOk result (λ taken. length taken.output.posts ≤ 2) }
+    ensures opens_none { IfOk result (λ taken. is_pending taken.output.reply ≡ false) }
+    ensures ends_none { IfOk result (λ taken. taken.output.finished ≡ None) }
     ensures kept { IfOk result (λ taken. AreMade (IsKept T.kind_of id) keys.now taken.changes.items) }
     ensures image { (kinds : Name → T.Kind) (logs : Name → History T.Op) (node : Member T.Kind T.Op Shown) (sent : Sent T.Op)
-        → AreHeldBy T.kind_of T.IsDataOf kinds logs id keys.now view node → StandsForTaken kinds logs keys.now message.now sent
+        → AreHeldBy T.kind_of T.IsDataOf kinds logs id keys.now view node → StandsForTaken kinds logs keys.now message.now sent → is_exchange message.now ≡ true
         → AreExactAt keys.now (step.step_of_take (spelled_groups T.data_type T.byte_of T.history_spelled) node from Fate.NoStore sent).node.entries
         → IfOk result (IsTaken T.kind_of T.IsDataOf kinds logs keys.now node (step.step_of_take (spelled_groups T.data_type T.byte_of T.history_spelled) node from Fate.NoStore sent)) }
 {

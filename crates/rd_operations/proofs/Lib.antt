@@ -15,3 +15,8 @@ pub mod Opening
 pub mod TwoRounds
 pub mod RoundsOfScripts
 pub mod SmallRuns
+pub mod ScriptLines
+pub mod ScriptMoments
+pub mod KeptViews
+pub mod StayingFinished
+pub mod QuorumOfScripts

@@ -24,7 +24,7 @@ use Rattle.rd_model.proofs.Cases.{with_judged, with_taken_group, counted_for, ac
 use Rattle.rd_runs.proofs.Keeping.{if_holds, if_tells, fold_all, same_text}
 use Rattle.rd_runs.proofs.Sending.{all_filtered, all_mapped_by}
 use Rattle.rd_runs.proofs.Happening.{all_of, of_all}
-use Rattle.rd_operations.proofs.Lists.{in_filtered, in_mapped, find_in, in_any, first_true, second_true, not_true, same_number}
+use Rattle.rd_operations.proofs.Lists.{in_end, in_filtered, in_mapped, find_in, in_any, first_true, second_true, not_true, same_number}
 
 -- LISTS
 
@@ -101,6 +101,7 @@ module _ {Kind Op Shown : Type 0} (D : Replication Kind Op Shown) where
     pub operations : (p : OpenOperation) → IsIn s.node.open_operations p → OpenAfter node s.node input p
     pub finished : (f : Finished Shown) → IsIn s.node.finished f → FinishedAfter node s.node input f
     pub ended : (f : Finished Shown) → s.output.ended ≡ Some f → EndsBy node s.node input f
+    pub listed : (f : Finished Shown) → s.output.ended ≡ Some f → IsIn s.node.finished f
     pub posts : AllByRecursion (PostTells node s.node input) s.output.posts
 
   same_ops : (node : Node Kind Op Shown) → SameOperations node node
@@ -115,6 +116,7 @@ module _ {Kind Op Shown : Type 0} (D : Replication Kind Op Shown) where
         operations = λ p h. Stays (subst (λ (os : List OpenOperation). IsIn os p) same.operations h);
         finished = λ f h. WasFinished (subst (λ (fs : List (Finished Shown)). IsIn fs f) same.finished h);
         ended = λ f e. absurd (let g = sym ended ∙ e in cc g);
+        listed = λ f e. absurd (let g = sym ended ∙ e in cc g);
         posts = posts;
       }
 
@@ -133,6 +135,7 @@ module _ {Kind Op Shown : Type 0} (D : Replication Kind Op Shown) where
         ];
         finished = λ f h. WasFinished h;
         ended = λ f e. absurd (cc e);
+        listed = λ f e. absurd (cc e);
         posts = all_mapped_by (λ t. is_member node.view t ≡ true) _ (λ t. record { to = t; message = message }) (λ t m. record { member = m; tells = tells t }) (others node.view node.identity) (others_are_members node.view node.identity);
       }
     where
@@ -211,6 +214,7 @@ module _ {Kind Op Shown : Type 0} (D : Replication Kind Op Shown) where
             | inr new ↦ EndedNow (subst (λ (g : Finished Shown). EndsBy node after input g) (only f new) by)
           ];
           ended = λ f e. let g : record { op = operation.op; result = result_of D s.node operation } ≡ f = cc e in subst (λ (g : Finished Shown). EndsBy node after input g) g by;
+          listed = λ f e. let g : record { op = operation.op; result = result_of D s.node operation } ≡ f = cc e in subst (IsIn after.finished) g (in_end s.node.finished (record { op = operation.op; result = result_of D s.node operation }));
           posts = subst (AllByRecursion (PostTells node after input)) (sym posts) tt;
         })
         (λ few. record {
@@ -221,6 +225,7 @@ module _ {Kind Op Shown : Type 0} (D : Replication Kind Op Shown) where
               by_test m.0 p (m.0.op == operation.op) m.1 m.2;
           finished = λ f h. WasFinished (subst (λ (fs : List (Finished Shown)). IsIn fs f) same.finished h);
           ended = λ f e. absurd (let g = sym ended ∙ e in cc g);
+          listed = λ f e. absurd (let g = sym ended ∙ e in cc g);
           posts = subst (AllByRecursion (PostTells node _ input)) (sym posts) tt;
         })
       where
@@ -345,6 +350,7 @@ module _ {Kind Op Shown : Type 0} (D : Replication Kind Op Shown) where
         operations = λ p h. Stays (in_filtered (λ (o : OpenOperation). not (o.op == op)) node.open_operations p h);
         finished = λ f h. WasFinished h;
         ended = λ f e. absurd (cc e);
+        listed = λ f e. absurd (cc e);
         posts = tt;
       })
       (still node (Timeout op) _)
@@ -357,12 +363,13 @@ module _ {Kind Op Shown : Type 0} (D : Replication Kind Op Shown) where
     pub operations : (p : OpenOperation) → IsIn s.node.open_operations p → OpenAfter node s.node input p
     pub finished : (f : Finished Shown) → IsIn s.node.finished f → FinishedAfter node s.node input f
     pub ended : (f : Finished Shown) → s.output.ended ≡ Some f → EndsBy node s.node input f
+    pub listed : (f : Finished Shown) → s.output.ended ≡ Some f → IsIn s.node.finished f
     pub posts : AllByRecursion (PostTells node s.node input) s.output.posts
 
   pub step_tells : (node : Node Kind Op Shown) (input : Input Op) (fate : Fate) → Telling node input (step D node input fate)
   step_tells node input fate =
       let t = tells_step_of (one_step_later node) input fate in
-      record { steps = t.steps; change = from_change t.change; grows = t.grows; operations = λ p h. from_open p (t.operations p h); finished = λ f h. from_finished f (t.finished f h); ended = λ f e. from_ended f (t.ended f e); posts = all_of (PostTells node (step D node input fate).node input) (step D node input fate).output.posts (λ post m. from_post post (of_all (PostTells (one_step_later node) (step D node input fate).node input) (step D node input fate).output.posts post t.posts m)) }
+      record { steps = t.steps; change = from_change t.change; grows = t.grows; operations = λ p h. from_open p (t.operations p h); finished = λ f h. from_finished f (t.finished f h); ended = λ f e. from_ended f (t.ended f e); listed = t.listed; posts = all_of (PostTells node (step D node input fate).node input) (step D node input fate).output.posts (λ post m. from_post post (of_all (PostTells (one_step_later node) (step D node input fate).node input) (step D node input fate).output.posts post t.posts m)) }
     where
       from_counts : (from : ℕ) (o : OpenOperation) → Counts (one_step_later node) input from o → Counts node input from o
       from_counts from o c = record { stood = c.stood; member = c.member; answer = c.answer }

@@ -1,16 +1,19 @@
--- Two members, a majority write and a majority read, by hand: the premises of the two theorems are met.
+-- Two members, a majority write and a majority read, by hand: the premises of the theorems are met.
 use Rattle.std.proofs.Common.{◌≡◌, ℕ, ◌<◌, ◌∷◌, [], refl, sym, ap, arith, Bool, true, false, Some, None}
-use Rattle.std.specs.Prelude.{nat_lt, ◌==◌, if◌then◌else◌, IsFalse}
+use Rattle.std.specs.Prelude.{nat_lt, ◌==◌, if◌then◌else◌, IsFalse, List, slice_get}
 use Rattle.rd_model.specs.View.{first_view}
 use Rattle.rd_model.specs.Message.Message.{Write, WriteAck, Read}
 use Rattle.rd_model.specs.Node.{Node}
 use Rattle.rd_model.specs.Node.Fate.{NoStore}
 use Rattle.rd_model.specs.World.{World, start, loaded_node, no_entries, happens, IsLawful}
 use Rattle.rd_model.specs.World.Event.{Delivery}
-use Rattle.rd_model.specs.Script.{Playing, none_fails}
+use Rattle.rd_model.specs.Script.{Playing, Told, none_fails, opening, lines_of}
+use Rattle.rd_model.specs.Script.Head.{RoundHead}
+use Rattle.rd_model.specs.Script.Answer.{Nothing}
 use Rattle.rd_operations.specs.Quorum.{AllInstalled, HasSucceeded, write_event, read_event}
 use Rattle.rd_operations.specs.Finishing.{IsRound, HaveRoom}
-use Rattle.rd_operations.specs.Borders.{small, small_keys, the_key, written_and_read, QuorumPremises, FinishingPremises}
+use Rattle.rd_operations.specs.Scripts.{TellsLine, SuccessIsTold}
+use Rattle.rd_operations.specs.Borders.{small, small_keys, the_key, written_and_read, QuorumPremises, FinishingPremises, small_script, ScriptPremises}
 
 abbrev SmallWorld : Type 0
 SmallWorld = World (Unit {0}) (Unit {0}) ℕ
@@ -107,4 +110,29 @@ finishing_premises =
       is_last_round = last_round;
       undisturbed = (tt, (tt, tt), tt, (tt, tt));
       have_room = room;
+    }
+
+-- what the steps of the script tell
+abbrev lines_told : ℕ → List (Told (Unit {0}) ℕ)
+lines_told n = elim (slice_get (lines_of small (opening none_fails 2 small_keys) small_script) n) [ None ↦ [] | Some lines ↦ lines ]
+
+abbrev line_told : ℕ → Told (Unit {0}) ℕ
+line_told n = elim (slice_get (lines_told n) 0) [ None ↦ record { head = RoundHead; answer = Nothing; posts = []; ended = None } | Some line ↦ line ]
+
+first_told : TellsLine small none_fails 2 small_keys small_script 0 (line_told 0)
+first_told = (lines_told 0, 0, refl, refl)
+
+third_told : TellsLine small none_fails 2 small_keys small_script 2 (line_told 2)
+third_told = (lines_told 2, 0, refl, refl)
+
+pub script_premises : ScriptPremises
+script_premises =
+    record {
+      updates = refl;
+      gets = refl;
+      in_order = omega arith;
+      installed = all_installed;
+      unchanged = refl;
+      succeeded = SuccessIsTold.Afterwards 0 2 (line_told 0) (line_told 2) (first_told, refl) (omega arith) (omega arith)
+          (record { told = third_told; from = 1; index = 0; message = Some (WriteAck 0); delivered = refl; ended = refl });
     }

@@ -1,4 +1,4 @@
--- Small runs at the borders of the two theorems.
+-- Small runs at the borders of the theorems.
 use Rattle.std.specs.Prelude.{◌≡◌, ℕ, List, [], ◌∷◌, flat_map, map, true, false, Option, None, Some}
 use Rattle.rd_history.specs.Texts.{Text}
 use Rattle.rd_history.specs.History.{at}
@@ -14,6 +14,7 @@ use Rattle.rd_model.specs.Script.Answer.{Replied, NewIdentity}
 use Rattle.rd_model.specs.Script.ScriptStep.{Update, Get, Deliver, Join, Install}
 use Rattle.rd_operations.specs.Quorum.{WriteThenRead, IsUnchanged}
 use Rattle.rd_operations.specs.Finishing.{TwoRounds, IsUndisturbed}
+use Rattle.rd_operations.specs.Scripts.{UpdateThenGet, IsUnchangedUntil}
 
 -- one key, which shows how many records of member 0 it has
 abbrev pub small : Replication (Unit {0}) (Unit {0}) ℕ
@@ -109,3 +110,13 @@ written_in_two_rounds =
 
 abbrev pub FinishingPremises : Type 0
 FinishingPremises = IsUndisturbed small 2 small_keys written_in_two_rounds 0
+
+-- a script whose second member reads what the first one wrote
+abbrev pub small_script : List (ScriptStep (Unit {0}))
+small_script = write_at 0 0 ∷ next 0 1 ∷ next 1 0 ∷ read_at 1 3 ∷ next 1 0 ∷ next 0 1 ∷ []
+
+abbrev pub updated_and_got : UpdateThenGet (Unit {0})
+updated_and_got = record { update = 0; writer = 0; key = the_key; operation = tt; cap = 0; get = 3; reader = 1; read_cap = 3 }
+
+abbrev pub ScriptPremises : Type 0
+ScriptPremises = IsUnchangedUntil small none_fails 2 small_keys small_script updated_and_got 5

@@ -1,3 +1,4 @@
 pub mod Quorum
 pub mod Finishing
 pub mod Borders
+pub mod Scripts

@@ -5,4 +5,4 @@ mod borders;
 mod laws;
 
 pub use borders::borders_of_quorums;
-pub use laws::{operations_finish, quorum_theorem};
+pub use laws::{operations_finish, quorum_theorem, quorum_theorem_of_scripts};

@@ -1,6 +1,7 @@
 -- A script's run over keepers, from what the world's calls say of it.
 use Rattle.std.proofs.Common.{◌≡◌, ℕ, zero, suc, ◌+◌, ◌<◌, ◌≤◌, List, [], ◌∷◌, length, map, get_or, refl, sym, ap, subst, ◌∙◌, arith, Bool, true, false, Option, Some, None, inl, inr, ◌⊎◌, Ok, Err, Vec, String, Global, string_bytes, append-nil}
 use Rattle.std.specs.Prelude.{Result, MatchResult, All, Any, IsSome, if◌then◌else◌, nat_lt, slice_get}
+use Rattle.std.specs.List.{AllByRecursion}
 use Rattle.std.proofs.lemmas.Bool.{cases_lt}
 use Rattle.std.proofs.lemmas.Bool.Decides.{nat_tests}
 use Rattle.std.proofs.lemmas.Option.{get_or_from_slice_get, slice_get-get_or}
@@ -9,7 +10,7 @@ use Rattle.rd_history.specs.History.{History}
 use Rattle.rd_history.proofs.PruneLaws.{IsIn}
 use Rattle.rd_model.specs.DataType.{DataType}
 use Rattle.rd_model.specs.Node as model
-use Rattle.rd_model.specs.Script.{Playing, KeeperAnswers, opening, answers_between}
+use Rattle.rd_model.specs.Script.{Playing, KeeperAnswers, IsStep, opening, answers_between}
 use Rattle.rd_runs.proofs.AgreementOverRuns.{logs_throughout}
 use Rattle.rd_kinds.specs.declared.kind.Kind.{Kind}
 use Rattle.rd_kinds.specs.declared.operation.Op.{Op}
@@ -30,7 +31,11 @@ use Rattle.rd_world.proofs.Unkept.{not_called}
 use Rattle.rd_world.specs.Standing.{TellsStore}
 use Rattle.rd_world.specs.Steps.{Starts}
 use Rattle.rd_world.specs.Ways.{Means}
-use Rattle.rd_report.specs.Run.{decl_of, in_order, ending, beginning, IsReport}
+use Rattle.rd_operations.proofs.QuorumOfScripts.{gets_include}
+use Rattle.rd_script.specs.declared.script.Step.{Step}
+use Rattle.rd_script.specs.declared.script.Step.TheVariants as form
+use Rattle.rd_script.specs.WellFormed as script_rules
+use Rattle.rd_report.specs.Run.{decl_of, in_order, step_of, ending, beginning, IsReport}
 use Rattle.rd_report.specs.Kept.{answers_by, HoldsStore, LoadWhatTheyTook, IsWholeRun, IsRunOver, IsPlayed}
 use Rattle.rd_report.specs.declared.playing.Ending.{Ending}
 use Rattle.rd_report.specs.declared.playing.Ending.TheVariants.{Told, NotCleared, Memory}
@@ -56,6 +61,28 @@ below (y ∷ xs) (suc k) x e = let less = below xs k x e in omega (arith, less)
 -- an item of a list with something for each item
 each_in : {X : Type 0} (P : X → Type 0) (xs : List X) → All P xs → (x : X) → IsIn xs x → P x
 each_in P xs all x m = subst P (get_or_from_slice_get xs m.0 x x m.1) (all m.0 x (below xs m.0 x m.1))
+
+-- STEPS
+
+-- the steps of a script are steps of the model
+model_step : (step : Step) → script_rules.IsStep step → IsStep (step_of step)
+model_step (form.Update at key op level) ok = tt
+model_step (form.Get at key level) ok = tt
+model_step (form.Flush at) ok = tt
+model_step (form.Gossip at to) ok = tt
+model_step (form.Deliver from to index) ok = tt
+model_step (form.Lose from to) ok = tt
+model_step form.Round ok = tt
+model_step (form.Tick at) ok = tt
+model_step (form.Timeout at op) ok = tt
+model_step (form.Remove id) ok = tt
+model_step (form.Join place) ok = ok
+model_step (form.Restart id) ok = tt
+model_step (form.Install at view) ok = tt
+
+pub model_steps : (steps : List Step) → All script_rules.IsStep steps → AllByRecursion IsStep (map step_of steps)
+model_steps [] all = tt
+model_steps (step ∷ steps) all = (model_step step (all zero step (omega arith)), model_steps steps (λ k d less. all (suc k) d (omega arith)))
 
 -- THE KEEPERS
 
@@ -100,7 +127,7 @@ module _ {T K Kind Op Delta : Type 0} {ghosts : Ghosts T Kind Op Delta} {keeping
 -- THE RUN
 
 module _ {T K Delta : Type 0} {ghosts : Ghosts T Kind Op Delta} {keeping : Keeping K} (spelling : Spelling T Kind Op Delta) (script : Script) (keys : List (KeyDecl T Kind Op Delta)) (old : List K) (first : World T K Kind Op Delta ghosts keeping)
-    (eight : length old ≡ 8) (made : map declared keys ≡ map decl_of (in_order script.keys)) (apart : AreDistinct (map (λ (d : KeyDecl T Kind Op Delta). d.key) keys)) (starts : Starts spelling script.members keys old first) where
+    (eight : length old ≡ 8) (made : map declared keys ≡ map decl_of (in_order script.keys)) (apart : AreDistinct (map (λ (d : KeyDecl T Kind Op Delta). d.key) keys)) (starts : Starts spelling script.members keys old first) (within : AllByRecursion IsStep (map step_of script.steps)) where
   -- kept from the start on
   pub kept_from : (xs : List Bool) (place : ℕ) (keeper : K) (o : Option K) → slice_get old place ≡ Some keeper → KeepsAt keeping xs (keeper_of first.nodes.items first.spare.items place) o → KeepsAt keeping (true ∷ xs) (Some keeper) o
   kept_from xs place keeper o is kept = kept_further keeping (true ∷ []) xs (Some keeper) (keeper_of first.nodes.items first.spare.items place) o (starts.kept place keeper is) kept
@@ -232,6 +259,7 @@ module _ {T K Delta : Type 0} {ghosts : Ghosts T Kind Op Delta} {keeping : Keepi
         whole_so = record {
           reported = reported_so;
           called = called_so;
+          majorities = gets_include (replication ghosts spelling) answers script.members decls (map step_of script.steps) follows.means.run.some follows.means.run.few within;
           stored = record { count = kept_so.count; each = λ place before after was is. stored_so place after is };
           unfailing = λ stays. subst (λ (a : KeeperAnswers). IsReport ghosts.data_type spelling.byte_of spelling.history_spelled a script text) (none_failed keeping whole_given old new kept_so others_so stays) reported_so;
         }

@@ -6,13 +6,14 @@ use Rattle.rd_history.specs.Table.{identity_limit}
 use Rattle.rd_model.specs.View.{View, is_member, is_taken, place_of}
 use Rattle.rd_model.specs.DataType.{Replication}
 use Rattle.rd_model.specs.Message.{Message}
-use Rattle.rd_model.specs.Node.{Fate, Input, Level}
+use Rattle.rd_model.specs.Node.{Fate, Input}
 use Rattle.rd_model.specs.Node.Fate.{NoStore, Stored, StoreFailed}
 use Rattle.rd_model.specs.Step.{is_full}
 use Rattle.rd_model.specs.World.{Event, Turn, turn_of, output_of, message_at, stores, views_of}
 use Rattle.rd_model.specs.Script.{KeeperAnswers, Playing, Head, Answer, Due, did, told, with_call, next_answer, output_lines, take_turn, given, deliver, deliver_due, due_now, round_of, lose, remove, called, join, restart, install, played, played_all}
 use Rattle.rd_runs.proofs.Keeping.{if_holds, fold_all}
 use Rattle.rd_kinds.specs.declared.operation.Op.{Op}
+use Rattle.rd_quorum.specs.Levels.{level_meant}
 use Rattle.rd_script.specs.declared.script.Step.{Step}
 use Rattle.rd_script.specs.declared.script.Step.TheVariants as form
 use Rattle.rd_world.specs.Steps.{step_of}
@@ -76,8 +77,8 @@ module _ {Kind Shown : Type 0} (D : Replication Kind Op Shown) (answers : Keeper
       by_view (Some view) = given_has p (Head.InstallHead i number) (Event.InputAt i (Input.Install view)) has
 
   step_has : (p : Playing Kind Op Shown) (step : Step) → Has p → Has (played D p (step_of step))
-  step_has p (form.Update at key op) has = given_has p (Head.UpdateHead at key) (Event.InputAt at (Input.Update key op Level.Local)) has
-  step_has p (form.Get at key) has = given_has p (Head.GetHead at key) (Event.InputAt at (Input.Get key Level.Local)) has
+  step_has p (form.Update at key op level) has = given_has p (Head.UpdateHead at key) (Event.InputAt at (Input.Update key op (level_meant level))) has
+  step_has p (form.Get at key level) has = given_has p (Head.GetHead at key) (Event.InputAt at (Input.Get key (level_meant level))) has
   step_has p (form.Flush at) has = given_has p (Head.FlushHead at) (Event.InputAt at Input.Flush) has
   step_has p (form.Gossip at to) has = given_has p (Head.GossipHead at to) (Event.InputAt at (Input.GossipTo to)) has
   step_has p (form.Deliver from to None) has = deliver_has p from to (p.world.links from to).next has
@@ -85,6 +86,7 @@ module _ {Kind Shown : Type 0} (D : Replication Kind Op Shown) (answers : Keeper
   step_has p (form.Lose from to) has = lose_has p from to has
   step_has p form.Round has = round_has p (due_now D p) has
   step_has p (form.Tick at) has = given_has p (Head.TickHead at) (Event.InputAt at Input.PruneTick) has
+  step_has p (form.Timeout at op) has = given_has p (Head.TimeoutHead at op) (Event.InputAt at (Input.Timeout op)) has
   step_has p (form.Remove id) has = remove_has p id has
   step_has p (form.Join place) has = join_has p place has
   step_has p (form.Restart id) has = restart_has p id has

@@ -106,28 +106,30 @@ silent D p (step ∷ steps) h = silent D (after D p step) steps refl
 
 module _ {T K Delta : Type 0} {ghosts : Ghosts T Kind Op Delta} {keeping : Keeping K} where
   loads_told : (spelling : Spelling T Kind Op Delta) (step : Step) (world : World T K Kind Op Delta ghosts keeping) → AllTell world → LoadsWhatItTook spelling step world
-  loads_told spelling (form.Update at key op) world tell = tt
-  loads_told spelling (form.Get at key) world tell = tt
+  loads_told spelling (form.Update at key op level) world tell = tt
+  loads_told spelling (form.Get at key level) world tell = tt
   loads_told spelling (form.Flush at) world tell = tt
   loads_told spelling (form.Gossip at to) world tell = tt
   loads_told spelling (form.Deliver from to index) world tell = tt
   loads_told spelling (form.Lose from to) world tell = tt
   loads_told spelling form.Round world tell = tt
   loads_told spelling (form.Tick at) world tell = tt
+  loads_told spelling (form.Timeout at op) world tell = tt
   loads_told spelling (form.Remove id) world tell = tt
   loads_told spelling (form.Join place) world tell = tt
   loads_told spelling (form.Restart id) world tell = tell (place_of (last_view world.views) id)
   loads_told spelling (form.Install at view) world tell = tt
 
   loads_nothing : (spelling : Spelling T Kind Op Delta) (step : Step) (world : World T K Kind Op Delta ghosts keeping) → IsNoRestart step → LoadsWhatItTook spelling step world
-  loads_nothing spelling (form.Update at key op) world calm = tt
-  loads_nothing spelling (form.Get at key) world calm = tt
+  loads_nothing spelling (form.Update at key op level) world calm = tt
+  loads_nothing spelling (form.Get at key level) world calm = tt
   loads_nothing spelling (form.Flush at) world calm = tt
   loads_nothing spelling (form.Gossip at to) world calm = tt
   loads_nothing spelling (form.Deliver from to index) world calm = tt
   loads_nothing spelling (form.Lose from to) world calm = tt
   loads_nothing spelling form.Round world calm = tt
   loads_nothing spelling (form.Tick at) world calm = tt
+  loads_nothing spelling (form.Timeout at op) world calm = tt
   loads_nothing spelling (form.Remove id) world calm = tt
   loads_nothing spelling (form.Join place) world calm = tt
   loads_nothing spelling (form.Restart id) world calm = absurd (cc calm)

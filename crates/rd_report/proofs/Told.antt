@@ -7,13 +7,16 @@ use Rattle.std.proofs.lemmas.Grind.{flat_map-append}
 use Rattle.rd_history.specs.Texts.{Text}
 use Rattle.rd_model.specs.DataType.{Replication}
 use Rattle.rd_model.specs.Message as model
+use Rattle.rd_model.specs.Node as nodes
 use Rattle.rd_model.specs.Script as script
 use Rattle.rd_model.specs.Script.{Told}
 use Rattle.rd_model.specs.Report as report
 use Rattle.rd_model.specs.Report.{words, line_of, message_text, post_words, told_text, link_text, key_outcome_text}
 use Rattle.rd_kinds.specs.ShownText.{shown_text}
 use Rattle.rd_kinds.specs.declared.shown.Shown.{Shown}
+use Rattle.rd_node.specs.declared.operation.Finished.{Finished}
 use Rattle.rd_node.specs.declared.outcome.KeyOutcome.{KeyOutcome}
+use Rattle.rd_node.specs.Operations.{result_meant, finished_meant}
 use Rattle.rd_node.specs.Replies.{meant_at_key}
 use Rattle.rd_world.specs.Lines.{sketched, sketched_post, IsHead, IsAnswer, IsLine}
 use Rattle.rd_world.specs.declared.event.Answer.{Answer}
@@ -21,7 +24,7 @@ use Rattle.rd_world.specs.declared.event.Answer.TheVariants as answer
 use Rattle.rd_world.specs.declared.event.Event.{Event}
 use Rattle.rd_world.specs.declared.event.Head.{Head}
 use Rattle.rd_world.specs.declared.event.Head.TheVariants as head
-use Rattle.rd_report.specs.Lines.{sketch_text, delivered_words, head_words, outcome_text, answer_text, post_text, sent_text, event_text}
+use Rattle.rd_report.specs.Lines.{sketch_text, delivered_words, head_words, outcome_text, answer_text, post_text, sent_text, finished_text, tails_text, event_text}
 
 -- WORDS
 
@@ -47,6 +50,14 @@ ticked_words end outcomes = ap (λ t. end ++ t) (outcomes_spaced outcomes) ∙ s
 
 regroup : (a b c d : Text) (x y : ℕ) → a ++ (x ∷ []) ++ b ++ (y ∷ []) ++ c ++ d ≡ a ++ ((x ∷ b) ++ ((y ∷ c) ++ d))
 regroup a b c d x y = simp append_assoc
+
+-- an operation that ended is told by three words
+finished_told : (finished : Option Finished) → finished_text finished ≡ flat_map spaced (report.ended_words shown_text (option_map finished_meant finished))
+finished_told None = refl
+finished_told (Some finished) =
+    let op = decimal finished.op in
+    let result = report.result_text shown_text (result_meant finished.result) in
+    ap (λ t. codes " finished " ++ t) (append_assoc op (codes " ") result ∙ ap (λ t. op ++ (32 ∷ t)) (sym (append-nil result)))
 
 answer_told : (a : Answer) (told : script.Answer Shown) → IsAnswer a told → answer_text a ≡ report.answer_text shown_text told
 answer_told (answer.Reply reply) told is = sym (ap (report.answer_text shown_text) is)
@@ -91,6 +102,7 @@ module _ {Op : Type 0} where
       ap (λ ws. codes "deliver" ∷ link_text from to index ∷ ws) (ap delivered_words is.2 ∙ delivered_told is.0) ∙ sym (ap report.head_words is.1)
   head_told (head.Lose from to index) told is = sym (ap report.head_words is)
   head_told head.Round told is = sym (ap report.head_words is)
+  head_told (head.Timeout at op) told is = sym (ap report.head_words is)
   head_told (head.Remove id) told is = sym (ap report.head_words is)
   head_told (head.Join place) told is = sym (ap report.head_words is)
   head_told (head.Restart id) told is = sym (ap report.head_words is)
@@ -132,17 +144,25 @@ module _ {Op : Type 0} where
       words_spaced n (report.head_words head ++ answer ∷ more)
       ∙ ap (λ t. n ++ t) (flat_map-append spaced (report.head_words head) (answer ∷ more) ∙ ap (λ t. t ++ (spaced answer ++ flat_map spaced more)) (sym (head_spaced head)))
 
+  tails_told : (event : Event) (told : Told Op Shown) → IsLine event told → tails_text event ≡ flat_map spaced (post_words told.posts ++ report.ended_words shown_text told.ended)
+  tails_told event told is =
+      let sent : sent_text event.sent ≡ flat_map spaced (post_words told.posts) = ap sent_text is.sent ∙ sent_told told.posts in
+      let finished : finished_text event.finished ≡ flat_map spaced (report.ended_words shown_text told.ended) =
+      finished_told event.finished ∙ ap (λ (ended : Option (nodes.Finished Shown)). flat_map spaced (report.ended_words shown_text ended)) (sym is.ended) in
+      ap₂ (λ (a b : Text). a ++ b) sent finished ∙ sym (flat_map-append spaced (post_words told.posts) (report.ended_words shown_text told.ended))
+
   pub event_told : {Kind : Type 0} (D : Replication Kind Op Shown) (n : ℕ) (event : Event) (told : Told Op Shown) → IsLine event told → event_text n event ≡ told_text D shown_text n told
   event_told D n event told is =
       let number = decimal n in
       let answer = report.answer_text shown_text told.answer in
-      let sent : sent_text event.sent ≡ flat_map spaced (post_words told.posts) = ap sent_text is.sent ∙ sent_told told.posts in
+      let posts = post_words told.posts in
+      let ended = report.ended_words shown_text told.ended in
       ap line_of (
-      ap₂ (λ (h : List Text) (a : Text). number ++ codes " " ++ words h ++ codes " " ++ a ++ sent_text event.sent) (head_told event.head told.head is.head) (answer_told event.answer told.answer is.answer)
-      ∙ regroup number (words (report.head_words told.head)) answer (sent_text event.sent) 32 32
-      ∙ ap (λ t. number ++ ((32 ∷ words (report.head_words told.head)) ++ (spaced answer ++ t))) sent
-      ∙ sym (line_told number told.head answer (post_words told.posts))
-      ∙ ap words (sym (append-nil ((number ∷ report.head_words told.head) ++ answer ∷ post_words told.posts)) ∙ ap (λ ended. (number ∷ report.head_words told.head) ++ answer ∷ post_words told.posts ++ report.ended_words shown_text ended) (sym is.ended)))
+      ap₂ (λ (h : List Text) (a : Text). number ++ codes " " ++ words h ++ codes " " ++ a ++ tails_text event) (head_told event.head told.head is.head) (answer_told event.answer told.answer is.answer)
+      ∙ regroup number (words (report.head_words told.head)) answer (tails_text event) 32 32
+      ∙ ap (λ t. number ++ ((32 ∷ words (report.head_words told.head)) ++ (spaced answer ++ t))) (tails_told event told is)
+      ∙ sym (line_told number told.head answer (posts ++ ended))
+      ∙ ap words (sym (append_assoc (number ∷ report.head_words told.head) (answer ∷ posts) ended)))
 
   pub lines_told : {Kind : Type 0} (D : Replication Kind Op Shown) (n : ℕ) (events : List Event) (told : List (Told Op Shown)) → AllZip IsLine events told → flat_map (event_text n) events ≡ flat_map (told_text D shown_text n) told
   lines_told D n [] [] all = refl

@@ -21,7 +21,7 @@ use Rattle.rd_script.specs.declared.script.Script.{Script}
 use Rattle.rd_script.specs.declared.script.ScriptKey.{ScriptKey}
 use Rattle.rd_report.specs.declared.playing.Ending.{Ending}
 use Rattle.rd_report.specs.declared.playing.Ending.TheVariants.{Told, NotCleared, Memory}
-use Rattle.rd_report.specs.Run.{HasNoRestart, ending, IsReport, BeginsReport}
+use Rattle.rd_report.specs.Run.{HasNoRestart, ending, IsReport, GetsIncludeUpdates, BeginsReport}
 
 -- THE KEEPERS OF THE PLACES
 
@@ -54,6 +54,8 @@ module _ (data_type : DataType Kind Op Shown) (byte_of : Kind → ℕ) (history_
     pub reported : IsReport data_type byte_of history_spelled (answers_by given) script text
     pub called : (place : ℕ) → place < 8 → length (given place) ≡ (ending data_type byte_of history_spelled (answers_by given) script).calls place
     pub stored : AtEachPlace (λ place before after. (table : Table) → keeping.table after ≡ Some table → HoldsStore byte_of history_spelled script.keys table ((ending data_type byte_of history_spelled (answers_by given) script).world.stores place)) old new
+    -- majority gets include the majority updates before them
+    pub majorities : GetsIncludeUpdates data_type byte_of history_spelled (answers_by given) script
     -- where no call failed it is a function of the script
     pub unfailing : NoneRose keeping old new → IsReport data_type byte_of history_spelled none_fails script text
 

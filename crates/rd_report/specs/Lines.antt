@@ -1,13 +1,15 @@
 -- The texts of events, as the lines of a report tell them.
 use Rattle.std.specs.Prelude.{ℕ, List, [], ◌∷◌, ◌++◌, codes, decimal, flat_map, Option, None, Some}
 use Rattle.rd_history.specs.Texts.{Text}
-use Rattle.rd_model.specs.Report.{words, slashed, link_text, line_of, reply_text, key_outcome_text}
+use Rattle.rd_model.specs.Report.{words, slashed, link_text, line_of, reply_text, result_text, key_outcome_text}
 use Rattle.rd_kinds.specs.ShownText.{shown_text}
 use Rattle.rd_messages.specs.declared.sketch.MessageKind.{MessageKind}
 use Rattle.rd_messages.specs.declared.sketch.MessageKind.TheVariants.{Deltas, Nack, Status, Gossip, Write, WriteAck, WriteNack, Read, ReadAnswer}
 use Rattle.rd_messages.specs.declared.sketch.Sketch.{Sketch}
+use Rattle.rd_node.specs.declared.operation.Finished.{Finished}
 use Rattle.rd_node.specs.declared.outcome.KeyOutcome.{KeyOutcome}
 use Rattle.rd_node.specs.Members.{meant}
+use Rattle.rd_node.specs.Operations.{result_meant}
 use Rattle.rd_node.specs.Replies.{meant_at_key}
 use Rattle.rd_world.specs.declared.event.Answer.{Answer}
 use Rattle.rd_world.specs.declared.event.Answer.TheVariants as answer
@@ -44,6 +46,7 @@ head_words (head.Gossip at to) = codes "gossip" ∷ decimal at ∷ decimal to �
 head_words (head.Deliver from to index sketch) = codes "deliver" ∷ link_text from to index ∷ delivered_words sketch
 head_words (head.Lose from to index) = codes "lose" ∷ link_text from to index ∷ []
 head_words head.Round = codes "round" ∷ []
+head_words (head.Timeout at op) = codes "timeout" ∷ decimal at ∷ decimal op ∷ []
 head_words (head.Remove id) = codes "remove" ∷ decimal id ∷ []
 head_words (head.Join place) = codes "join" ∷ decimal place ∷ []
 head_words (head.Restart id) = codes "restart" ∷ decimal id ∷ []
@@ -79,6 +82,15 @@ abbrev pub sent_text : List SentTo → Text
 sent_text [] = []
 sent_text (sent ∷ more) = codes " sent" ++ flat_map post_text (sent ∷ more)
 
+-- the operation that ended, if one did, and its result
+abbrev pub finished_text : Option Finished → Text
+finished_text None = []
+finished_text (Some finished) = codes " finished " ++ decimal finished.op ++ codes " " ++ result_text shown_text (result_meant finished.result)
+
+-- what was sent, and what ended
+abbrev pub tails_text : Event → Text
+tails_text event = sent_text event.sent ++ finished_text event.finished
+
 -- the line of an event of a step
 abbrev pub event_text : ℕ → Event → Text
-event_text n event = line_of (decimal n ++ codes " " ++ words (head_words event.head) ++ codes " " ++ answer_text event.answer ++ sent_text event.sent)
+event_text n event = line_of (decimal n ++ codes " " ++ words (head_words event.head) ++ codes " " ++ answer_text event.answer ++ tails_text event)

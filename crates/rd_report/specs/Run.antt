@@ -10,6 +10,7 @@ use Rattle.rd_kinds.specs.ShownText.{shown_text}
 use Rattle.rd_kinds.specs.declared.kind.Kind.{Kind}
 use Rattle.rd_kinds.specs.declared.operation.Op.{Op}
 use Rattle.rd_kinds.specs.declared.shown.Shown.{Shown}
+use Rattle.rd_operations.specs.Scripts.{GetsInclude}
 use Rattle.rd_node.specs.Members.{spelled_groups}
 use Rattle.rd_script.specs.declared.script.Script.{Script}
 use Rattle.rd_script.specs.declared.script.ScriptKey.{ScriptKey}
@@ -66,6 +67,10 @@ module _ (data_type : DataType Kind Op Shown) (byte_of : Kind → ℕ) (history_
   abbrev pub IsReport : KeeperAnswers → Script → List ℕ → Type 0
   IsReport answers script text =
       text ≡ report (spelled_groups data_type byte_of history_spelled) shown_text answers script.members (map decl_of (in_order script.keys)) (map step_of script.steps)
+
+  -- while membership stays unchanged, each majority get whose answer is told includes every majority update of its key whose success was told before
+  abbrev pub GetsIncludeUpdates : KeeperAnswers → Script → Type 0
+  GetsIncludeUpdates answers script = GetsInclude (spelled_groups data_type byte_of history_spelled) answers script.members (map decl_of (in_order script.keys)) (map step_of script.steps)
 
   -- the lines of the steps before the first restart
   abbrev pub first_lines : KeeperAnswers → Script → List ℕ

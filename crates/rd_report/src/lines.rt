@@ -3,10 +3,10 @@ ghost use Rattle.rd_model.specs.Report.{words, reply_text, key_outcome_text};
 ghost use Rattle.rd_kinds.specs.ShownText.{shown_text};
 ghost use Rattle.rd_node.specs.Members.{meant};
 ghost use Rattle.rd_node.specs.Replies.{meant_at_key};
-ghost use Rattle.rd_report.specs.Lines.{sketch_text, outcome_text, head_words, answer_text, sent_text, event_text};
+ghost use Rattle.rd_report.specs.Lines.{sketch_text, outcome_text, head_words, answer_text, sent_text, finished_text, tails_text, event_text};
 
 use rd_bytes::Memory;
-use rd_node::{KeyOutcome, MessageKind, Outcome, Reply, Sketch};
+use rd_node::{Finished, KeyOutcome, MessageKind, OperationResult, Outcome, Reply, Sketch};
 use rd_texts::push_shown;
 use rd_world::{Answer, Event, Head, SentTo};
 use std::alloc::Global;
@@ -57,6 +57,7 @@ fn push_head(text: &mut String, head: &Head) -> Result<(), Memory>
             write!(text, "lose {}>{} {index}", from.number(), to.number())?;
         }
         Head::Round => text.push_str("round")?,
+        Head::Timeout { at, op } => write!(text, "timeout {} {op}", at.number())?,
         Head::Remove { id } => write!(text, "remove {}", id.number())?,
         Head::Join { place } => write!(text, "join {place}")?,
         Head::Restart { id } => write!(text, "restart {}", id.number())?,
@@ -100,6 +101,7 @@ fn push_reply(alloc: Global, text: &mut String, reply: &Reply) -> Result<(), Mem
 {
     match reply {
         Reply::Done => text.push_str("done")?,
+        Reply::Pending(op) => write!(text, "pending {op}")?,
         Reply::Value(shown) => {
             text.push_str("value ")?;
             push_shown(alloc, text, shown)?;
@@ -107,6 +109,7 @@ fn push_reply(alloc: Global, text: &mut String, reply: &Reply) -> Result<(), Mem
         Reply::NotFound => text.push_str("not found")?,
         Reply::UnknownKey => text.push_str("unknown key")?,
         Reply::WrongKind => text.push_str("wrong kind")?,
+        Reply::TooFew => text.push_str("too few")?,
         Reply::Overflow { share, amount } => write!(text, "overflow {share} {amount}")?,
         Reply::ClockSpent => text.push_str("clock spent")?,
         Reply::SetFull => text.push_str("set full")?,
@@ -126,6 +129,8 @@ fn push_reply(alloc: Global, text: &mut String, reply: &Reply) -> Result<(), Mem
             push_ticked(text, "store failed", outcomes.as_slice())?;
         }
         Reply::NotLeader(leader) => write!(text, "not leader {}", leader.number())?,
+        Reply::TimedOut => text.push_str("timed out")?,
+        Reply::NoSuchOp => text.push_str("no such op")?,
     }
     Ok(())
 }
@@ -170,6 +175,37 @@ fn push_sent(text: &mut String, sent: &[SentTo]) -> Result<(), Memory>
     Ok(())
 }
 
+/// Adds the operation that ended, if one did, with its result.
+fn push_finished(
+    alloc: Global,
+    text: &mut String,
+    finished: &Option<Finished>,
+) -> Result<(), Memory>
+    ensures { OnOk result (string_bytes text.new ≡ string_bytes text.old ++ finished_text finished.now) }
+{
+    let Some(finished) = finished else {
+        return Ok(());
+    };
+    write!(text, " finished {} ", finished.op)?;
+    match &finished.result {
+        OperationResult::Wrote => text.push_str("done")?,
+        OperationResult::Read(shown) => {
+            text.push_str("value ")?;
+            push_shown(alloc, text, shown)?;
+        }
+        OperationResult::ReadNothing => text.push_str("not found")?,
+    }
+    Ok(())
+}
+
+/// Adds the messages that an event sent, and the operation that it ended.
+fn push_tails(alloc: Global, text: &mut String, event: &Event) -> Result<(), Memory>
+    ensures { OnOk result (string_bytes text.new ≡ string_bytes text.old ++ tails_text event.now) }
+{
+    push_sent(text, event.sent.as_slice())?;
+    push_finished(alloc, text, &event.finished)
+}
+
 /// Adds the line of an event of the step with this number.
 fn push_event(alloc: Global, text: &mut String, number: usize, event: &Event) -> Result<(), Memory>
     ensures { OnOk result (string_bytes text.new ≡ string_bytes text.old ++ event_text number event.now) }
@@ -178,7 +214,7 @@ fn push_event(alloc: Global, text: &mut String, number: usize, event: &Event) ->
     push_head(text, &event.head)?;
     text.push_str(" ")?;
     push_answer(alloc, text, &event.answer)?;
-    push_sent(text, event.sent.as_slice())?;
+    push_tails(alloc, text, event)?;
     text.push_str("\n")?;
     Ok(())
 }

@@ -1,5 +1,5 @@
 -- Which rules a reader tells, and that none of a script is told before another that is broken.
-use Rattle.std.proofs.Common.{◌≡◌, ℕ, zero, suc, ◌+◌, ◌<◌, ◌≤◌, List, [], ◌∷◌, ◌++◌, length, Bool, true, false, ◌&&◌, Option, None, Some, Result, Ok, Err, refl, sym, ap, subst, ◌∙◌, arith}
+use Rattle.std.proofs.Common.{◌≡◌, ℕ, zero, suc, ◌+◌, ◌≤◌, List, [], ◌∷◌, ◌++◌, length, Bool, true, false, ◌&&◌, Option, None, Some, Result, Ok, Err, refl, sym, ap, subst, arith}
 use Rattle.std.specs.Prelude.{codes, not, if◌then◌else◌, nat_le, ⊤}
 use Rattle.std.specs.List.{list_any}
 use Rattle.std.specs.Str.{bytes_eq}
@@ -15,7 +15,7 @@ use Rattle.rd_script.specs.declared.script.Step.{Step}
 use Rattle.rd_script.specs.Fields.{rule, ◌>>=◌, guard, required, within, whole_of, flag_of, text_of, if_key_name, is_key_name, key_of, if_count, array_of, list_of, has_names, are_objects}
 use Rattle.serde_json.specs.Events.{items_len}
 use Rattle.rd_script.specs.Reading.{step_of, steps_after, kind_named, kind_of, key_decl, keys_after, if_objects, step_list_of, script_of}
-use Rattle.rd_script.specs.Rules.{IsRead, HoldBelow, IsFirstBroken}
+use Rattle.rd_script.specs.Rules.{HoldBelow, IsFirstBroken}
 
 -- WHICH RULES ARE TOLD
 

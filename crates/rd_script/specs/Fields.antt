@@ -42,7 +42,7 @@ identity_of step = whole_of (rule step 7) 0 63
 abbrev pub place_of : ℕ → Option Data → Result ℕ Rule
 place_of step = whole_of (rule step 7) 0 7
 
--- the number of a view, or of a message on a link
+-- the number of a view, of a message on a link, or of an operation
 abbrev pub number_of : ℕ → Option Data → Result ℕ Rule
 number_of step = whole_of (rule step 7) 0 (2 ^ 32 - 1)
 

@@ -1,4 +1,5 @@
 pub mod Fields
+pub mod Levels
 pub mod Operations
 pub mod Reading
 pub mod Refusals

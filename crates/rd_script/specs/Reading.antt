@@ -11,8 +11,9 @@ use Rattle.rd_script.specs.declared.fault.Rule.{Rule}
 use Rattle.rd_script.specs.declared.script.Script.{Script}
 use Rattle.rd_script.specs.declared.script.ScriptKey.{ScriptKey}
 use Rattle.rd_script.specs.declared.script.Step.{Step}
-use Rattle.rd_script.specs.declared.script.Step.TheVariants.{Update, Get, Flush, Gossip, Deliver, Lose, Round, Tick, Remove, Join, Restart, Install}
+use Rattle.rd_script.specs.declared.script.Step.TheVariants.{Update, Get, Flush, Gossip, Deliver, Lose, Round, Tick, Timeout, Remove, Join, Restart, Install}
 use Rattle.rd_script.specs.Fields.{rule, ◌>>=◌, guard, required, are_objects, has_names, names_of, identity_of, place_of, number_of, if_given, flag_of, whole_of, text_of, list_of, key_of}
+use Rattle.rd_script.specs.Levels.{level_of}
 use Rattle.rd_script.specs.Operations.{op_named, update_names, op_of}
 
 -- ---- steps
@@ -22,18 +23,20 @@ unfoldable pub update_of : ℕ → Data → Result Step Rule
 update_of step d = do
   name ← text_of (rule step 5) (get (codes "op") d)
   form ← required (rule step 5) (op_named name)
-  names ← names_of step (update_names form) [] d
+  names ← names_of step (update_names form) (codes "level" ∷ []) d
   at ← identity_of step (get (codes "at") d)
   key ← key_of (rule step 8) (get (codes "key") d)
   op ← op_of step form d
-  Ok (Update at key op)
+  level ← level_of step (get (codes "level") d)
+  Ok (Update at key op level)
 
 unfoldable pub get_of : ℕ → Data → Result Step Rule
 get_of step d = do
-  names ← names_of step (codes "at" ∷ codes "do" ∷ codes "key" ∷ []) [] d
+  names ← names_of step (codes "at" ∷ codes "do" ∷ codes "key" ∷ []) (codes "level" ∷ []) d
   at ← identity_of step (get (codes "at") d)
   key ← key_of (rule step 8) (get (codes "key") d)
-  Ok (Get at key)
+  level ← level_of step (get (codes "level") d)
+  Ok (Get at key level)
 
 unfoldable pub flush_of : ℕ → Data → Result Step Rule
 flush_of step d = do
@@ -74,6 +77,13 @@ tick_of step d = do
   at ← identity_of step (get (codes "at") d)
   Ok (Tick at)
 
+unfoldable pub timeout_of : ℕ → Data → Result Step Rule
+timeout_of step d = do
+  names ← names_of step (codes "at" ∷ codes "do" ∷ codes "op" ∷ []) [] d
+  at ← identity_of step (get (codes "at") d)
+  op ← number_of step (get (codes "op") d)
+  Ok (Timeout at op)
+
 unfoldable pub remove_of : ℕ → Data → Result Step Rule
 remove_of step d = do
   names ← names_of step (codes "do" ∷ codes "id" ∷ []) [] d
@@ -110,11 +120,12 @@ step_by step d name =
     if bytes_eq name (codes "lose") then lose_of step d else (
     if bytes_eq name (codes "round") then round_of step d else (
     if bytes_eq name (codes "tick") then tick_of step d else (
+    if bytes_eq name (codes "timeout") then timeout_of step d else (
     if bytes_eq name (codes "remove") then remove_of step d else (
     if bytes_eq name (codes "join") then join_of step d else (
     if bytes_eq name (codes "restart") then restart_of step d else (
     if bytes_eq name (codes "install") then install_of step d else
-    Err (rule step 5))))))))))))
+    Err (rule step 5)))))))))))))
 
 unfoldable pub step_of : ℕ → Data → Result Step Rule
 step_of step d = text_of (rule step 5) (get (codes "do") d) >>= step_by step d

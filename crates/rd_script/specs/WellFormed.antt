@@ -1,10 +1,12 @@
 -- The bounds that every script keeps.
-use Rattle.std.specs.Prelude.{◌≡◌, ◌≢◌, ℕ, ◌-◌, ◌^◌, ◌<◌, ◌≤◌, List, length, All, AllPairs, ⊤}
+use Rattle.std.specs.Prelude.{◌≢◌, ℕ, ◌-◌, ◌^◌, ◌<◌, ◌≤◌, List, length, All, AllPairs, ⊤}
 use Rattle.rd_kinds.specs.declared.operation.Op.{Op}
 use Rattle.rd_kinds.specs.declared.operation.Op.TheVariants.{Increment, Decrement, Add, Remove, Enable, Assign}
+use Rattle.rd_quorum.specs.declared.level.Level.{Level}
+use Rattle.rd_quorum.specs.declared.level.Level.TheVariants as level
 use Rattle.rd_script.specs.declared.script.Script.{Script}
 use Rattle.rd_script.specs.declared.script.Step.{Step}
-use Rattle.rd_script.specs.declared.script.Step.TheVariants.{Update, Get, Flush, Gossip, Deliver, Lose, Round, Tick, Remove, Join, Restart, Install}
+use Rattle.rd_script.specs.declared.script.Step.TheVariants.{Update, Get, Flush, Gossip, Deliver, Lose, Round, Tick, Timeout, Remove, Join, Restart, Install}
 
 -- what a counter takes at once
 abbrev pub IsAmount : ℕ → Type 0
@@ -26,6 +28,13 @@ IsOperation (Remove element) = IsShort element
 IsOperation Enable = ⊤
 IsOperation (Assign text now) = IsShort text × IsMoment now
 
+-- so many members, or a cap
+abbrev pub IsLevel : Level → Type 0
+IsLevel level.Local = ⊤
+IsLevel (level.To number) = (1 ≤ number) × (number ≤ 64)
+IsLevel (level.Majority cap) = cap ≤ 64
+IsLevel level.All = ⊤
+
 -- there are 64 identities
 abbrev pub IsIdentity : ℕ → Type 0
 IsIdentity i = i < 64
@@ -34,15 +43,20 @@ IsIdentity i = i < 64
 abbrev pub IsPlace : ℕ → Type 0
 IsPlace place = place < 8
 
+-- the number of an operation that a step names
+abbrev pub IsNumber : ℕ → Type 0
+IsNumber op = op < 2 ^ 32
+
 abbrev pub IsStep : Step → Type 0
-IsStep (Update at key op) = IsIdentity at × IsOperation op
-IsStep (Get at key) = IsIdentity at
+IsStep (Update at key op level) = IsIdentity at × IsOperation op × IsLevel level
+IsStep (Get at key level) = IsIdentity at × IsLevel level
 IsStep (Flush at) = IsIdentity at
 IsStep (Gossip at to) = IsIdentity at × IsIdentity to
 IsStep (Deliver from to index) = IsIdentity from × IsIdentity to
 IsStep (Lose from to) = IsIdentity from × IsIdentity to
 IsStep Round = ⊤
 IsStep (Tick at) = IsIdentity at
+IsStep (Timeout at op) = IsIdentity at × IsNumber op
 IsStep (Remove id) = IsIdentity id
 IsStep (Join place) = IsPlace place
 IsStep (Restart id) = IsIdentity id

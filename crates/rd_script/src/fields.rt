@@ -25,7 +25,7 @@ const LAST_IDENTITY: u64 = 63;
 /// The last place.
 const LAST_PLACE: u64 = 7;
 
-/// The greatest number of a message on a link, and of a view.
+/// The greatest number of a message on a link, of a view, and of an operation that a step names.
 const LAST_NUMBER: u64 = 0xffff_ffff;
 
 /// The whole number under a name, if it is within the bounds.
@@ -60,7 +60,7 @@ pub fn place(value: &Value, step: u32) -> Result<u8, Rule>
     Ok(whole(value, "place", 0, LAST_PLACE, rule)? as u8)
 }
 
-/// The number of a view, or of a message on a link, under a name of a step.
+/// The number of a view, of a message on a link, or of an operation, under a name of a step.
 pub fn number(value: &Value, name: &str, step: u32) -> Result<u32, Rule>
     ensures { result ≡ number_of step (get name.now (view value.now)) }
 {

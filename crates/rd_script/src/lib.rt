@@ -8,6 +8,7 @@ mod fault;
 mod fields;
 mod keys;
 mod laws;
+mod levels;
 mod operations;
 mod read;
 mod script;

@@ -1,4 +1,4 @@
-ghost use Rattle.std.specs.Prelude.{◌≡◌, [], IfOk};
+ghost use Rattle.std.specs.Prelude.{◌≡◌, [], ◌∷◌, codes, IfOk};
 ghost use Rattle.serde_json.specs.View.{view};
 ghost use Rattle.rd_script.specs.Fields.{names_of, Gives};
 ghost use Rattle.rd_script.specs.Operations.{op_named, update_names, element_of, assign_of, op_of};
@@ -39,18 +39,28 @@ pub fn op_named(name: &str) -> Option<OpName>
 
 /// The names of an update with this operation.
 pub fn update_names(value: &Value, form: OpName, step: u32) -> Result<(), Rule>
-    ensures { result ≡ names_of step (update_names form) [] (view value.now) }
+    ensures { result ≡ names_of step (update_names form) (codes "level" ∷ []) (view value.now) }
 {
     match form {
         OpName::Increment | OpName::Decrement => {
-            step_names(value, &["at", "by", "do", "key", "op"], &[], step)
+            step_names(value, &["at", "by", "do", "key", "op"], &["level"], step)
         }
         OpName::Add | OpName::Remove => {
-            step_names(value, &["at", "do", "element", "key", "op"], &[], step)
+            step_names(
+                value,
+                &["at", "do", "element", "key", "op"],
+                &["level"],
+                step,
+            )
         }
-        OpName::Enable => step_names(value, &["at", "do", "key", "op"], &[], step),
+        OpName::Enable => step_names(value, &["at", "do", "key", "op"], &["level"], step),
         OpName::Assign => {
-            step_names(value, &["at", "do", "key", "now", "op", "text"], &[], step)
+            step_names(
+                value,
+                &["at", "do", "key", "now", "op", "text"],
+                &["level"],
+                step,
+            )
         }
     }
 }

@@ -1,5 +1,6 @@
 use rd_bytes::{Items, Text};
 use rd_kinds::{Kind, Op};
+use rd_quorum::Level;
 use rd_vectors::Id;
 
 /// A key that a script declares.
@@ -16,16 +17,18 @@ pub struct ScriptKey {
 /// One step of a script.
 #[derive(Drop)]
 pub enum Step {
-    /// A member is to change the value of a key.
+    /// A member is to change the value of a key, and so many members are to have the change.
     Update {
         at: Id,
         key: Text,
         op: Op,
+        level: Level,
     },
-    /// A member is to show the value of a key.
+    /// A member is to show the value of a key, with what so many members have of it.
     Get {
         at: Id,
         key: Text,
+        level: Level,
     },
     /// A member is to send what its peers may lack.
     Flush {
@@ -52,6 +55,11 @@ pub enum Step {
     /// A member is to mark, or to prune, what is left of members that left, if it leads its view.
     Tick {
         at: Id,
+    },
+    /// A member is to give up its open operation of this number, below `2^32`.
+    Timeout {
+        at: Id,
+        op: u64,
     },
     /// A member is to leave.
     Remove {

@@ -1,11 +1,12 @@
 ghost use Rattle.std.specs.Prelude.{◌≡◌, ◌+◌, ◌≤◌, [], length, All, IfOk};
 ghost use Rattle.serde_json.specs.View.{view, items_view};
 ghost use Rattle.rd_script.specs.Fields.{Gives};
-ghost use Rattle.rd_script.specs.Reading.{update_of, get_of, flush_of, gossip_of, deliver_of, lose_of, round_of, tick_of, remove_of, join_of, restart_of, install_of, step_of, steps_after};
+ghost use Rattle.rd_script.specs.Reading.{update_of, get_of, flush_of, gossip_of, deliver_of, lose_of, round_of, tick_of, timeout_of, remove_of, join_of, restart_of, install_of, step_of, steps_after};
 ghost use Rattle.rd_script.specs.WellFormed.{IsStep};
 
 use crate::fault::{Fault, Rule};
 use crate::fields::{identity, index, key, number, place, step_names, text};
+use crate::levels::level;
 use crate::operations::{op_named, operation, update_names};
 use crate::script::Step;
 use rd_bytes::Items;
@@ -28,7 +29,8 @@ fn update(alloc: Global, step: u32, value: &Value) -> Result<Step, Fault>
     let at = identity(value, "at", step)?;
     let key = key(alloc, value, "key", Rule { step, number: 8 })?;
     let op = operation(alloc, step, form, value)?;
-    Ok(Step::Update { at, key, op })
+    let level = level(value, step)?;
+    Ok(Step::Update { at, key, op, level })
 }
 
 #[tactic(auto, unfolding(crate::specs::Reading::get_of))]
@@ -36,10 +38,11 @@ fn get(alloc: Global, step: u32, value: &Value) -> Result<Step, Fault>
     ensures value { Gives (λ s. s) result (get_of step (view value.now)) }
     ensures bounds { IfOk result IsStep }
 {
-    step_names(value, &["at", "do", "key"], &[], step)?;
+    step_names(value, &["at", "do", "key"], &["level"], step)?;
     let at = identity(value, "at", step)?;
     let key = key(alloc, value, "key", Rule { step, number: 8 })?;
-    Ok(Step::Get { at, key })
+    let level = level(value, step)?;
+    Ok(Step::Get { at, key, level })
 }
 
 #[tactic(auto, unfolding(crate::specs::Reading::flush_of))]
@@ -105,6 +108,17 @@ fn tick(step: u32, value: &Value) -> Result<Step, Rule>
     Ok(Step::Tick { at })
 }
 
+#[tactic(auto, unfolding(crate::specs::Reading::timeout_of))]
+fn timeout(step: u32, value: &Value) -> Result<Step, Rule>
+    ensures value { result ≡ timeout_of step (view value.now) }
+    ensures bounds { IfOk result IsStep }
+{
+    step_names(value, &["at", "do", "op"], &[], step)?;
+    let at = identity(value, "at", step)?;
+    let op = u64::from(number(value, "op", step)?);
+    Ok(Step::Timeout { at, op })
+}
+
 #[tactic(auto, unfolding(crate::specs::Reading::remove_of))]
 fn remove(step: u32, value: &Value) -> Result<Step, Rule>
     ensures value { result ≡ remove_of step (view value.now) }
@@ -160,6 +174,7 @@ fn one_step(alloc: Global, step: u32, value: &Value) -> Result<Step, Fault>
         "lose" => Ok(lose(step, value)?),
         "round" => Ok(round(step, value)?),
         "tick" => Ok(tick(step, value)?),
+        "timeout" => Ok(timeout(step, value)?),
         "remove" => Ok(remove(step, value)?),
         "join" => Ok(join(step, value)?),
         "restart" => Ok(restart(step, value)?),

@@ -1,5 +1,6 @@
 use crate::{ScriptError, Step, read_script};
 use rd_kinds::Op;
+use rd_quorum::Level;
 use rd_vectors::Id;
 use std::alloc::Global;
 use std::test::Fail;
@@ -36,11 +37,15 @@ step 1 rule 5: {"do":"settle"}
 step 1 rule 5: {"do":"update","at":64}
 step 1 rule 5: {"do":"update","op":"set"}
 step 1 rule 5: {"do":"update","op":["add"],"element":7}
-step 1 rule 5: {"do":"timeout","at":0,"op":0}
+step 1 rule 5: {"do":"update","op":"set","level":null}
 step 1 rule 5: {"do":"threads","clients":[]}
 step 2 rule 6: {"do":"round"},{"do":"round","at":0}
 step 1 rule 6: {"do":"get","at":64}
-step 1 rule 6: {"do":"get","at":0,"key":"n","level":"local"}
+step 1 rule 6: {"do":"get","at":64,"level":null}
+step 1 rule 6: {"do":"flush","at":0,"level":"local"}
+step 1 rule 6: {"do":"timeout","at":64}
+step 1 rule 6: {"do":"timeout","op":0}
+step 1 rule 6: {"do":"timeout","at":0,"op":0,"key":"n"}
 step 1 rule 6: {"do":"gossip","at":0}
 step 1 rule 6: {"do":"lose","from":0,"to":1,"index":0}
 step 1 rule 6: {"do":"tick","at":64,"to":0}
@@ -51,7 +56,7 @@ step 1 rule 6: {"do":"install","at":64}
 step 1 rule 6: {"do":"update","op":"enable","at":0,"key":"n","by":1}
 step 1 rule 6: {"do":"update","op":"decrement","at":0,"key":"n","element":"a"}
 step 1 rule 6: {"do":"update","op":"assign","at":64,"key":"n","text":7}
-step 1 rule 6: {"do":"update","op":"add","at":0,"key":"n","element":"a","level":"all"}
+step 1 rule 6: {"do":"update","op":"add","at":0,"key":"n","element":"a","levels":"all"}
 step 1 rule 7: {"do":"get","at":64,"key":""},{}
 step 1 rule 7: {"do":"flush","at":-1}
 step 1 rule 7: {"do":"flush","at":1.0}
@@ -67,14 +72,23 @@ step 1 rule 7: {"do":"join","place":8}
 step 1 rule 7: {"do":"restart","id":null}
 step 1 rule 7: {"do":"install","at":64,"view":0}
 step 1 rule 7: {"do":"install","at":0,"view":4294967296}
+step 1 rule 7: {"do":"update","op":"enable","at":64,"key":"n","level":null}
+step 1 rule 7: {"do":"timeout","at":64,"op":0}
+step 1 rule 7: {"do":"timeout","at":0,"op":4294967296}
+step 1 rule 7: {"do":"timeout","at":0,"op":null}
+step 1 rule 7: {"do":"timeout","at":0,"op":-1}
+step 1 rule 7: {"do":"timeout","at":0,"op":1.0}
 step 1 rule 8: {"do":"get","at":0,"key":"N"}
+step 1 rule 8: {"do":"get","at":0,"key":"N","level":null}
 step 1 rule 8: {"do":"get","at":0,"key":"abcdefghijklmnopqrstuvwxyz0123456"}
 step 1 rule 8: {"do":"update","op":"increment","at":0,"key":"","by":0}
 step 1 rule 8: {"do":"update","op":"remove","at":0,"key":"","element":7}
 step 1 rule 9: {"do":"update","op":"add","at":0,"key":"n","element":7}
 step 1 rule 9: {"do":"update","op":"remove","at":0,"key":"n","element":null}
 step 1 rule 9: {"do":"update","op":"assign","at":0,"key":"n","text":{},"now":-1}
+step 1 rule 9: {"do":"update","op":"add","at":0,"key":"n","element":7,"level":7}
 step 1 rule 10: {"do":"update","op":"increment","at":0,"key":"n","by":0}
+step 1 rule 10: {"do":"update","op":"increment","at":0,"key":"n","by":0,"level":null}
 step 1 rule 10: {"do":"update","op":"decrement","at":0,"key":"n","by":0}
 step 1 rule 10: {"do":"update","op":"increment","at":0,"key":"n","by":9223372036854775808}
 step 1 rule 10: {"do":"update","op":"increment","at":0,"key":"n","by":99999999999999999999}
@@ -84,6 +98,30 @@ step 1 rule 11: {"do":"update","op":"assign","at":0,"key":"n","text":"0123456789
 step 1 rule 11: {"do":"update","op":"add","at":0,"key":"n","element":"0123456789abcdef0123456789abcdef0123456789abcdef0123456789abcdefx"}
 step 1 rule 11: {"do":"update","op":"remove","at":0,"key":"n","element":"0123456789abcdef0123456789abcdef0123456789abcdef0123456789abcdefx"}
 step 1 rule 11: {"do":"update","op":"remove","at":0,"key":"n","element":"ééééééééééééééééééééééééééééééééé"}
+step 1 rule 11: {"do":"update","op":"add","at":0,"key":"n","element":"0123456789abcdef0123456789abcdef0123456789abcdef0123456789abcdefx","level":null}
+step 1 rule 12: {"do":"get","at":0,"key":"n","level":null}
+step 1 rule 12: {"do":"get","at":0,"key":"n","level":""}
+step 1 rule 12: {"do":"get","at":0,"key":"n","level":"All"}
+step 1 rule 12: {"do":"get","at":0,"key":"n","level":"to"}
+step 1 rule 12: {"do":"get","at":0,"key":"n","level":true}
+step 1 rule 12: {"do":"get","at":0,"key":"n","level":2}
+step 1 rule 12: {"do":"get","at":0,"key":"n","level":["all"]}
+step 1 rule 12: {"do":"get","at":0,"key":"n","level":{}}
+step 1 rule 12: {"do":"get","at":0,"key":"n","level":{"all":1}}
+step 1 rule 12: {"do":"get","at":0,"key":"n","level":{"to":0}}
+step 1 rule 12: {"do":"get","at":0,"key":"n","level":{"to":65}}
+step 1 rule 12: {"do":"get","at":0,"key":"n","level":{"to":257}}
+step 1 rule 12: {"do":"get","at":0,"key":"n","level":{"to":-1}}
+step 1 rule 12: {"do":"get","at":0,"key":"n","level":{"to":1.0}}
+step 1 rule 12: {"do":"get","at":0,"key":"n","level":{"to":"1"}}
+step 1 rule 12: {"do":"get","at":0,"key":"n","level":{"majority":65}}
+step 1 rule 12: {"do":"get","at":0,"key":"n","level":{"majority":256}}
+step 1 rule 12: {"do":"get","at":0,"key":"n","level":{"majority":null}}
+step 1 rule 12: {"do":"get","at":0,"key":"n","level":{"majority":1,"to":1}}
+step 1 rule 12: {"do":"update","op":"increment","at":0,"key":"n","by":1,"level":null}
+step 1 rule 12: {"do":"update","op":"add","at":0,"key":"n","element":"a","level":{"majority":1,"cap":1}}
+step 1 rule 12: {"do":"update","op":"enable","at":0,"key":"n","level":0}
+step 1 rule 12: {"do":"update","op":"assign","at":0,"key":"n","text":"a","now":0,"level":{"to":0}}
 8 1 1: {"do":"get","at":0,"key":"not-declared"}
 8 1 0: "#;
 
@@ -96,7 +134,19 @@ update 0 n remove é "x": {"at":0,"do":"update","element":"\u00e9 \"x\"","key":"
 update 0 n enable: {"at":0,"do":"update","key":"n","op":"enable"}
 update 0 n assign a now 9223372036854775807: {"at":0,"do":"update","key":"n","now":9223372036854775807,"op":"assign","text":"a"}
 update 0 n assign  now 0: {"at":0,"do":"update","key":"n","now":0,"op":"assign","text":""}
+update 0 n increment 1: {"at":0,"by":1,"do":"update","key":"n","level":"local","op":"increment"}
+update 0 n decrement 1 all: {"at":0,"by":1,"do":"update","key":"n","level":"all","op":"decrement"}
+update 0 n add a majority 0: {"at":0,"do":"update","element":"a","key":"n","level":"majority","op":"add"}
+update 0 n remove a majority 64: {"at":0,"do":"update","element":"a","key":"n","level":{"majority":64},"op":"remove"}
+update 0 n enable to 1: {"at":0,"do":"update","key":"n","level":{"to":1},"op":"enable"}
+update 0 n assign a now 0 to 64: {"at":0,"do":"update","key":"n","level":{"to":64},"now":0,"op":"assign","text":"a"}
 get 0 zz: {"at":0,"do":"get","key":"zz"}
+get 0 n: {"at":0,"do":"get","key":"n","level":"local"}
+get 0 n all: {"at":0,"do":"get","key":"n","level":"all"}
+get 0 n majority 0: {"at":0,"do":"get","key":"n","level":"majority"}
+get 0 n majority 0: {"at":0,"do":"get","key":"n","level":{"majority":0}}
+get 0 n majority 8: {"at":0,"do":"get","key":"n","level":{"majority":8}}
+get 0 n to 8: {"at":0,"do":"get","key":"n","level":{"to":0,"to":8}}
 flush 1: {"at":1,"do":"flush"}
 gossip 1 2: {"at":1,"do":"gossip","to":2}
 deliver 1 2: {"do":"deliver","from":1,"to":2}
@@ -104,6 +154,8 @@ deliver 2 1 index 4294967295: {"do":"deliver","from":2,"index":4294967295,"to":1
 lose 1 2: {"do":"lose","from":1,"to":2}
 round: {"do":"round"}
 tick 1: {"at":1,"do":"tick"}
+timeout 63 0: {"at":63,"do":"timeout","op":0}
+timeout 0 4294967295: {"at":0,"do":"timeout","op":4294967295}
 remove 63: {"do":"remove","id":63}
 join 7: {"do":"join","place":7}
 restart 0: {"do":"restart","id":0}
@@ -146,6 +198,17 @@ fn operation_line(alloc: Global, op: &Op) -> Result<String, Fail> {
     Ok(line)
 }
 
+// A level after a space, and nothing for the local one.
+fn level_tail(alloc: Global, level: Level) -> Result<String, Fail> {
+    let tail = match level {
+        Level::Local => String::new(alloc),
+        Level::To(number) => format!(in alloc; " to {number}")?,
+        Level::Majority(cap) => format!(in alloc; " majority {cap}")?,
+        Level::All => String::from_str(alloc, " all")?,
+    };
+    Ok(tail)
+}
+
 fn link(alloc: Global, from: Id, to: Id) -> Result<String, Fail> {
     let link = format!(in alloc; "{} {}", from.number(), to.number())?;
     Ok(link)
@@ -153,11 +216,15 @@ fn link(alloc: Global, from: Id, to: Id) -> Result<String, Fail> {
 
 fn line(alloc: Global, step: &Step) -> Result<String, Fail> {
     let line = match step {
-        Step::Update { at, key, op } => {
+        Step::Update { at, key, op, level } => {
             let op = operation_line(alloc, op)?;
-            format!(in alloc; "update {} {} {op}", at.number(), key.as_str())?
+            let level = level_tail(alloc, *level)?;
+            format!(in alloc; "update {} {} {op}{level}", at.number(), key.as_str())?
         }
-        Step::Get { at, key } => format!(in alloc; "get {} {}", at.number(), key.as_str())?,
+        Step::Get { at, key, level } => {
+            let level = level_tail(alloc, *level)?;
+            format!(in alloc; "get {} {}{level}", at.number(), key.as_str())?
+        }
         Step::Flush { at } => format!(in alloc; "flush {}", at.number())?,
         Step::Gossip { at, to } => format!(in alloc; "gossip {} {}", at.number(), to.number())?,
         Step::Deliver { from, to, index } => {
@@ -173,6 +240,7 @@ fn line(alloc: Global, step: &Step) -> Result<String, Fail> {
         }
         Step::Round => String::from_str(alloc, "round")?,
         Step::Tick { at } => format!(in alloc; "tick {}", at.number())?,
+        Step::Timeout { at, op } => format!(in alloc; "timeout {} {op}", at.number())?,
         Step::Remove { id } => format!(in alloc; "remove {}", id.number())?,
         Step::Join { place } => format!(in alloc; "join {place}")?,
         Step::Restart { id } => format!(in alloc; "restart {}", id.number())?,

@@ -17,9 +17,9 @@ use Rattle.rd_sections.specs.Histories.{Entry, Placed, Passed, posted_to, taken_
 use Rattle.rd_sections.specs.Paths.{until, has_taken, are_posts_taken, are_answers_taken, HasGivenUp}
 use Rattle.rd_sections.proofs.RunOrder.{all-append, messages_on, taken-append, posted-append, its_steps, no_less}
 use Rattle.rd_sections.proofs.Untils.{until_begins, number_below, steps_after}
-use Rattle.rd_operations.proofs.Lists.{both_true, or_left, or_right, not_true}
+use Rattle.rd_operations.proofs.Lists.{all_first, both_true, or_left, or_right, not_true}
 use Rattle.rd_operations.proofs.Opening.{opening_tells}
-use Rattle.rd_sections.proofs.Asked.{NoneAsks, NoneAnswers, less_dropped, dropped_more, all_first, either_way, heard_none, later_asks, earlier_asks, asked_none}
+use Rattle.rd_sections.proofs.Asked.{NoneAsks, NoneAnswers, less_dropped, dropped_more, either_way, heard_none, later_asks, earlier_asks, asked_none}
 use Rattle.rd_sections.proofs.Along.{Along, base}
 use Rattle.rd_sections.proofs.Heard.{Late, IsMadeBy, begins, posts_now, some_full_now, times_out_open, or_either, all_more_of, any_none, none_any, is_not, steps_first}
 use Rattle.rd_sections.proofs.Moves.{Keeping}

@@ -8,6 +8,10 @@ mod failing_tests;
 #[cfg(test)]
 mod largest_tests;
 #[cfg(test)]
+mod levels_tests;
+#[cfg(test)]
+mod limits_tests;
+#[cfg(test)]
 mod membership_tests;
 #[cfg(test)]
 mod printing_tests;

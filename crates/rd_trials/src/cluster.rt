@@ -1,10 +1,7 @@
 use crate::member::Member;
-use crate::operations::copied;
-use crate::random::Random;
-use crate::shown::same_shown;
 use rd_kinds::{Kind, Op};
 use rd_lattice::Replica;
-use rd_meaning::{Record, meaning};
+use rd_trial_parts::{Random, Records};
 use rd_vectors::Id;
 use std::alloc::Global;
 use std::test::Fail;
@@ -13,9 +10,8 @@ use std::test::Fail;
 #[derive(Drop)]
 pub(crate) struct Cluster<T: Replica<Kind = Kind, Op = Op>> {
     alloc: Global,
-    kind: Kind,
     members: Vec<Member<T>>,
-    records: Vec<Record>,
+    records: Records,
     groups: u64,
     prunes: u64,
 }
@@ -33,9 +29,8 @@ impl<T: Replica<Kind = Kind, Op = Op>> Cluster<T> {
         }
         Ok(Cluster {
             alloc,
-            kind,
             members,
-            records: Vec::new(alloc),
+            records: Records::new(alloc, kind),
             groups: 0,
             prunes: 0,
         })
@@ -56,21 +51,10 @@ impl<T: Replica<Kind = Kind, Op = Op>> Cluster<T> {
         self.members.len()
     }
 
-    fn keep(&mut self, record: Record) -> Result<(), Fail> {
-        match self.records.push(record) {
-            Ok(()) => Ok(()),
-            Err(_) => Err("memory".into()),
-        }
-    }
-
     /// A member makes a record.
     pub(crate) fn update(&mut self, at: usize, op: Op) -> Result<(), Fail> {
-        let alloc = self.alloc;
         let member = self.members.get_mut(at).ok_or("member")?;
-        match member.update(alloc, op)? {
-            None => Ok(()),
-            Some(record) => self.keep(record),
-        }
+        member.update(self.alloc, op, &mut self.records)
     }
 
     /// A member takes what another has.
@@ -116,33 +100,16 @@ impl<T: Replica<Kind = Kind, Op = Op>> Cluster<T> {
             ids.push(member.id).map_err(|_| "memory")?;
         }
         let owner = self.members.get_mut(owner).ok_or("member")?;
-        match owner.prune(alloc, removed.id, view, &ids)? {
-            None => Ok(()),
-            Some(record) => {
-                self.prunes = self.prunes.saturating_add(1);
-                self.keep(record)
-            }
+        if owner.prune(alloc, removed.id, view, &ids, &mut self.records)? {
+            self.prunes = self.prunes.saturating_add(1);
         }
-    }
-
-    /// The records that a member has taken, in the order in which they were made.
-    fn taken(&self, member: &Member<T>) -> Result<Vec<Record>, Fail> {
-        let mut taken = Vec::new(self.alloc);
-        for record in &self.records {
-            if record.number <= member.taken.at(record.origin) {
-                if taken.push(copied(self.alloc, record)?).is_err() {
-                    return Err("memory".into());
-                }
-            }
-        }
-        Ok(taken)
+        Ok(())
     }
 
     /// Whether a member shows what its records mean.
     pub(crate) fn shows_what_is_meant(&self, at: usize) -> Result<bool, Fail> {
         let member = self.members.get(at).ok_or("member")?;
         let shown = member.entry.show(self.alloc)?;
-        let meant = meaning(self.alloc, self.kind, self.taken(member)?)?;
-        Ok(same_shown(&shown, &meant))
+        Ok(self.records.mean(&member.taken, &shown)?)
     }
 }

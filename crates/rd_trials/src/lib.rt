@@ -6,12 +6,6 @@ mod cluster;
 #[cfg(test)]
 mod member;
 #[cfg(test)]
-mod operations;
-#[cfg(test)]
-mod random;
-#[cfg(test)]
-mod shown;
-#[cfg(test)]
 mod spellings;
 #[cfg(test)]
 mod tests;

@@ -6,7 +6,8 @@ use rd_deltalog::{DeltaLog, Grouped};
 use rd_envelope::{Envelope, Group, Init, Judgement, Perform};
 use rd_kinds::{Kind, Op};
 use rd_lattice::{ApplyError, Replica};
-use rd_meaning::{Action, Record};
+use rd_meaning::Action;
+use rd_trial_parts::Records;
 use rd_vectors::{Id, VersionVector};
 use std::alloc::Global;
 use std::test::Fail;
@@ -70,14 +71,14 @@ impl<T: Replica<Kind = Kind, Op = Op>> Member<T> {
         Ok(())
     }
 
-    /// Logs a record that the member made, notes that it has it, and answers it.
-    fn noted(
+    /// Logs a record that the member made, and adds it to the records of all.
+    fn note(
         &mut self,
-        alloc: Global,
+        records: &mut Records,
         action: Action,
         before: VersionVector,
         delta: Option<T::Delta>,
-    ) -> Result<Record, Fail>
+    ) -> Result<(), Fail>
         requires few { self.old.made < 1000 }
         requires fits { IsDeltaFor T.IsOfOrigin T.delta_fits_kind self.old.log.kind self.old.log.origin delta }
     {
@@ -85,42 +86,39 @@ impl<T: Replica<Kind = Kind, Op = Op>> Member<T> {
         let next = self.log.prepare(before, delta)?;
         self.log.add(next);
         self.made = number;
-        let past = self.taken.copy(alloc)?;
-        self.taken.raise(self.id, number)?;
-        Ok(Record {
-            origin: self.id,
-            number,
-            action,
-            past,
-        })
+        records.add(self.id, &mut self.taken, action)
     }
 
     /// Makes a record of an operation, unless the entry refuses it.
-    pub(crate) fn update(&mut self, alloc: Global, op: Op) -> Result<Option<Record>, Fail> {
+    pub(crate) fn update(
+        &mut self,
+        alloc: Global,
+        op: Op,
+        records: &mut Records,
+    ) -> Result<(), Fail> {
         if !self.entry.value().fits(&op) || !self.has_room() {
             return Err("unfit".into());
         }
         let before = self.entry.known(alloc)?;
         match self.entry.update(&op, self.id) {
-            Ok(delta) => {
-                let action = Action::Operation(op);
-                Ok(Some(self.noted(alloc, action, before, Some(delta))?))
-            }
+            Ok(delta) => self.note(records, Action::Operation(op), before, Some(delta)),
             Err(ApplyError::Memory) => Err("memory".into()),
-            Err(_) => Ok(None),
+            Err(_) => Ok(()),
         }
     }
 
-    /// Prunes an identity of which all members have the last record, in a view of these members.
+    /// Prunes an identity of which all members have the last record, in a view of these members, if there is anything to prune;
+    /// and answers whether there was.
     pub(crate) fn prune(
         &mut self,
         alloc: Global,
         removed: Id,
         view: u32,
         members: &[Id],
-    ) -> Result<Option<Record>, Fail> {
+        records: &mut Records,
+    ) -> Result<bool, Fail> {
         if self.entry.init_prune(removed, self.id, view)? != Init::Marked {
-            return Ok(None);
+            return Ok(false);
         }
         for member in members {
             self.entry.add_seen(*member, view);
@@ -131,8 +129,8 @@ impl<T: Replica<Kind = Kind, Op = Op>> Member<T> {
         let before = self.entry.known(alloc)?;
         match self.entry.perform(removed, self.id, view, members)? {
             Perform::Performed => {
-                let action = Action::Prune(removed);
-                Ok(Some(self.noted(alloc, action, before, None)?))
+                self.note(records, Action::Prune(removed), before, None)?;
+                Ok(true)
             }
             _ => Err("the prune was not performed".into()),
         }

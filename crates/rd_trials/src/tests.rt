@@ -1,8 +1,7 @@
 use crate::cluster::Cluster;
-use crate::operations::operation;
-use crate::random::Random;
 use rd_kinds::{Kind, Op};
 use rd_lattice::Replica;
+use rd_trial_parts::{Random, operation};
 use rd_value::Data;
 use std::alloc::Global;
 use std::test::Fail;

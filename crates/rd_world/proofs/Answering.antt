@@ -119,14 +119,14 @@ module _ {T K Kind Delta : Type 0} {ghosts : Ghosts T Kind Op Delta} {keeping : 
     abbrev D : Replication Kind Op Shown
     D = replication ghosts spelling
 
-    pub reaches_gone : seat_of (last_view old.views) i ≡ None → IsSame old new → Reaches spelling kinds members decls p q (λ k. []) new (record { head = kept; answer = answer.Gone; sent = [] } ∷ [])
+    pub reaches_gone : seat_of (last_view old.views) i ≡ None → IsSame old new → Reaches spelling kinds members decls p q (λ k. []) new (record { head = kept; answer = answer.Gone; sent = []; finished = None } ∷ [])
     reaches_gone none same =
         let logged = way_logs D members decls p m.run in
         let now = m.stands logged.0 logged.1 in
         reaches_told spelling kinds members decls p new q kept answer.Gone head script.Answer.Gone (is ∙ given_gone D p head event (at.none (gone_there spelling kinds logged.0 old new p.world now i none)))
         (means_alike old new kinds members decls p same m) is_head refl
 
-    pub reaches_full : (r : Refuses i old new) → r.before.steps ≡ 16384 → Reaches spelling kinds members decls p q (λ k. []) new (record { head = kept; answer = answer.HistoryFull; sent = [] } ∷ [])
+    pub reaches_full : (r : Refuses i old new) → r.before.steps ≡ 16384 → Reaches spelling kinds members decls p q (λ k. []) new (record { head = kept; answer = answer.HistoryFull; sent = []; finished = None } ∷ [])
     reaches_full r steps =
         let logged = way_logs D members decls p m.run in
         let now = m.stands logged.0 logged.1 in
@@ -160,9 +160,9 @@ module _ {T K Kind Delta : Type 0} {ghosts : Ghosts T Kind Op Delta} {keeping : 
       (input : given_input.Input T Kind Op Delta ghosts) (input_stands : (logs : Text → History Op) (before : Node T K Kind Op Delta ghosts keeping) → StandsForWorld spelling kinds logs old p.world → StandsForInput kinds logs before.keys.items input sent) where
     -- a member's step, from the links that there were
     pub reaches_step : links ≡ p.world.links → (answered : Answered) (mk : Makes spelling i input answered old new) → Foretells p (given_at mk.place (answers_of (meant_fate mk.steps.fate)))
-        → Reaches spelling kinds members decls p (given (replication ghosts spelling) p head event) (given_at mk.place (answers_of (meant_fate mk.steps.fate))) new (record { head = kept; answer = answer.Reply answered.reply; sent = answered.sent } ∷ [])
+        → Reaches spelling kinds members decls p (given (replication ghosts spelling) p head event) (given_at mk.place (answers_of (meant_fate mk.steps.fate))) new (record { head = kept; answer = answer.Reply answered.reply; sent = answered.sent; finished = answered.finished } ∷ [])
     reaches_step same answered mk foretold =
-        reaches_made spelling alike kinds members decls old new p m head event is_run more i sent links at mk.place mk.before mk.after mk.changes input mk.steps.fate (record { reply = answered.reply; posts = mk.steps.posts }) mk.steps.makes (λ logs now. input_stands logs mk.before now) foretold kept is_head answered.sent mk.steps.tells
+        reaches_made spelling alike kinds members decls old new p m head event is_run more i sent links at mk.place mk.before mk.after mk.changes input mk.steps.fate (record { reply = answered.reply; posts = mk.steps.posts; finished = answered.finished }) mk.steps.makes (λ logs now. input_stands logs mk.before now) foretold kept is_head answered.sent mk.steps.tells
         (λ logs sents now posts few a b small bounded.
         links_sent kinds logs (channel_at old.links) (channel_at new.links) links i mk.steps.posts sents posts (mk.steps.sends few) a b
         (subst (λ (l : Links Op). StandsForLink {ghosts = ghosts} kinds logs (channel_at old.links a b) (l a b)) (sym same) (now.links a b small bounded)))

@@ -71,7 +71,7 @@ module _ {T K Kind Delta : Type 0} {ghosts : Ghosts T Kind Op Delta} {keeping : 
   still_stands : (kinds : Text → Kind) (logs : Text → History Op) (node : nodes.Node Kind Op Shown) → StandsForNode ghosts.kind_of ghosts.IsDataOf kinds logs before node → StandsForNode ghosts.kind_of ghosts.IsDataOf kinds logs after node
   still_stands kinds logs node s =
       subst (λ (code : Node T K Kind Op Delta ghosts keeping). StandsForNode ghosts.kind_of ghosts.IsDataOf kinds logs code node) (sym back.same)
-      (record { identity = s.identity; view = s.view; keys = s.keys; distinct = s.distinct; entries = s.entries; steps = s.steps })
+      (record { identity = s.identity; view = s.view; keys = s.keys; distinct = s.distinct; entries = s.entries; operations = s.operations; steps = s.steps })
 
   module _ (kinds : Text → Kind) (logs : Text → History Op) (world : worlds.World Kind Op Shown) (s : StandsForWorld spelling kinds logs old world) where
     abbrev Running : Option (Node T K Kind Op Delta ghosts keeping) → Option (nodes.Node Kind Op Shown) → Type 0
@@ -129,7 +129,7 @@ module _ {T K Kind Delta : Type 0} {ghosts : Ghosts T Kind Op Delta} {keeping : 
 
   module _ (able : CanReplace (last_view old.views) id) where
     module _ (refused : IsRefusedLoad before (load.LoadFailed after)) where
-      leads_failed : LeadsTo spelling (λ p. played (replication ghosts spelling) p (ScriptStep.Restart id)) (given_at place (false ∷ [])) old new (record { head = head.Restart id; answer = answer.LoadFailed; sent = [] } ∷ [])
+      leads_failed : LeadsTo spelling (λ p. played (replication ghosts spelling) p (ScriptStep.Restart id)) (given_at place (false ∷ [])) old new (record { head = head.Restart id; answer = answer.LoadFailed; sent = []; finished = None } ∷ [])
       leads_failed kinds members decls p m foretold =
           let view_is = view_of spelling kinds members decls p old m in
           let place_now : place_of p.world.view id ≡ place = ap (λ v. place_of v id) (sym view_is) ∙ place_seated (last_view old.views) id place seat in
@@ -137,7 +137,7 @@ module _ {T K Kind Delta : Type 0} {ghosts : Ghosts T Kind Op Delta} {keeping : 
           (fails_restart (replication ghosts spelling) p id (ap (λ v. is_member v id) (sym view_is) ∙ able.0) (ap (λ (v : View). nat_lt v.given identity_limit) (sym view_is) ∙ (let room = able.1 in grind (arith, nat_tests))) (ap (next_answer p) place_now ∙ next_is p place false foretold))
           (stays_back kinds members decls p m) (head.Restart id) answer.LoadFailed refl refl (subst (λ q. HaveAnswered p (with_call p q) (given_at place (false ∷ []))) (sym place_now) (one_call p place false))
 
-      pub plays_load_failed : (event : Line) → event ≡ record { head = head.Restart id; answer = answer.LoadFailed; sent = [] } → Plays spelling (form.Restart id) old new (event ∷ [])
+      pub plays_load_failed : (event : Line) → event ≡ record { head = head.Restart id; answer = answer.LoadFailed; sent = []; finished = None } → Plays spelling (form.Restart id) old new (event ∷ [])
       plays_load_failed event same =
           subst (λ (e : Line). Plays spelling (form.Restart id) old new (e ∷ [])) (sym same)
           (record {
@@ -159,7 +159,7 @@ module _ {T K Kind Delta : Type 0} {ghosts : Ghosts T Kind Op Delta} {keeping : 
           unfit.unfit kinds l.0 t.0 (p.world.stores place) t.1 (have_kinds spelling id place old before seat was kinds l.0 p.world known) (spells_there spelling id place old before seat was kinds l.0 p.world s t.0 t.1)
           (fit_there spelling id place old before seat was kinds members decls p m l.0 known)
 
-      pub plays_damaged : (event : Line) → event ≡ record { head = head.Restart id; answer = answer.Damaged key; sent = [] } → Plays spelling (form.Restart id) old new (event ∷ [])
+      pub plays_damaged : (event : Line) → event ≡ record { head = head.Restart id; answer = answer.Damaged key; sent = []; finished = None } → Plays spelling (form.Restart id) old new (event ∷ [])
       plays_damaged event same =
           subst (λ (e : Line). Plays spelling (form.Restart id) old new (e ∷ [])) (sym same)
           (record {
@@ -172,12 +172,12 @@ module _ {T K Kind Delta : Type 0} {ghosts : Ghosts T Kind Op Delta} {keeping : 
 -- NOTHING WAS CALLED
 
 module _ {T K Kind Delta : Type 0} {ghosts : Ghosts T Kind Op Delta} {keeping : Keeping K} (spelling : Spelling T Kind Op Delta) (id : ℕ) (old new : World T K Kind Op Delta ghosts keeping) (alike : IsAlike old new) where
-  pub plays_gone : seat_of (last_view old.views) id ≡ None → (event : Line) → event ≡ record { head = head.Restart id; answer = answer.Gone; sent = [] } → Plays spelling (form.Restart id) old new (event ∷ [])
+  pub plays_gone : seat_of (last_view old.views) id ≡ None → (event : Line) → event ≡ record { head = head.Restart id; answer = answer.Gone; sent = []; finished = None } → Plays spelling (form.Restart id) old new (event ∷ [])
   plays_gone none event is = plays_told spelling old new alike (form.Restart id) (head.Restart id) answer.Gone event is refl (λ kinds members decls p m.
       let view_is = view_of spelling kinds members decls p old m in
       (script.Head.RestartHead id, script.Answer.Gone, tells_gone (replication ghosts spelling) p id (ap (λ v. is_member v id) (sym view_is) ∙ no_member (last_view old.views) id none), refl, refl))
 
-  pub plays_many : (is_member (last_view old.views) id ≡ true) × ((last_view old.views).given ≡ identity_limit) → (event : Line) → event ≡ record { head = head.Restart id; answer = answer.TooManyIdentities; sent = [] } → Plays spelling (form.Restart id) old new (event ∷ [])
+  pub plays_many : (is_member (last_view old.views) id ≡ true) × ((last_view old.views).given ≡ identity_limit) → (event : Line) → event ≡ record { head = head.Restart id; answer = answer.TooManyIdentities; sent = []; finished = None } → Plays spelling (form.Restart id) old new (event ∷ [])
   plays_many many event is = plays_told spelling old new alike (form.Restart id) (head.Restart id) answer.TooManyIdentities event is refl (λ kinds members decls p m.
       let view_is = view_of spelling kinds members decls p old m in (
         script.Head.RestartHead id,

@@ -1,7 +1,6 @@
 -- A message is handed to its receiver, and passed where it was the next one due.
 use Rattle.std.proofs.Common.{◌≡◌, ℕ, ◌<◌, ◌≤◌, List, [], ◌∷◌, length, length-append, refl, sym, ap, subst, ◌∙◌, arith, Bool, true, false, Option, Some, None}
 use Rattle.std.specs.Prelude.{is_some, if◌then◌else◌, ◌==◌, ◌&&◌, option_map}
-use Rattle.std.specs.List.{AllZip}
 use Rattle.std.proofs.lemmas.Option.{slice_get_within}
 use Rattle.rd_history.specs.Table.{identity_limit}
 use Rattle.rd_history.specs.Texts.{Text}
@@ -23,15 +22,13 @@ use Rattle.rd_lattice.specs.declared.replica.Replica.{Ghosts}
 use Rattle.rd_lattice.specs.declared.spelled.SpelledData.{Ghosts as Spelling}
 use Rattle.rd_keeper.specs.declared.keeper.Keeper.{Ghosts as Keeping}
 use Rattle.rd_messages.specs.declared.message.Message.{Message}
-use Rattle.rd_messages.specs.declared.message.Message.TheVariants.{Deltas, Nack, Status, Gossip}
 use Rattle.rd_messages.specs.Sketches.{sketch_of}
 use Rattle.rd_messages.specs.declared.sketch.Sketch.{Sketch}
 use Rattle.rd_views.specs.Sound.{IsView, AreViews, last_view}
-use Rattle.rd_node.specs.declared.key.KeyState.{KeyState}
 use Rattle.rd_node.specs.declared.input.Input.TheVariants as input
 use Rattle.rd_node.specs.declared.reply.Reply.{Reply}
-use Rattle.rd_node.specs.Inputs.{Tells, nothing, told as tell, StandsForTaken, IsEntryPassedOver, IsGroupPassedOver}
-use Rattle.rd_node.specs.Members.{StandsForKeyed, StandsForKeyedGroup, StandsForMessage, StandsForPosts}
+use Rattle.rd_node.proofs.Messages.{told_whole}
+use Rattle.rd_node.specs.Members.{StandsForMessage, StandsForPosts}
 use Rattle.rd_node.specs.Replies.{meant_fate}
 use Rattle.rd_node.specs.Steps.{replication}
 use Rattle.rd_world.specs.declared.world.World.{World}
@@ -59,14 +56,6 @@ use Rattle.rd_world.proofs.Telling.{IsEventAt, delivery_at, reaches_told}
 use Rattle.rd_world.proofs.Turns.{answers_of}
 use Rattle.rd_world.proofs.Unkept.{not_called_at, kept_same as keeper_same}
 
--- WHAT A MEMBER TAKES OF A MESSAGE
-
-tells_all : {X Y : Type 0} (R : X → Y → Type 0) (P : X → Type 0) (xs : List X) (ys : List Y) → AllZip R xs ys → Tells R P xs ys
-tells_all R P [] [] all = nothing
-tells_all R P [] (y ∷ ys) all = absurd all
-tells_all R P (x ∷ xs) [] all = absurd all
-tells_all R P (x ∷ xs) (y ∷ ys) all = tell x y xs ys all.0 (tells_all R P xs ys all.1)
-
 pair_both : {X Y : Type 0} (R : X → Y → Type 0) (a : Option X) (b : Option Y) (x : X) (y : Y) → IsPair R a b → a ≡ Some x → b ≡ Some y → R x y
 pair_both R _ _ x y (both {x = a} {y = b} r) e f = subst (R x) (cc f) (subst (λ z. R z b) (cc e) r)
 pair_both R _ _ x y neither e f = absurd (cc e)
@@ -88,21 +77,6 @@ count_extended None messages true = omega arith
 count_extended (Some channel) messages true = let l = length-append channel.messages messages in omega arith
 count_extended o messages false = omega arith
 
-module _ {T Kind Delta : Type 0} {ghosts : Ghosts T Kind Op Delta} (kinds : Text → Kind) (logs : Text → History Op) (keys : List (KeyState T Kind Op Delta)) where
-  taken_whole : (message : Message T Kind Op Delta ghosts) (sent : Sent Op) → StandsForMessage ghosts.kind_of ghosts.IsDataOf kinds logs message sent → StandsForTaken kinds logs keys message sent
-  taken_whole (Deltas groups entries) sent s =
-      record {
-        told_groups = s.sent_groups;
-        told_entries = s.sent_entries;
-        is = s.is;
-        groups_stand = tells_all (StandsForKeyedGroup kinds logs) (IsGroupPassedOver ghosts keys) groups s.sent_groups s.groups_stand;
-        entries_stand = tells_all (StandsForKeyed ghosts.kind_of ghosts.IsDataOf kinds logs) (IsEntryPassedOver ghosts keys) entries s.sent_entries s.entries_stand;
-      }
-  taken_whole (Nack names) sent s = s
-  taken_whole (Status digests) sent s = s
-  taken_whole (Gossip entries wants) sent s =
-      record { told_entries = s.sent_entries; is = s.is; entries_stand = tells_all (StandsForKeyed ghosts.kind_of ghosts.IsDataOf kinds logs) (IsEntryPassedOver ghosts keys) entries s.sent_entries s.entries_stand }
-
 -- DELIVERIES
 
 module _ {T K Kind Delta : Type 0} {ghosts : Ghosts T Kind Op Delta} {keeping : Keeping K} (spelling : Spelling T Kind Op Delta) (old : World T K Kind Op Delta ghosts keeping) (from to index : ℕ) (small : from < identity_limit) (few : to < identity_limit) where
@@ -123,7 +97,7 @@ module _ {T K Kind Delta : Type 0} {ghosts : Ghosts T Kind Op Delta} {keeping : 
     by_running o = if is_some o then handed (message_at p.world from to index) else told p (script.Head.DeliverHead from to index None) script.Answer.Gone
 
     -- the receiver is no member
-    pub reaches_absent : is_member (last_view old.views) to ≡ false → Reaches spelling kinds members decls p (deliver D p from to index) (λ k. []) old (record { head = head.Deliver from to index None; answer = answer.Gone; sent = [] } ∷ [])
+    pub reaches_absent : is_member (last_view old.views) to ≡ false → Reaches spelling kinds members decls p (deliver D p from to index) (λ k. []) old (record { head = head.Deliver from to index None; answer = answer.Gone; sent = []; finished = None } ∷ [])
     reaches_absent absent =
         reaches_told spelling kinds members decls p old (deliver D p from to index) (head.Deliver from to index None) answer.Gone (script.Head.DeliverHead from to index None) script.Answer.Gone (ap by_running (absent_gone spelling old kinds members decls p m to absent)) m (None, refl, refl) refl
 
@@ -137,7 +111,7 @@ module _ {T K Kind Delta : Type 0} {ghosts : Ghosts T Kind Op Delta} {keeping : 
       pair_in : (logs : Text → History Op) → StandsForWorld spelling kinds logs old p.world → IsPair (StandsForMessage ghosts.kind_of ghosts.IsDataOf kinds logs) (message_on here index) (message_at p.world from to index)
       pair_in logs now = link_message kinds logs here (p.world.links from to) index (now.links from to small few)
 
-      pub reaches_unsent : message_on here index ≡ None → Reaches spelling kinds members decls p (deliver D p from to index) (λ k. []) old (record { head = head.Deliver from to index None; answer = answer.NoSuchMessage; sent = [] } ∷ [])
+      pub reaches_unsent : message_on here index ≡ None → Reaches spelling kinds members decls p (deliver D p from to index) (λ k. []) old (record { head = head.Deliver from to index None; answer = answer.NoSuchMessage; sent = []; finished = None } ∷ [])
       reaches_unsent none =
           let logged = way_logs D members decls p m.run in
           let unsent = pair_none (StandsForMessage ghosts.kind_of ghosts.IsDataOf kinds logged.0) (message_on here index) (message_at p.world from to index) (pair_in logged.0 (m.stands logged.0 logged.1)) none in
@@ -174,11 +148,11 @@ module _ {T K Kind Delta : Type 0} {ghosts : Ghosts T Kind Op Delta} {keeping : 
         more_handing = subst (λ (q : Playing Kind Op Shown). IsPrefix p.events q.events) is_given (deliver_appends D p from to index)
 
         module _ (alike : (a b : K) → is_some (keeping.table a) ≡ is_some (keeping.table b)) (new : World T K Kind Op Delta ghosts keeping) where
-          pub reaches_handed_gone : seat_of (last_view old.views) to ≡ None → IsSame old new → Reaches spelling kinds members decls p (deliver D p from to index) (λ k. []) new (record { head = head.Deliver from to index (Some (sketch_of message)); answer = answer.Gone; sent = [] } ∷ [])
+          pub reaches_handed_gone : seat_of (last_view old.views) to ≡ None → IsSame old new → Reaches spelling kinds members decls p (deliver D p from to index) (λ k. []) new (record { head = head.Deliver from to index (Some (sketch_of message)); answer = answer.Gone; sent = []; finished = None } ∷ [])
           reaches_handed_gone none same =
               reaches_gone spelling alike old new kinds members decls p (deliver D p from to index) m sent_head (Delivery from to index) to (Input.Take from sent.0) (moved_on p.world.links from to index) at_delivery is_given (head.Deliver from to index (Some (sketch_of message))) is_head none same
 
-          pub reaches_handed_full : (r : Refuses to old new) → r.before.steps ≡ 16384 → Reaches spelling kinds members decls p (deliver D p from to index) (λ k. []) new (record { head = head.Deliver from to index (Some (sketch_of message)); answer = answer.HistoryFull; sent = [] } ∷ [])
+          pub reaches_handed_full : (r : Refuses to old new) → r.before.steps ≡ 16384 → Reaches spelling kinds members decls p (deliver D p from to index) (λ k. []) new (record { head = head.Deliver from to index (Some (sketch_of message)); answer = answer.HistoryFull; sent = []; finished = None } ∷ [])
           reaches_handed_full r steps =
               reaches_full spelling alike old new kinds members decls p (deliver D p from to index) m sent_head (Delivery from to index) to (Input.Take from sent.0) (moved_on p.world.links from to index) at_delivery is_given (head.Deliver from to index (Some (sketch_of message))) is_head r steps
 
@@ -201,22 +175,22 @@ module _ {T K Kind Delta : Type 0} {ghosts : Ghosts T Kind Op Delta} {keeping : 
                 (links_moved kinds logs (channel_at old.links) passed_there p.world.links from to index (λ a b. refl) a b (now.links a b ok fine))
 
             pub reaches_handed : Foretells p (given_at mk.place (answers_of (meant_fate mk.steps.fate)))
-                → Reaches spelling kinds members decls p (deliver D p from to index) (given_at mk.place (answers_of (meant_fate mk.steps.fate))) new (record { head = head.Deliver from to index (Some (sketch_of message)); answer = answer.Reply answered.reply; sent = answered.sent } ∷ [])
+                → Reaches spelling kinds members decls p (deliver D p from to index) (given_at mk.place (answers_of (meant_fate mk.steps.fate))) new (record { head = head.Deliver from to index (Some (sketch_of message)); answer = answer.Reply answered.reply; sent = answered.sent; finished = answered.finished } ∷ [])
             reaches_handed foretold =
-                subst (λ (q : Playing Kind Op Shown). Reaches spelling kinds members decls p q (given_at mk.place (answers_of (meant_fate mk.steps.fate))) new (record { head = head.Deliver from to index (Some (sketch_of message)); answer = answer.Reply answered.reply; sent = answered.sent } ∷ [])) (sym is_given)
+                subst (λ (q : Playing Kind Op Shown). Reaches spelling kinds members decls p q (given_at mk.place (answers_of (meant_fate mk.steps.fate))) new (record { head = head.Deliver from to index (Some (sketch_of message)); answer = answer.Reply answered.reply; sent = answered.sent; finished = answered.finished } ∷ [])) (sym is_given)
                 (reaches_made spelling alike kinds members decls old new p m sent_head (Delivery from to index) run_handing more_handing to (Input.Take from sent.0) (moved_on p.world.links from to index) at_delivery mk.place mk.before mk.after changes_on (input.Take from message) mk.steps.fate
-                (record { reply = answered.reply; posts = mk.steps.posts }) mk.steps.makes
-                (λ logs now. record { told = sent.0; is = refl; message_stands = taken_whole kinds logs mk.before.keys.items message sent.0 (stands_in logs now) })
+                (record { reply = answered.reply; posts = mk.steps.posts; finished = answered.finished }) mk.steps.makes
+                (λ logs now. record { told = sent.0; is = refl; message_stands = told_whole kinds logs mk.before.keys.items message sent.0 (stands_in logs now) })
                 foretold (head.Deliver from to index (Some (sketch_of message))) is_head answered.sent mk.steps.tells linked)
 
   -- WHAT A CALL DOES
 
-  pub does_absent : is_member (last_view old.views) to ≡ false → Does spelling (delivers ghosts spelling from to index) old old (record { head = head.Deliver from to index None; answer = answer.Gone; sent = [] } ∷ [])
+  pub does_absent : is_member (last_view old.views) to ≡ false → Does spelling (delivers ghosts spelling from to index) old old (record { head = head.Deliver from to index None; answer = answer.Gone; sent = []; finished = None } ∷ [])
   does_absent absent =
       record { given = λ k. []; kept = λ k. not_called_at keeping (keeper_of old.nodes.items old.spare.items k); undamaged = refl; leads = λ kinds members decls p m foretold. reaches_absent kinds members decls p m absent }
 
   module _ (sound : IsView (last_view old.views)) (present : is_member (last_view old.views) to ≡ true) where
-    pub does_unsent : message_on here index ≡ None → Does spelling (delivers ghosts spelling from to index) old old (record { head = head.Deliver from to index None; answer = answer.NoSuchMessage; sent = [] } ∷ [])
+    pub does_unsent : message_on here index ≡ None → Does spelling (delivers ghosts spelling from to index) old old (record { head = head.Deliver from to index None; answer = answer.NoSuchMessage; sent = []; finished = None } ∷ [])
     does_unsent none =
         record {
           given = λ k. [];
@@ -232,16 +206,16 @@ module _ {T K Kind Delta : Type 0} {ghosts : Ghosts T Kind Op Delta} {keeping : 
       abbrev sent_line : Head
       sent_line = head.Deliver from to index (Some (sketch_of message))
 
-      gone_handed : seat_of (last_view old.views) to ≡ None → IsSame old new → DoesIt (record { head = sent_line; answer = answer.Gone; sent = [] })
+      gone_handed : seat_of (last_view old.views) to ≡ None → IsSame old new → DoesIt (record { head = sent_line; answer = answer.Gone; sent = []; finished = None })
       gone_handed none same =
           record { given = λ k. []; kept = kept_same spelling alike old new same; undamaged = refl; leads = λ kinds members decls p m foretold. reaches_handed_gone kinds members decls p m sound present message is alike new none same }
 
-      full_handed : (r : Refuses to old new) → r.before.steps ≡ 16384 → DoesIt (record { head = sent_line; answer = answer.HistoryFull; sent = [] })
+      full_handed : (r : Refuses to old new) → r.before.steps ≡ 16384 → DoesIt (record { head = sent_line; answer = answer.HistoryFull; sent = []; finished = None })
       full_handed r steps =
           record { given = λ k. []; kept = kept_refused spelling alike old new to r; undamaged = refl; leads = λ kinds members decls p m foretold. reaches_handed_full kinds members decls p m sound present message is alike new r steps }
 
       made_handed : (answered : Answered) → Makes spelling to (input.Take from message) answered old mid → IsAlikeButLinks mid new → (index < count_on (channel_at mid.links from to) → ChangesOne (passed index) from to mid.links new.links)
-          → DoesIt (record { head = sent_line; answer = answer.Reply answered.reply; sent = answered.sent })
+          → DoesIt (record { head = sent_line; answer = answer.Reply answered.reply; sent = answered.sent; finished = answered.finished })
       made_handed answered mk same passes =
           let c = mk.changes in
           let on : ChangesAt to mk.place mk.before mk.after old new = record { views = same.views ∙ c.views; keys = same.keys ∙ c.keys; spare = same.spare ∙ c.spare; sound = c.sound; seat = c.seat; within = c.within; was = c.was; nodes = same.nodes ∙ c.nodes } in
@@ -283,11 +257,11 @@ nothing_yet {keeping = keeping} spelling old = record { kept = λ k. keeper_same
 
 -- what the code has at hand: the message that was found, its copy, and its sketch
 module _ {T K Kind Delta : Type 0} {ghosts : Ghosts T Kind Op Delta} {keeping : Keeping K} (spelling : Spelling T Kind Op Delta) (old : World T K Kind Op Delta ghosts keeping) (from to index : ℕ) (small : from < identity_limit) (few : to < identity_limit) (are : AreViews old.views) (here_is : Bool) (contains : here_is ≡ is_member (last_view old.views) to) where
-  pub call_absent : here_is ≡ false → (event : Event) → event ≡ record { head = head.Deliver from to index None; answer = answer.Gone; sent = [] } → Does spelling (delivers ghosts spelling from to index) old old (event ∷ [])
+  pub call_absent : here_is ≡ false → (event : Event) → event ≡ record { head = head.Deliver from to index None; answer = answer.Gone; sent = []; finished = None } → Does spelling (delivers ghosts spelling from to index) old old (event ∷ [])
   call_absent absent event line = subst (λ (e : Event). Does spelling (delivers ghosts spelling from to index) old old (e ∷ [])) (sym line) (does_absent spelling old from to index small few (sym contains ∙ absent))
 
   module _ (present : here_is ≡ true) (asked : Option (Message T Kind Op Delta ghosts)) (asks : asked ≡ message_on (channel_at old.links from to) index) where
-    pub call_unsent : asked ≡ None → (event : Event) → event ≡ record { head = head.Deliver from to index None; answer = answer.NoSuchMessage; sent = [] } → Does spelling (delivers ghosts spelling from to index) old old (event ∷ [])
+    pub call_unsent : asked ≡ None → (event : Event) → event ≡ record { head = head.Deliver from to index None; answer = answer.NoSuchMessage; sent = []; finished = None } → Does spelling (delivers ghosts spelling from to index) old old (event ∷ [])
     call_unsent none event line =
         subst (λ (e : Event). Does spelling (delivers ghosts spelling from to index) old old (e ∷ [])) (sym line) (does_unsent spelling old from to index small few (last_sound old.views are) (sym contains ∙ present) (sym asks ∙ none))
 

@@ -34,7 +34,7 @@ module _ {T K Kind Delta : Type 0} {ghosts : Ghosts T Kind Op Delta} {keeping : 
     -- where the new world stands for the model's, wherever the old one does
     pub reaches_did : before.world ≡ p.world → before.lines ≡ p.lines → played (replication ghosts spelling) p s ≡ did_plainly (replication ghosts spelling) before event head answer
         → ((logs : Text → History Op) → ((key : Text) → IsHistory (logs key)) → StandsForWorld spelling kinds logs old p.world → StandsForWorld spelling kinds logs new (script.did_plainly (replication ghosts spelling) before event head answer).world) → (kept : Head) (a : Answer) → IsHead kept head → IsAnswer a answer
-        → HaveAnswered p before given → Reaches spelling kinds members decls p (played (replication ghosts spelling) p s) given new (record { head = kept; answer = a; sent = [] } ∷ [])
+        → HaveAnswered p before given → Reaches spelling kinds members decls p (played (replication ghosts spelling) p s) given new (record { head = kept; answer = a; sent = []; finished = None } ∷ [])
     reaches_did world lines e stands kept a is_head is_answer calls =
         record {
           means = record {
@@ -53,7 +53,7 @@ module _ {T K Kind Delta : Type 0} {ghosts : Ghosts T Kind Op Delta} {keeping : 
   module _ (s : ScriptStep Op) (before : Playing Kind Op Shown) (new : World T K Kind Op Delta ghosts keeping) (head : script.Head Op) (answer : script.Answer Shown) (given : Given) where
     -- calls were answered, and nothing happened
     pub reaches_said : before.world ≡ p.world → before.events ≡ p.events → before.lines ≡ p.lines → played (replication ghosts spelling) p s ≡ script.told before head answer → Means spelling kinds members decls p new → (kept : Head) (a : Answer) → IsHead kept head → IsAnswer a answer
-        → HaveAnswered p before given → Reaches spelling kinds members decls p (played (replication ghosts spelling) p s) given new (record { head = kept; answer = a; sent = [] } ∷ [])
+        → HaveAnswered p before given → Reaches spelling kinds members decls p (played (replication ghosts spelling) p s) given new (record { head = kept; answer = a; sent = []; finished = None } ∷ [])
     reaches_said world events lines e means kept a is_head is_answer calls =
         record {
           means = means_same spelling kinds members decls p (played (replication ghosts spelling) p s) new (ap (λ (x : Playing Kind Op Shown). x.events) e ∙ events) (ap (λ (x : Playing Kind Op Shown). x.world) e ∙ world) means;

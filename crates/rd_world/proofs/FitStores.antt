@@ -1,5 +1,5 @@
 -- What the store of a member's place holds is fit for a new member there.
-use Rattle.std.proofs.Common.{◌≡◌, ℕ, ◌+◌, ◌<◌, List, map, sym, ap, ◌∙◌, arith, Some}
+use Rattle.std.proofs.Common.{◌≡◌, ℕ, List, map, sym, ap, ◌∙◌, arith, Some}
 use Rattle.rd_history.specs.Texts.{Text}
 use Rattle.rd_history.specs.History.{History}
 use Rattle.rd_model.specs.View.{View, with_replaced}

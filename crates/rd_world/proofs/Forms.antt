@@ -17,6 +17,7 @@ use Rattle.rd_lattice.specs.declared.replica.Replica.{Ghosts}
 use Rattle.rd_lattice.specs.declared.spelled.SpelledData.{Ghosts as Spelling}
 use Rattle.rd_keeper.specs.declared.keeper.Keeper.{Ghosts as Keeping}
 use Rattle.rd_bytes.specs.declared.memory.Memory.{Memory}
+use Rattle.rd_quorum.specs.declared.level.Level.{Level}
 use Rattle.rd_script.specs.declared.script.Step.{Step}
 use Rattle.rd_script.specs.declared.script.Step.TheVariants as form
 use Rattle.rd_node.specs.declared.key.KeyState.{KeyState}
@@ -35,11 +36,12 @@ use Rattle.rd_world.proofs.Telling.{input_at}
 
 -- of these steps nothing is done where memory is wanted
 pub data IsWhole : Step → Type 0 where
-  update : (at : ℕ) (key : Text) (op : Op) → IsWhole (form.Update at key op)
-  get : (at : ℕ) (key : Text) → IsWhole (form.Get at key)
+  update : (at : ℕ) (key : Text) (op : Op) (level : Level) → IsWhole (form.Update at key op level)
+  get : (at : ℕ) (key : Text) (level : Level) → IsWhole (form.Get at key level)
   flush : (at : ℕ) → IsWhole (form.Flush at)
   gossip : (at to : ℕ) → IsWhole (form.Gossip at to)
   tick : (at : ℕ) → IsWhole (form.Tick at)
+  timeout : (at op : ℕ) → IsWhole (form.Timeout at op)
   deliver : (from to : ℕ) (index : Option ℕ) → IsWhole (form.Deliver from to index)
   install : (at view : ℕ) → IsWhole (form.Install at view)
 
@@ -51,11 +53,12 @@ module _ {T K Kind Delta : Type 0} {ghosts : Ghosts T Kind Op Delta} {keeping : 
       record { given = d.given; kept = d.kept; damaged = λ damage. absurd (let e : ◌≡◌ {A = Bool} true false = sym damage ∙ d.undamaged in cc e); does = λ loads. ((λ kinds members decls p m. d.undamaged), d.leads) }
 
   stays_so : (step : Step) → IsWhole step → (old new : World T K Kind Op Delta ghosts keeping) → IsAsBefore spelling old new → RemainsSo spelling step old new
-  stays_so step (update at key op) old new b = b.stays
-  stays_so step (get at key) old new b = b.stays
+  stays_so step (update at key op level) old new b = b.stays
+  stays_so step (get at key level) old new b = b.stays
   stays_so step (flush at) old new b = b.stays
   stays_so step (gossip at to) old new b = b.stays
   stays_so step (tick at) old new b = b.stays
+  stays_so step (timeout at op) old new b = b.stays
   stays_so step (deliver from to index) old new b = b.stays
   stays_so step (install at view) old new b = b.stays
 

@@ -7,10 +7,11 @@ use Rattle.std.proofs.lemmas.Bool.{eq-eqb}
 use Rattle.std.proofs.lemmas.List.Elements.{All-map, All-filter}
 use Rattle.rd_history.specs.Texts.{Text}
 use Rattle.rd_history.specs.Table.{identity_limit, with_at}
-use Rattle.rd_history.specs.History.{History}
+use Rattle.rd_history.specs.History.{History, IsExactlyPruned}
+use Rattle.rd_history.specs.Log.{IsTakenFrom}
 use Rattle.rd_history.proofs.HistoryLaws.{with_at_same, with_at_other}
 use Rattle.rd_model.specs.View.{View}
-use Rattle.rd_model.specs.Entry.{is_unchanged}
+use Rattle.rd_model.specs.Entry.{Entry, is_unchanged}
 use Rattle.rd_model.specs.DataType.{Replication}
 use Rattle.rd_model.specs.Message as sending
 use Rattle.rd_model.specs.Node as nodes
@@ -49,7 +50,7 @@ use Rattle.rd_world.specs.Standing.{StandsForLink, StandsForWorld, TellsStore}
 use Rattle.rd_world.specs.Steps.{Foretells, HaveAnswered, Reaches}
 use Rattle.rd_world.specs.Ways.{IsPrefix, Throughout, Means}
 use Rattle.rd_world.specs.Giving.{ChangesAt}
-use Rattle.rd_node.proofs.Fates.{IsOfProgram, of_program, node_same}
+use Rattle.rd_node.proofs.Fates.{entries_same}
 use Rattle.rd_world.proofs.FewPosts.{few_posts}
 use Rattle.rd_world.proofs.Linking.{same_told}
 use Rattle.rd_world.proofs.Onward.{safe_now, stands_before, way_logs}
@@ -130,6 +131,14 @@ module _ {T K Kind Delta : Type 0} {ghosts : Ghosts T Kind Op Delta} {keeping : 
   pub all_fine : All (λ (k : nodes.KeyState Kind Op). IsKept ghosts spelling k.kind (logs k.name) k.entry) (to_store old next) → All (IsFine ghosts spelling kinds logs) (to_store old next)
   all_fine kept k d within = record { kind = of_kinds k d within; kept = kept k d within }
 
+-- a member with the same entries
+safe_alike : {Kind : Type 0} {logs : Text → History Op} (one other : nodes.Node Kind Op Shown) → other.entries ≡ one.entries → IsSafe logs one → IsSafe logs other
+safe_alike {logs = logs} one other same s =
+    record {
+      taken = λ key. subst (λ (entries : Text → Entry Op). IsTakenFrom (logs key) (entries key).history) (sym same) (s.taken key);
+      exact = λ key. subst (λ (entries : Text → Entry Op). IsExactlyPruned (entries key).history) (sym same) (s.exact key);
+    }
+
 -- THE STEP
 
 module _ {T K Kind Delta : Type 0} {ghosts : Ghosts T Kind Op Delta} {keeping : Keeping K} (spelling : Spelling T Kind Op Delta) (alike : (a b : K) → is_some (keeping.table a) ≡ is_some (keeping.table b)) (kinds : Text → Kind) (members : ℕ) (decls : List (KeyDecl Kind)) (old new : World T K Kind Op Delta ghosts keeping) (p : Playing Kind Op Shown) (m : Means spelling kinds members decls p old) (head : script.Head Op) (event : Fate → Event Op)
@@ -158,17 +167,14 @@ module _ {T K Kind Delta : Type 0} {ghosts : Ghosts T Kind Op Delta} {keeping : 
       world_with f e = ap (λ (x : Playing Kind Op Shown). x.world) e ∙ world_taken D p head event i sent node (at.turns node work.runs) f ∙ at.happened node work.runs f
 
       module _ (input_stands : StandsForInput kinds logs before.keys.items input sent) (through : Throughout D logs members decls next) where
-        of : IsOfProgram sent
-        of = of_program kinds logs before.keys.items input sent input_stands
-
         safe_with : (f : Fate) → next ≡ taken_with D p head event i sent node (at.turns node work.runs) f → IsSafe logs (step D node sent f).node
         safe_with f e =
             safe_now D logs members decls next is_run through i (step D node sent f).node
             (ap (λ (w : worlds.World Kind Op Shown). w.nodes i) (world_with f e) ∙ with_at_same p.world.nodes i (Some (step D node sent f).node))
 
-        -- the member after the step is the same whatever the store did
+        -- the entries after the step are the same whatever the store did
         pub safe : IsSafe logs (step D node sent (meant_fate fate)).node
-        safe = subst (IsSafe logs) (node_same D node sent of some_fate.0 ∙ sym (node_same D node sent of (meant_fate fate))) (safe_with some_fate.0 some_fate.1)
+        safe = safe_alike (step D node sent some_fate.0).node (step D node sent (meant_fate fate)).node (entries_same D node sent (meant_fate fate) ∙ sym (entries_same D node sent some_fate.0)) (safe_with some_fate.0 some_fate.1)
 
         pub image : IsImage spelling kinds logs before fate output after node sent
         image = makes.image kinds logs node sent work.stands input_stands safe
@@ -176,7 +182,7 @@ module _ {T K Kind Delta : Type 0} {ghosts : Ghosts T Kind Op Delta} {keeping : 
         pub few : length output.posts ≤ length before.view.members
         few =
             let a : length output.posts ≡ length (step D node sent (meant_fate fate)).output.posts = zip_length _ output.posts (step D node sent (meant_fate fate)).output.posts image.answers.posts in
-            let b = few_posts D node sent of (meant_fate fate) in
+            let b = few_posts D node sent (meant_fate fate) in
             let c : length node.view.members ≡ length before.view.members = ap (λ (v : View). length v.members) work.stands.view in omega arith
 
         module _ (foretold : Foretells p (given_at place (answers_of (meant_fate fate)))) where
@@ -211,7 +217,7 @@ module _ {T K Kind Delta : Type 0} {ghosts : Ghosts T Kind Op Delta} {keeping : 
         abbrev done_by : nodes.Stepped Kind Op Shown
         done_by = step D (node logs now_in) sent (meant_fate fate)
 
-        line_made : (line : script.Told Op Shown) × (next.lines ≡ p.lines ++ line ∷ []) × IsLine (record { head = kept; answer = answer.Reply output.reply; sent = told_sent }) line
+        line_made : (line : script.Told Op Shown) × (next.lines ≡ p.lines ++ line ∷ []) × IsLine (record { head = kept; answer = answer.Reply output.reply; sent = told_sent; finished = output.finished }) line
         line_made =
             let says = (image logs now_in (input_stands logs now_in) through).answers in (
               line_of head done_by,
@@ -230,7 +236,7 @@ module _ {T K Kind Delta : Type 0} {ghosts : Ghosts T Kind Op Delta} {keeping : 
             ∙ ap (λ q. (called_for (meant_fate fate) p q).calls k) (place_there spelling kinds logs old new p.world now_in i place before after changes)
             ∙ answered_so_often p place (meant_fate fate) k
 
-      pub reaches_made : Reaches spelling kinds members decls p next (given_at place (answers_of (meant_fate fate))) new (record { head = kept; answer = answer.Reply output.reply; sent = told_sent } ∷ [])
+      pub reaches_made : Reaches spelling kinds members decls p next (given_at place (answers_of (meant_fate fate))) new (record { head = kept; answer = answer.Reply output.reply; sent = told_sent; finished = output.finished } ∷ [])
       reaches_made =
           let logged = way_logs D members decls next is_run in
           let line = line_made logged.0 logged.1 in

@@ -59,21 +59,21 @@ module _ {T K Kind Delta : Type 0} {ghosts : Ghosts T Kind Op Delta} {keeping : 
 
   -- an answer that is no reply
   told_so : (a : Answer) (meant : script.Answer Shown) → IsAnswer a meant → is_damage a ≡ false → ((kinds : Text → Kind) (members : ℕ) (decls : List (KeyDecl Kind)) (p : Playing Kind Op Shown) → Means spelling kinds members decls p old → install D p i number ≡ told p (script.Head.InstallHead i number) meant)
-      → (event : Event) → event ≡ record { head = head.Install i number; answer = a; sent = [] } → Plays spelling (form.Install i number) old old (event ∷ [])
+      → (event : Event) → event ≡ record { head = head.Install i number; answer = a; sent = []; finished = None } → Plays spelling (form.Install i number) old old (event ∷ [])
   told_so a meant is_answer whole_answer goes event line =
       subst (λ (e : Event). Plays spelling (form.Install i number) old old (e ∷ [])) (sym line)
-      (plays_does spelling (form.Install i number) old old (record { head = head.Install i number; answer = a; sent = [] } ∷ []) (record {
+      (plays_does spelling (form.Install i number) old old (record { head = head.Install i number; answer = a; sent = []; finished = None } ∷ []) (record {
         given = λ k. [];
         kept = λ k. not_called_at keeping (keeper_of old.nodes.items old.spare.items k);
         undamaged = whole_answer;
         leads = λ kinds members decls p m foretold. reaches_told spelling kinds members decls p old (install D p i number) (head.Install i number) a (script.Head.InstallHead i number) meant (goes kinds members decls p m) m refl is_answer;
       }))
 
-  pub installs_gone : here_is ≡ false → (event : Event) → event ≡ record { head = head.Install i number; answer = answer.Gone; sent = [] } → Plays spelling (form.Install i number) old old (event ∷ [])
+  pub installs_gone : here_is ≡ false → (event : Event) → event ≡ record { head = head.Install i number; answer = answer.Gone; sent = []; finished = None } → Plays spelling (form.Install i number) old old (event ∷ [])
   installs_gone absent = told_so answer.Gone script.Answer.Gone refl refl (λ kinds members decls p m. gone_is kinds members decls p m absent)
 
   module _ (present : here_is ≡ true) (asked : Option View) (asks : asked ≡ slice_get old.views number) where
-    pub installs_none : asked ≡ None → (event : Event) → event ≡ record { head = head.Install i number; answer = answer.NoSuchView; sent = [] } → Plays spelling (form.Install i number) old old (event ∷ [])
+    pub installs_none : asked ≡ None → (event : Event) → event ≡ record { head = head.Install i number; answer = answer.NoSuchView; sent = []; finished = None } → Plays spelling (form.Install i number) old old (event ∷ [])
     installs_none none = told_so answer.NoSuchView script.Answer.NoSuchView refl refl (λ kinds members decls p m. view_is kinds members decls p m present asked asks ∙ ap (with_view kinds members decls p m) none)
 
     pub installs : (alike : (a b : K) → is_some (keeping.table a) ≡ is_some (keeping.table b)) (view copy : View) → asked ≡ Some view → copy ≡ view → (new : World T K Kind Op Delta ghosts keeping) (outcome : Result Event Memory)

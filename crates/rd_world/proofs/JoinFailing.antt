@@ -112,14 +112,14 @@ module _ {T K Kind Delta : Type 0} {ghosts : Ghosts T Kind Op Delta} {keeping : 
           ];
         }
 
-    leads : LeadsTo spelling (λ p. played (replication ghosts spelling) p (ScriptStep.Join place)) (given_at place (false ∷ [])) old new (record { head = head.Join place; answer = answer.ClearFailed; sent = [] } ∷ [])
+    leads : LeadsTo spelling (λ p. played (replication ghosts spelling) p (ScriptStep.Join place)) (given_at place (false ∷ [])) old new (record { head = head.Join place; answer = answer.ClearFailed; sent = []; finished = None } ∷ [])
     leads kinds members decls p m foretold =
         let view_is = view_of spelling kinds members decls p old m in
         reaches_said spelling kinds members decls p old m (ScriptStep.Join place) (with_call p place) new (script.Head.JoinHead place) script.Answer.ClearFailed (given_at place (false ∷ [])) refl refl refl
         (fails_join (replication ghosts spelling) p place (ap (λ v. is_taken v place) (sym view_is) ∙ able.0) (ap (λ (v : View). nat_lt v.given identity_limit) (sym view_is) ∙ (let room = able.1 in grind (arith, nat_tests))) (next_is p place false foretold))
         (record { run = m.run; stands = λ logs through. stands_failed kinds logs p.world (m.stands logs through) }) (head.Join place) answer.ClearFailed refl refl (one_call p place false)
 
-    pub plays_failed : (event : Event) → event ≡ record { head = head.Join place; answer = answer.ClearFailed; sent = [] } → Plays spelling (form.Join place) old new (event ∷ [])
+    pub plays_failed : (event : Event) → event ≡ record { head = head.Join place; answer = answer.ClearFailed; sent = []; finished = None } → Plays spelling (form.Join place) old new (event ∷ [])
     plays_failed event same =
         subst (λ (e : Event). Plays spelling (form.Join place) old new (e ∷ [])) (sym same)
         (record { given = given_at place (false ∷ []); kept = keeps_so (false ∷ []) fails.answered; damaged = λ e. absurd (cc e); does = λ took. (λ kinds members decls p m. refl, leads) })
@@ -127,12 +127,12 @@ module _ {T K Kind Delta : Type 0} {ghosts : Ghosts T Kind Op Delta} {keeping : 
 -- NOTHING WAS CALLED
 
 module _ {T K Kind Delta : Type 0} {ghosts : Ghosts T Kind Op Delta} {keeping : Keeping K} (spelling : Spelling T Kind Op Delta) (place : ℕ) (old new : World T K Kind Op Delta ghosts keeping) (alike : IsAlike old new) where
-  pub plays_taken : is_taken (last_view old.views) place ≡ true → (event : Event) → event ≡ record { head = head.Join place; answer = answer.PlaceTaken; sent = [] } → Plays spelling (form.Join place) old new (event ∷ [])
+  pub plays_taken : is_taken (last_view old.views) place ≡ true → (event : Event) → event ≡ record { head = head.Join place; answer = answer.PlaceTaken; sent = []; finished = None } → Plays spelling (form.Join place) old new (event ∷ [])
   plays_taken taken event is = plays_told spelling old new alike (form.Join place) (head.Join place) answer.PlaceTaken event is refl (λ kinds members decls p m.
       let view_is = view_of spelling kinds members decls p old m in
       (script.Head.JoinHead place, script.Answer.PlaceTaken, tells_taken (replication ghosts spelling) p place (ap (λ v. is_taken v place) (sym view_is) ∙ taken), refl, refl))
 
-  pub plays_many : (is_taken (last_view old.views) place ≡ false) × ((last_view old.views).given ≡ identity_limit) → (event : Event) → event ≡ record { head = head.Join place; answer = answer.TooManyIdentities; sent = [] } → Plays spelling (form.Join place) old new (event ∷ [])
+  pub plays_many : (is_taken (last_view old.views) place ≡ false) × ((last_view old.views).given ≡ identity_limit) → (event : Event) → event ≡ record { head = head.Join place; answer = answer.TooManyIdentities; sent = []; finished = None } → Plays spelling (form.Join place) old new (event ∷ [])
   plays_many many event is = plays_told spelling old new alike (form.Join place) (head.Join place) answer.TooManyIdentities event is refl (λ kinds members decls p m.
       let view_is = view_of spelling kinds members decls p old m in (
         script.Head.JoinHead place,

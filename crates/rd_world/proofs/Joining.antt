@@ -257,7 +257,7 @@ module _ {T K Kind Delta : Type 0} {ghosts : Ghosts T Kind Op Delta} {keeping : 
         }
 
   module _ (number given : ℕ) (numbered : number ≡ (last_view old.views).number + 1) (given_is : given ≡ (last_view old.views).given) where
-    leads : LeadsTo spelling (λ p. played (replication ghosts spelling) p (ScriptStep.Join place)) (given_at place (true ∷ [])) old new (record { head = head.Join place; answer = answer.NewId given number; sent = [] } ∷ [])
+    leads : LeadsTo spelling (λ p. played (replication ghosts spelling) p (ScriptStep.Join place)) (given_at place (true ∷ [])) old new (record { head = head.Join place; answer = answer.NewId given number; sent = []; finished = None } ∷ [])
     leads kinds members decls p m foretold =
         let view_is = view_of spelling kinds members decls p old m in
         reaches_did spelling kinds members decls p old m (ScriptStep.Join place) within (with_call p place) new (Joining place) (script.Head.JoinHead place) (new_line (replication ghosts spelling) p place) (given_at place (true ∷ [])) refl refl
@@ -266,7 +266,7 @@ module _ {T K Kind Delta : Type 0} {ghosts : Ghosts T Kind Op Delta} {keeping : 
         (ap (λ (v : View). script.Answer.NewIdentity v.given (v.number + 1)) (sym view_is) ∙ ap (λ n. script.Answer.NewIdentity (last_view old.views).given n) (sym numbered) ∙ ap (λ i. script.Answer.NewIdentity i number) (sym given_is))
         (one_call p place true)
 
-    pub plays_joined : (event : Event) → event ≡ record { head = head.Join place; answer = answer.NewId given number; sent = [] } → Plays spelling (form.Join place) old new (event ∷ [])
+    pub plays_joined : (event : Event) → event ≡ record { head = head.Join place; answer = answer.NewId given number; sent = []; finished = None } → Plays spelling (form.Join place) old new (event ∷ [])
     plays_joined event same =
         subst (λ (e : Event). Plays spelling (form.Join place) old new (e ∷ [])) (sym same)
         (record {
@@ -291,7 +291,7 @@ is_next_view views joined view is sound = subst IsView (ap last_view is ∙ last
 
 module _ {T K Kind Delta : Type 0} {ghosts : Ghosts T Kind Op Delta} {keeping : Keeping K} (spelling : Spelling T Kind Op Delta) (alike : (a b : K) → is_some (keeping.table a) ≡ is_some (keeping.table b)) (place : ℕ) (within : place < 8) (old new : World T K Kind Op Delta ghosts keeping) (sound : IsView (last_view old.views)) (is_next : IsView (with_joined (last_view old.views) place))
     (able : CanJoin (last_view old.views) place) (r : IsReseated (with_joined (last_view old.views) place) place old new) (anew : SeatsAnew (last_view old.views).given (with_joined (last_view old.views) place) old.keys.items place old.nodes.items new.nodes.items old.spare.items new.spare.items) where
-  pub plays_anew : (number given : ℕ) → number ≡ (last_view old.views).number + 1 → given ≡ (last_view old.views).given → (event : Event) → event ≡ record { head = head.Join place; answer = answer.NewId given number; sent = [] } → Plays spelling (form.Join place) old new (event ∷ [])
+  pub plays_anew : (number given : ℕ) → number ≡ (last_view old.views).number + 1 → given ≡ (last_view old.views).given → (event : Event) → event ≡ record { head = head.Join place; answer = answer.NewId given number; sent = []; finished = None } → Plays spelling (form.Join place) old new (event ∷ [])
   plays_anew number given numbered given_is event same =
       let nobody = free_there old.views place able old.nodes.items old.spare.items old.seated within in
       let k = spare_there old.views place able old.nodes.items old.spare.items old.seated within in

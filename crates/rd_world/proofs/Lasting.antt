@@ -1,5 +1,5 @@
 -- A running member loses nothing on the way of a script: what it has of a key is part of what it has later. So a prune stays, and with it the pruned identity away.
-use Rattle.std.proofs.Common.{◌≡◌, ℕ, zero, suc, ◌+◌, ◌<◌, ◌≤◌, List, [], ◌∷◌, ◌++◌, refl, sym, ap, subst, ◌∙◌, arith, true, false, Option, Some, None}
+use Rattle.std.proofs.Common.{◌≡◌, ℕ, zero, suc, ◌<◌, ◌≤◌, List, [], ◌∷◌, ◌++◌, refl, sym, ap, subst, ◌∙◌, arith, true, false, Some}
 use Rattle.std.specs.Prelude.{All, if◌then◌else◌, slice_get}
 use Rattle.std.proofs.lemmas.List.Elements.{All-head, All-tail}
 use Rattle.rd_history.specs.Texts.{Text}
@@ -31,14 +31,11 @@ use Rattle.rd_envelope.specs.declared.envelope.Envelope.{Envelope}
 use Rattle.rd_envelope.specs.Images.{StandsFor}
 use Rattle.rd_envelope.specs.Words.{parts_of}
 use Rattle.rd_markers.specs.Marks.{is_performed, performed_in}
-use Rattle.rd_views.specs.Sound.{last_view}
 use Rattle.rd_node.specs.declared.key.KeyState.{KeyState}
-use Rattle.rd_node.specs.declared.node.Node.{Node}
 use Rattle.rd_node.specs.Members.{StandsForKey, StandsForNode}
 use Rattle.rd_node.specs.Steps.{replication}
 use Rattle.rd_world.specs.declared.world.World.{World}
 use Rattle.rd_world.specs.Gone.{IsHeld, HasPruned, IsWithout}
-use Rattle.rd_world.specs.Places.{member_of}
 use Rattle.rd_world.specs.Standing.{StandsForRunning, StandsForWorld}
 use Rattle.rd_world.specs.Ways.{IsPrefix, Means}
 use Rattle.rd_world.proofs.Onward.{way_logs, stands_before}

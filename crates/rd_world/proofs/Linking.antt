@@ -10,7 +10,7 @@ use Rattle.rd_model.specs.Message.{Message as Sent, Post as SentPost}
 use Rattle.rd_model.specs.World.{Link, Links, with_posts, moved_on}
 use Rattle.rd_lattice.specs.declared.replica.Replica.{Ghosts}
 use Rattle.rd_messages.specs.declared.message.Message.{Message}
-use Rattle.rd_messages.specs.declared.message.Message.TheVariants.{Deltas, Nack, Status, Gossip}
+use Rattle.rd_messages.specs.declared.message.Message.TheVariants.{Deltas, Nack, Status, Gossip, Write, WriteAck, WriteNack, Read, ReadAnswer}
 use Rattle.rd_messages.specs.declared.message.Post.{Post}
 use Rattle.rd_messages.specs.Sketches.{sketch_of}
 use Rattle.rd_messages.specs.Standing.{digest_told}
@@ -124,6 +124,12 @@ module _ {T Kind Op Delta : Type 0} {ghosts : Ghosts T Kind Op Delta} (kinds : T
   same_sketch (Status digests) sent s = (λ i. record { kind = kind.Status; first = sym (length-map digests digest_told) i; second = 0 }) ∙ sym (ap sketched s)
   same_sketch (Gossip entries wants) sent s =
       (λ i. record { kind = kind.Gossip; first = zip_length (StandsForKeyed ghosts.kind_of ghosts.IsDataOf kinds logs) entries s.sent_entries s.entries_stand i; second = length wants }) ∙ sym (ap sketched s.is)
+  same_sketch (Write op key envelope) sent s = sym (ap sketched s.is)
+  same_sketch (WriteAck op) sent s = sym (ap sketched s)
+  same_sketch (WriteNack op) sent s = sym (ap sketched s)
+  same_sketch (Read op key) sent s = sym (ap sketched s)
+  same_sketch (ReadAnswer op key None) sent s = sym (ap sketched s)
+  same_sketch (ReadAnswer op key (Some envelope)) sent s = sym (ap sketched s.is)
 
   pub same_told : (posts : List (Post T Kind Op Delta ghosts)) (sents : List (SentPost Op)) → StandsForPosts ghosts.kind_of ghosts.IsDataOf kinds logs posts sents → map told_of posts ≡ map sketched_post sents
   same_told [] [] all = refl

@@ -86,7 +86,7 @@ module _ {T K Kind Delta : Type 0} {ghosts : Ghosts T Kind Op Delta} {keeping : 
           links_moved kinds logs (channel_at old.links) (channel_at new.links) p.world.links from to (p.world.links from to).next
           (subst (λ n. ChangesOne (passed n) from to old.links new.links) (sym same_next) changes) a b (s.links a b ok bounded))
 
-      pub reaches_lost : Reaches spelling kinds members decls p (lose D p from to) (λ k. []) new (record { head = head.Lose from to index; answer = answer.Lost; sent = [] } ∷ [])
+      pub reaches_lost : Reaches spelling kinds members decls p (lose D p from to) (λ k. []) new (record { head = head.Lose from to index; answer = answer.Lost; sent = []; finished = None } ∷ [])
       reaches_lost =
           record {
             means = record {
@@ -103,30 +103,30 @@ module _ {T K Kind Delta : Type 0} {ghosts : Ghosts T Kind Op Delta} {keeping : 
             calls = λ place. ap (λ (q : Playing Kind Op Shown). q.calls place) (lost within) ∙ (let zero_more : p.calls place ≡ p.calls place + 0 = omega arith in zero_more);
           }
 
-    pub reaches_none : count_on (channel_at old.links from to) ≤ index → Reaches spelling kinds members decls p (lose D p from to) (λ k. []) old (record { head = head.Lose from to index; answer = answer.NoSuchMessage; sent = [] } ∷ [])
+    pub reaches_none : count_on (channel_at old.links from to) ≤ index → Reaches spelling kinds members decls p (lose D p from to) (λ k. []) old (record { head = head.Lose from to index; answer = answer.NoSuchMessage; sent = []; finished = None } ∷ [])
     reaches_none past = reaches_told spelling kinds members decls p old (lose D p from to) (head.Lose from to index) answer.NoSuchMessage (script.Head.LoseHead from to index) script.Answer.NoSuchMessage (none past) m refl refl
 
   pub does_lose : (new : World T K Kind Op Delta ghosts keeping) → IsAlikeButLinks old new → ChangesOne (passed index) from to old.links new.links → index < count_on (channel_at old.links from to)
-      → Does spelling (λ p. lose D p from to) old new (record { head = head.Lose from to index; answer = answer.Lost; sent = [] } ∷ [])
+      → Does spelling (λ p. lose D p from to) old new (record { head = head.Lose from to index; answer = answer.Lost; sent = []; finished = None } ∷ [])
   does_lose new same changes within =
       record { given = λ k. []; kept = kept_with_links old new same; undamaged = refl; leads = λ kinds members decls p m foretold. reaches_lost kinds members decls p m new same changes within }
 
-  pub does_none : count_on (channel_at old.links from to) ≤ index → Does spelling (λ p. lose D p from to) old old (record { head = head.Lose from to index; answer = answer.NoSuchMessage; sent = [] } ∷ [])
+  pub does_none : count_on (channel_at old.links from to) ≤ index → Does spelling (λ p. lose D p from to) old old (record { head = head.Lose from to index; answer = answer.NoSuchMessage; sent = []; finished = None } ∷ [])
   does_none past =
       record { given = λ k. []; kept = λ k. not_called_at keeping (keeper_of old.nodes.items old.spare.items k); undamaged = refl; leads = λ kinds members decls p m foretold. reaches_none kinds members decls p m past }
 
 module _ {T K Kind Delta : Type 0} {ghosts : Ghosts T Kind Op Delta} {keeping : Keeping K} (spelling : Spelling T Kind Op Delta) (old : World T K Kind Op Delta ghosts keeping) (from to : ℕ) (small : from < identity_limit) (few : to < identity_limit) (number : ℕ) (due : number ≡ next_on (channel_at old.links from to)) (event : Event) where
-  lost_line : (a : Answer) → event ≡ record { head = head.Lose from to number; answer = a; sent = [] } → event ≡ record { head = head.Lose from to (next_on (channel_at old.links from to)); answer = a; sent = [] }
-  lost_line a is = is ∙ ap (λ n. record { head = head.Lose from to n; answer = a; sent = [] }) due
+  lost_line : (a : Answer) → event ≡ record { head = head.Lose from to number; answer = a; sent = []; finished = None } → event ≡ record { head = head.Lose from to (next_on (channel_at old.links from to)); answer = a; sent = []; finished = None }
+  lost_line a is = is ∙ ap (λ n. record { head = head.Lose from to n; answer = a; sent = []; finished = None }) due
 
-  pub plays_lost : (new : World T K Kind Op Delta ghosts keeping) → event ≡ record { head = head.Lose from to number; answer = answer.Lost; sent = [] } → IsAlikeButLinks old new → ChangesOne (passed number) from to old.links new.links → number < count_on (channel_at old.links from to)
+  pub plays_lost : (new : World T K Kind Op Delta ghosts keeping) → event ≡ record { head = head.Lose from to number; answer = answer.Lost; sent = []; finished = None } → IsAlikeButLinks old new → ChangesOne (passed number) from to old.links new.links → number < count_on (channel_at old.links from to)
       → Plays spelling (form.Lose from to) old new (event ∷ [])
   plays_lost new is same changes within =
       subst (λ (e : Event). Plays spelling (form.Lose from to) old new (e ∷ [])) (sym (lost_line answer.Lost is))
-      (plays_does spelling (form.Lose from to) old new (record { head = head.Lose from to (next_on (channel_at old.links from to)); answer = answer.Lost; sent = [] } ∷ [])
+      (plays_does spelling (form.Lose from to) old new (record { head = head.Lose from to (next_on (channel_at old.links from to)); answer = answer.Lost; sent = []; finished = None } ∷ [])
       (does_lose spelling old from to small few new same (subst (λ (n : ℕ). ChangesOne (passed n) from to old.links new.links) due changes) (omega arith)))
 
-  pub plays_none : event ≡ record { head = head.Lose from to number; answer = answer.NoSuchMessage; sent = [] } → count_on (channel_at old.links from to) ≤ number → Plays spelling (form.Lose from to) old old (event ∷ [])
+  pub plays_none : event ≡ record { head = head.Lose from to number; answer = answer.NoSuchMessage; sent = []; finished = None } → count_on (channel_at old.links from to) ≤ number → Plays spelling (form.Lose from to) old old (event ∷ [])
   plays_none is past =
       subst (λ (e : Event). Plays spelling (form.Lose from to) old old (e ∷ [])) (sym (lost_line answer.NoSuchMessage is))
-      (plays_does spelling (form.Lose from to) old old (record { head = head.Lose from to (next_on (channel_at old.links from to)); answer = answer.NoSuchMessage; sent = [] } ∷ []) (does_none spelling old from to small few (omega arith)))
+      (plays_does spelling (form.Lose from to) old old (record { head = head.Lose from to (next_on (channel_at old.links from to)); answer = answer.NoSuchMessage; sent = []; finished = None } ∷ []) (does_none spelling old from to small few (omega arith)))

@@ -1,5 +1,5 @@
 -- A step that changes nothing: each part of the world is what it was.
-use Rattle.std.proofs.Common.{◌≡◌, ℕ, List, [], ◌∷◌, refl, sym, ap, subst, ◌∙◌, true, false, map}
+use Rattle.std.proofs.Common.{◌≡◌, ℕ, List, [], ◌∷◌, refl, sym, ap, subst, ◌∙◌, true, false, None, map}
 use Rattle.rd_history.specs.Texts.{Text}
 use Rattle.rd_history.specs.History.{History}
 use Rattle.rd_model.specs.Node.{KeyDecl}
@@ -67,7 +67,7 @@ module _ {T K Kind Delta : Type 0} {ghosts : Ghosts T Kind Op Delta} {keeping : 
   tells_line : (step : Step) (kept : Head) (a : Answer) → is_damage a ≡ false
       → ((kinds : Text → Kind) (members : ℕ) (decls : List (KeyDecl Kind)) (p : Playing Kind Op Shown) → Means spelling kinds members decls p old
       → (head : script.Head Op) × (answer : script.Answer Shown) × (played (replication ghosts spelling) p (step_of step) ≡ told p head answer) × IsHead kept head × IsAnswer a answer)
-      → Plays spelling step old new (record { head = kept; answer = a; sent = [] } ∷ [])
+      → Plays spelling step old new (record { head = kept; answer = a; sent = []; finished = None } ∷ [])
   tells_line step kept a sound tells =
       record {
         given = λ place. [];
@@ -82,7 +82,7 @@ module _ {T K Kind Delta : Type 0} {ghosts : Ghosts T Kind Op Delta} {keeping : 
       }
 
   -- the line alone is new
-  pub plays_told : (step : Step) (kept : Head) (a : Answer) (event : Event) → event ≡ record { head = kept; answer = a; sent = [] } → is_damage a ≡ false
+  pub plays_told : (step : Step) (kept : Head) (a : Answer) (event : Event) → event ≡ record { head = kept; answer = a; sent = []; finished = None } → is_damage a ≡ false
       → ((kinds : Text → Kind) (members : ℕ) (decls : List (KeyDecl Kind)) (p : Playing Kind Op Shown) → Means spelling kinds members decls p old
       → (head : script.Head Op) × (answer : script.Answer Shown) × (played (replication ghosts spelling) p (step_of step) ≡ told p head answer) × IsHead kept head × IsAnswer a answer)
       → Plays spelling step old new (event ∷ [])

@@ -140,14 +140,14 @@ module _ {T K Kind Delta : Type 0} {ghosts : Ghosts T Kind Op Delta} {keeping : 
         }
 
   module _ (number : ℕ) (numbered : number ≡ (last_view old.views).number + 1) where
-    leads : LeadsTo spelling (λ p. played (replication ghosts spelling) p (ScriptStep.Remove id)) (λ q. []) old new (record { head = head.Remove id; answer = answer.View number; sent = [] } ∷ [])
+    leads : LeadsTo spelling (λ p. played (replication ghosts spelling) p (ScriptStep.Remove id)) (λ q. []) old new (record { head = head.Remove id; answer = answer.View number; sent = []; finished = None } ∷ [])
     leads kinds members decls p m foretold =
         let view_is = view_of spelling kinds members decls p old m in
         reaches_did spelling kinds members decls p old m (ScriptStep.Remove id) tt p new (Removal id) (script.Head.RemoveHead id) (script.Answer.NewView (p.world.view.number + 1)) (λ q. []) refl refl
         (does_remove (replication ghosts spelling) p id (ap (λ v. is_member v id) (sym view_is) ∙ able.0) (ap (λ v. nat_lt 1 (length v.members)) (sym view_is) ∙ (let more = able.1 in grind (arith, nat_tests))))
         (λ logs histories s. stands_removed kinds logs p.world view_is s) (head.Remove id) (answer.View number) refl (ap script.Answer.NewView (ap (λ v. v.number + 1) (sym view_is) ∙ sym numbered)) (λ q. let same : p.calls q ≡ p.calls q + 0 = omega arith in same)
 
-    plays : Plays spelling (form.Remove id) old new (record { head = head.Remove id; answer = answer.View number; sent = [] } ∷ [])
+    plays : Plays spelling (form.Remove id) old new (record { head = head.Remove id; answer = answer.View number; sent = []; finished = None } ∷ [])
     plays =
         record {
           given = λ q. [];
@@ -156,18 +156,18 @@ module _ {T K Kind Delta : Type 0} {ghosts : Ghosts T Kind Op Delta} {keeping : 
           does = λ took. (λ kinds members decls p m. refl, leads);
         }
 
-    pub plays_removed : (event : Event) → event ≡ record { head = head.Remove id; answer = answer.View number; sent = [] } → Plays spelling (form.Remove id) old new (event ∷ [])
+    pub plays_removed : (event : Event) → event ≡ record { head = head.Remove id; answer = answer.View number; sent = []; finished = None } → Plays spelling (form.Remove id) old new (event ∷ [])
     plays_removed event is = subst (λ (e : Event). Plays spelling (form.Remove id) old new (e ∷ [])) (sym is) plays
 
 -- NO CHANGE
 
 module _ {T K Kind Delta : Type 0} {ghosts : Ghosts T Kind Op Delta} {keeping : Keeping K} (spelling : Spelling T Kind Op Delta) (id : ℕ) (old new : World T K Kind Op Delta ghosts keeping) (alike : IsAlike old new) where
-  pub plays_gone : seat_of (last_view old.views) id ≡ None → (event : Event) → event ≡ record { head = head.Remove id; answer = answer.Gone; sent = [] } → Plays spelling (form.Remove id) old new (event ∷ [])
+  pub plays_gone : seat_of (last_view old.views) id ≡ None → (event : Event) → event ≡ record { head = head.Remove id; answer = answer.Gone; sent = []; finished = None } → Plays spelling (form.Remove id) old new (event ∷ [])
   plays_gone none event is = plays_told spelling old new alike (form.Remove id) (head.Remove id) answer.Gone event is refl (λ kinds members decls p m.
       let view_is = view_of spelling kinds members decls p old m in
       (script.Head.RemoveHead id, script.Answer.Gone, tells_gone (replication ghosts spelling) p id (ap (λ v. is_member v id) (sym view_is) ∙ no_member (last_view old.views) id none), refl, refl))
 
-  pub plays_last : (is_member (last_view old.views) id ≡ true) × (length (last_view old.views).members ≡ 1) → (event : Event) → event ≡ record { head = head.Remove id; answer = answer.LastMember; sent = [] } → Plays spelling (form.Remove id) old new (event ∷ [])
+  pub plays_last : (is_member (last_view old.views) id ≡ true) × (length (last_view old.views).members ≡ 1) → (event : Event) → event ≡ record { head = head.Remove id; answer = answer.LastMember; sent = []; finished = None } → Plays spelling (form.Remove id) old new (event ∷ [])
   plays_last one event is = plays_told spelling old new alike (form.Remove id) (head.Remove id) answer.LastMember event is refl (λ kinds members decls p m.
       let view_is = view_of spelling kinds members decls p old m in (
         script.Head.RemoveHead id,

@@ -1,5 +1,5 @@
 -- How a restart ends, by what the place answered.
-use Rattle.std.proofs.Common.{◌≡◌, ◌≢◌, ℕ, List, [], ◌∷◌, ap, subst, Option, Some}
+use Rattle.std.proofs.Common.{◌≡◌, ◌≢◌, ℕ, List, [], ◌∷◌, ap, subst, Option, Some, None}
 use Rattle.std.specs.Prelude.{Result, is_some, option_and_then}
 use Rattle.rd_bytes.specs.declared.memory.Memory.{Memory}
 use Rattle.rd_model.specs.View.{View, with_replaced}
@@ -54,7 +54,7 @@ module _ {T K Kind Op Delta : Type 0} {ghosts : Ghosts T Kind Op Delta} {keeping
 
 module _ {T K Kind Delta : Type 0} {ghosts : Ghosts T Kind Op Delta} {keeping : Keeping K} (spelling : Spelling T Kind Op Delta) (alike : (a b : K) → is_some (keeping.table a) ≡ is_some (keeping.table b)) (id place : ℕ) (old new : World T K Kind Op Delta ghosts keeping) (before after : Node T K Kind Op Delta ghosts keeping) (seat : seat_of (last_view old.views) id ≡ Some place) (sound : IsView (last_view old.views))
     (able : CanReplace (last_view old.views) id) (was : item_at old.nodes.items place ≡ Some before) (is : item_at new.nodes.items place ≡ Some after) (r : IsReturned place old new) where
-  pub plays_back : (a : Answer) → ReloadsSo spelling (last_view old.views).given (with_replaced (last_view old.views) id) a before after → (event : Event) → event ≡ record { head = head.Restart id; answer = a; sent = [] } → Plays spelling (form.Restart id) old new (event ∷ [])
+  pub plays_back : (a : Answer) → ReloadsSo spelling (last_view old.views).given (with_replaced (last_view old.views) id) a before after → (event : Event) → event ≡ record { head = head.Restart id; answer = a; sent = []; finished = None } → Plays spelling (form.Restart id) old new (event ∷ [])
   plays_back answer.LoadFailed h event same = plays_load_failed spelling alike id place old new before after seat sound was is r h.0 able h event same
   plays_back (answer.Damaged key) h event same = plays_damaged spelling alike id place old new before after seat sound was is r h.refused.0 able key h event same
   plays_back _ h event same = absurd h

@@ -197,7 +197,7 @@ module _ {T K Kind Delta : Type 0} {ghosts : Ghosts T Kind Op Delta} {keeping : 
         }
 
   module _ (number given : ℕ) (numbered : number ≡ (last_view old.views).number + 1) (given_is : given ≡ (last_view old.views).given) where
-    leads : LoadsWhatItTook spelling (form.Restart id) old → LeadsTo spelling (λ p. played (replication ghosts spelling) p (ScriptStep.Restart id)) (given_at place (true ∷ [])) old new (record { head = head.Restart id; answer = answer.NewId given number; sent = [] } ∷ [])
+    leads : LoadsWhatItTook spelling (form.Restart id) old → LeadsTo spelling (λ p. played (replication ghosts spelling) p (ScriptStep.Restart id)) (given_at place (true ∷ [])) old new (record { head = head.Restart id; answer = answer.NewId given number; sent = []; finished = None } ∷ [])
     leads took kinds members decls p m foretold =
         let view_is = view_of spelling kinds members decls p old m in
         let place_now : place_of p.world.view id ≡ place = ap (λ v. place_of v id) (sym view_is) ∙ place_seated (last_view old.views) id place seat in
@@ -211,7 +211,7 @@ module _ {T K Kind Delta : Type 0} {ghosts : Ghosts T Kind Op Delta} {keeping : 
         (ap (λ (v : View). script.Answer.NewIdentity v.given (v.number + 1)) (sym view_is) ∙ ap (λ n. script.Answer.NewIdentity (last_view old.views).given n) (sym numbered) ∙ ap (λ i. script.Answer.NewIdentity i number) (sym given_is))
         (subst (λ q. HaveAnswered p (with_call p q) (given_at place (true ∷ []))) (sym place_now) (one_call p place true))
 
-    pub plays_restarted : (event : Line) → event ≡ record { head = head.Restart id; answer = answer.NewId given number; sent = [] } → Plays spelling (form.Restart id) old new (event ∷ [])
+    pub plays_restarted : (event : Line) → event ≡ record { head = head.Restart id; answer = answer.NewId given number; sent = []; finished = None } → Plays spelling (form.Restart id) old new (event ∷ [])
     plays_restarted event same =
         subst (λ (e : Line). Plays spelling (form.Restart id) old new (e ∷ [])) (sym same)
         (record {

@@ -1,5 +1,5 @@
 -- How far a round has come, and what it does as a whole.
-use Rattle.std.proofs.Common.{◌≡◌, ℕ, ◌+◌, max, ◌<◌, ◌≤◌, List, [], ◌∷◌, ◌++◌, length, take, map, get_or, refl, sym, ap, subst, ◌∙◌, arith, append_assoc, true, false, inl, inr}
+use Rattle.std.proofs.Common.{◌≡◌, ℕ, ◌+◌, max, ◌<◌, ◌≤◌, List, [], ◌∷◌, ◌++◌, length, take, map, get_or, refl, sym, ap, subst, ◌∙◌, arith, append_assoc, true, false, None, inl, inr}
 use Rattle.std.specs.Prelude.{◌==◌}
 use Rattle.std.proofs.lemmas.Bool.Decides.{eqb_tells}
 use Rattle.rd_history.specs.Texts.{Text}
@@ -123,10 +123,10 @@ module _ {T K Kind Delta : Type 0} {ghosts : Ghosts T Kind Op Delta} {keeping : 
       round_nothing : dues ≡ [] → round_of D p (due_now D p) ≡ told p script.Head.RoundHead script.Answer.Nothing
       round_nothing none = ap (round_of D p) (sym dues_now ∙ ap (map meant_due) none)
 
-    pub plays_nothing : dues ≡ [] → (events : List Event) → events ≡ record { head = head.Round; answer = answer.Nothing; sent = [] } ∷ [] → Plays spelling form.Round start start events
+    pub plays_nothing : dues ≡ [] → (events : List Event) → events ≡ record { head = head.Round; answer = answer.Nothing; sent = []; finished = None } ∷ [] → Plays spelling form.Round start start events
     plays_nothing none events line =
         subst (λ (es : List Event). Plays spelling form.Round start start es) (sym line)
-        (plays_does spelling form.Round start start (record { head = head.Round; answer = answer.Nothing; sent = [] } ∷ []) (record {
+        (plays_does spelling form.Round start start (record { head = head.Round; answer = answer.Nothing; sent = []; finished = None } ∷ []) (record {
           given = λ k. [];
           kept = λ k. not_called_at keeping (keeper_of start.nodes.items start.spare.items k);
           undamaged = refl;

@@ -77,7 +77,7 @@ module _ {T K Kind Delta : Type 0} {ghosts : Ghosts T Kind Op Delta} {keeping : 
   pub still_stands : (before after : Node T K Kind Op Delta ghosts keeping) (node : nodes.Node Kind Op Shown) → IsUnchanged before after → StandsForNode ghosts.kind_of ghosts.IsDataOf kinds logs before node → StandsForNode ghosts.kind_of ghosts.IsDataOf kinds logs after node
   still_stands before after node u s =
       subst (λ (code : Node T K Kind Op Delta ghosts keeping). StandsForNode ghosts.kind_of ghosts.IsDataOf kinds logs code node) (sym u.same)
-      (record { identity = s.identity; view = s.view; keys = s.keys; distinct = s.distinct; entries = s.entries; steps = s.steps })
+      (record { identity = s.identity; view = s.view; keys = s.keys; distinct = s.distinct; entries = s.entries; operations = s.operations; steps = s.steps })
 
   module _ (old new : World T K Kind Op Delta ghosts keeping) (world : worlds.World Kind Op Shown) (s : StandsForWorld spelling kinds logs old world) where
     -- no member has the identity

@@ -4,7 +4,7 @@ use Rattle.std.specs.Prelude.{is_some, MatchResult}
 use Rattle.rd_history.specs.Table.{identity_limit}
 use Rattle.std.specs.Prelude.{◌<◌}
 use Rattle.rd_history.specs.Texts.{Text}
-use Rattle.rd_model.specs.Node.{Input, Level}
+use Rattle.rd_model.specs.Node.{Input}
 use Rattle.rd_model.specs.Script as script
 use Rattle.rd_model.specs.Script.{Playing, ScriptStep, deliver}
 use Rattle.rd_kinds.specs.declared.operation.Op.{Op}
@@ -12,6 +12,8 @@ use Rattle.rd_lattice.specs.declared.replica.Replica.{Ghosts}
 use Rattle.rd_lattice.specs.declared.spelled.SpelledData.{Ghosts as Spelling}
 use Rattle.rd_keeper.specs.declared.keeper.Keeper.{Ghosts as Keeping}
 use Rattle.rd_bytes.specs.declared.memory.Memory.{Memory}
+use Rattle.rd_quorum.specs.declared.level.Level.{Level}
+use Rattle.rd_quorum.specs.Levels.{level_meant}
 use Rattle.rd_script.specs.declared.script.Step.{Step}
 use Rattle.rd_script.specs.declared.script.Step.TheVariants as form
 use Rattle.rd_node.specs.declared.input.Input.TheVariants as input
@@ -22,7 +24,7 @@ use Rattle.rd_world.specs.declared.event.Event.{Event}
 use Rattle.rd_world.specs.Channels.{channel_at, next_on}
 use Rattle.rd_world.specs.Steps.{Plays, Remains, Reaches}
 use Rattle.rd_world.specs.Giving.{Gives, Refuses, Does, IsAsBefore, delivers}
-use Rattle.rd_world.proofs.Forms.{step_does, plays_does, remains_as, outcome_given, update, get, flush, gossip, tick, deliver as whole_deliver}
+use Rattle.rd_world.proofs.Forms.{step_does, plays_does, remains_as, outcome_given, update, get, flush, gossip, tick, timeout, deliver as whole_deliver}
 use Rattle.rd_world.proofs.Losing.{same_next}
 
 module _ {T K Kind Delta : Type 0} {ghosts : Ghosts T Kind Op Delta} {keeping : Keeping K} (spelling : Spelling T Kind Op Delta) (old new : World T K Kind Op Delta ghosts keeping) where
@@ -30,17 +32,20 @@ module _ {T K Kind Delta : Type 0} {ghosts : Ghosts T Kind Op Delta} {keeping : 
   PlaysOr step outcome = MatchResult outcome (λ event. Plays spelling step old new (event ∷ [])) (λ e. Remains spelling step old new)
 
   module _ (alike : (a b : K) → is_some (keeping.table a) ≡ is_some (keeping.table b)) (outcome : Result Event Memory) where
-    pub updates : (at : ℕ) (key told taken : Text) (op copy : Op) → told ≡ key → taken ≡ key → copy ≡ op → MatchResult outcome (Gives spelling at (head.Update at told) (input.Update taken copy) old new) (λ e. Refuses at old new) → PlaysOr (form.Update at key op) outcome
-    updates at key told taken op copy same_told same_taken same_op gives =
-        step_does spelling (form.Update at key op) (update at key op) old new outcome
-        (outcome_given spelling alike (ScriptStep.Update at key op Level.Local) tt (script.Head.UpdateHead at key) at (Input.Update key op Level.Local) (head.Update at told) (ap (script.Head.UpdateHead at) (sym same_told)) (input.Update taken copy) old new
-        (λ kinds members decls p m. refl) (λ kinds logs keys. λ i. Input.Update (sym same_taken i) (sym same_op i) Level.Local) outcome gives)
+    pub updates : (at : ℕ) (key told taken : Text) (op copy : Op) (level : Level) → told ≡ key → taken ≡ key → copy ≡ op → MatchResult outcome (Gives spelling at (head.Update at told) (input.Update taken copy level) old new) (λ e. Refuses at old new)
+        → PlaysOr (form.Update at key op level) outcome
+    updates at key told taken op copy level same_told same_taken same_op gives =
+        let sent : Input Op = Input.Update key op (level_meant level) in
+        step_does spelling (form.Update at key op level) (update at key op level) old new outcome
+        (outcome_given spelling alike (ScriptStep.Update at key op (level_meant level)) tt (script.Head.UpdateHead at key) at sent (head.Update at told) (ap (script.Head.UpdateHead at) (sym same_told)) (input.Update taken copy level) old new
+        (λ kinds members decls p m. refl) (λ kinds logs keys. λ i. Input.Update (sym same_taken i) (sym same_op i) (level_meant level)) outcome gives)
 
-    pub gets : (at : ℕ) (key told taken : Text) → told ≡ key → taken ≡ key → MatchResult outcome (Gives spelling at (head.Get at told) (input.Get taken) old new) (λ e. Refuses at old new) → PlaysOr (form.Get at key) outcome
-    gets at key told taken same_told same_taken gives =
-        step_does spelling (form.Get at key) (get at key) old new outcome
-        (outcome_given spelling alike (ScriptStep.Get at key Level.Local) tt (script.Head.GetHead at key) at (Input.Get key Level.Local) (head.Get at told) (ap (script.Head.GetHead at) (sym same_told)) (input.Get taken) old new
-        (λ kinds members decls p m. refl) (λ kinds logs keys. ap (λ key. Input.Get key Level.Local) (sym same_taken)) outcome gives)
+    pub gets : (at : ℕ) (key told taken : Text) (level : Level) → told ≡ key → taken ≡ key → MatchResult outcome (Gives spelling at (head.Get at told) (input.Get taken level) old new) (λ e. Refuses at old new) → PlaysOr (form.Get at key level) outcome
+    gets at key told taken level same_told same_taken gives =
+        let sent : Input Op = Input.Get key (level_meant level) in
+        step_does spelling (form.Get at key level) (get at key level) old new outcome
+        (outcome_given spelling alike (ScriptStep.Get at key (level_meant level)) tt (script.Head.GetHead at key) at sent (head.Get at told) (ap (script.Head.GetHead at) (sym same_told)) (input.Get taken level) old new
+        (λ kinds members decls p m. refl) (λ kinds logs keys. ap (λ key. Input.Get key (level_meant level)) (sym same_taken)) outcome gives)
 
     pub flushes : (at : ℕ) → MatchResult outcome (Gives spelling at (head.Flush at) input.Flush old new) (λ e. Refuses at old new) → PlaysOr (form.Flush at) outcome
     flushes at gives =
@@ -56,6 +61,11 @@ module _ {T K Kind Delta : Type 0} {ghosts : Ghosts T Kind Op Delta} {keeping : 
     ticks at gives =
         step_does spelling (form.Tick at) (tick at) old new outcome
         (outcome_given spelling alike (ScriptStep.Tick at) tt (script.Head.TickHead at) at Input.PruneTick (head.Tick at) refl input.PruneTick old new (λ kinds members decls p m. refl) (λ kinds logs keys. refl) outcome gives)
+
+    pub times_out : (at op : ℕ) → MatchResult outcome (Gives spelling at (head.Timeout at op) (input.Timeout op) old new) (λ e. Refuses at old new) → PlaysOr (form.Timeout at op) outcome
+    times_out at op gives =
+        step_does spelling (form.Timeout at op) (timeout at op) old new outcome
+        (outcome_given spelling alike (ScriptStep.Timeout at op) tt (script.Head.TimeoutHead at op) at (Input.Timeout op) (head.Timeout at op) refl (input.Timeout op) old new (λ kinds members decls p m. refl) (λ kinds logs keys. refl) outcome gives)
 
   module _ (outcome : Result Event Memory) (from to : ℕ) where
     abbrev Delivers : ℕ → Type 0

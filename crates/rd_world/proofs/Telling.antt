@@ -30,7 +30,7 @@ use Rattle.rd_world.proofs.Onward.{means_same}
 module _ {T K Kind Delta : Type 0} {ghosts : Ghosts T Kind Op Delta} {keeping : Keeping K} (spelling : Spelling T Kind Op Delta) (kinds : Text → Kind) (members : ℕ) (decls : List (KeyDecl Kind)) (p : Playing Kind Op Shown) (new : World T K Kind Op Delta ghosts keeping) where
   -- one line was told, and nothing else is new
   pub reaches_told : (q : Playing Kind Op Shown) (kept : Head) (a : Answer) (head : script.Head Op) (meant : script.Answer Shown) → q ≡ told p head meant → Means spelling kinds members decls p new → IsHead kept head → IsAnswer a meant
-      → Reaches spelling kinds members decls p q (λ place. []) new (record { head = kept; answer = a; sent = [] } ∷ [])
+      → Reaches spelling kinds members decls p q (λ place. []) new (record { head = kept; answer = a; sent = []; finished = None } ∷ [])
   reaches_told q kept a head meant e m is_head is_answer =
       record {
         means = means_same spelling kinds members decls p q new (ap (λ (x : Playing Kind Op Shown). x.events) e) (ap (λ (x : Playing Kind Op Shown). x.world) e) m;

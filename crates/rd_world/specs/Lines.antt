@@ -1,11 +1,12 @@
 -- Which lines of the model's report events are.
-use Rattle.std.specs.Prelude.{◌≡◌, List, ◌∷◌, [], ◌++◌, map, length, Bool, true, false, Option, None, option_map}
+use Rattle.std.specs.Prelude.{◌≡◌, List, ◌∷◌, [], ◌++◌, map, length, Bool, true, false, Option, option_map}
 use Rattle.std.specs.List.{AllZip}
 use Rattle.rd_kinds.specs.declared.shown.Shown.{Shown}
 use Rattle.rd_model.specs.Message as model
 use Rattle.rd_model.specs.Script as script
 use Rattle.rd_model.specs.Script.{Told, Playing}
 use Rattle.rd_node.specs.Members.{meant}
+use Rattle.rd_node.specs.Operations.{finished_meant}
 use Rattle.rd_messages.specs.declared.sketch.MessageKind.TheVariants as kind
 use Rattle.rd_messages.specs.declared.sketch.Sketch.{Sketch}
 use Rattle.rd_world.specs.declared.event.Head.{Head}
@@ -68,6 +69,7 @@ module _ {Op : Type 0} where
   IsHead (head.Deliver from to index sketch) told =
       (message : Option (model.Message Op)) × (told ≡ script.Head.DeliverHead from to index message) × (sketch ≡ option_map sketched message)
   IsHead (head.Lose from to index) told = told ≡ script.Head.LoseHead from to index
+  IsHead (head.Timeout at op) told = told ≡ script.Head.TimeoutHead at op
   IsHead head.Round told = told ≡ script.Head.RoundHead
   IsHead (head.Remove id) told = told ≡ script.Head.RemoveHead id
   IsHead (head.Join place) told = told ≡ script.Head.JoinHead place
@@ -79,7 +81,7 @@ module _ {Op : Type 0} where
     pub head : IsHead event.head told.head
     pub answer : IsAnswer event.answer told.answer
     pub sent : event.sent ≡ map sketched_post told.posts
-    pub ended : told.ended ≡ None
+    pub ended : told.ended ≡ option_map finished_meant event.finished
 
 module _ {Kind Op : Type 0} where
   -- what was told between the two

@@ -43,13 +43,13 @@ module _ {T K Kind Op Delta : Type 0} {ghosts : Ghosts T Kind Op Delta} {keeping
   pub record IsStepOnRow (before : Node T K Kind Op Delta ghosts keeping) (input : Input T Kind Op Delta ghosts) (answered : Answered) (after : Node T K Kind Op Delta ghosts keeping) (old new : List (Channel (Message T Kind Op Delta ghosts))) : Type 0 where
     pub fate : Fate
     pub posts : List (Post T Kind Op Delta ghosts)
-    pub makes : IsStepOf spelling before input fate (record { reply = answered.reply; posts = posts }) after
+    pub makes : IsStepOf spelling before input fate (record { reply = answered.reply; posts = posts; finished = answered.finished }) after
     pub sends : length posts ≤ length before.view.members → (b : ℕ) → slice_get new b ≡ option_map (extended (messages_to posts b)) (slice_get old b)
     pub tells : length posts ≤ length before.view.members → answered.sent ≡ map told_of posts
 
   pub record IsStepOnLinks (before : Node T K Kind Op Delta ghosts keeping) (input : Input T Kind Op Delta ghosts) (answered : Answered) (after : Node T K Kind Op Delta ghosts keeping) (from : ℕ) (old new : Channels (Message T Kind Op Delta ghosts)) : Type 0 where
     pub fate : Fate
     pub posts : List (Post T Kind Op Delta ghosts)
-    pub makes : IsStepOf spelling before input fate (record { reply = answered.reply; posts = posts }) after
+    pub makes : IsStepOf spelling before input fate (record { reply = answered.reply; posts = posts; finished = answered.finished }) after
     pub sends : length posts ≤ length before.view.members → Sends from posts old new
     pub tells : length posts ≤ length before.view.members → answered.sent ≡ map told_of posts

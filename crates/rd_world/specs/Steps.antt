@@ -5,7 +5,6 @@
 use Rattle.std.specs.Prelude.{◌≡◌, ◌≢◌, ℕ, ◌+◌, List, [], ◌∷◌, length, map, true, false, Some, is_some, IsSome, Result, MatchResult, slice_get}
 use Rattle.rd_history.specs.Texts.{Text}
 use Rattle.rd_model.specs.Node as nodes
-use Rattle.rd_model.specs.Node.{Level}
 use Rattle.rd_model.specs.View.{place_of}
 use Rattle.rd_model.specs.Script.{Playing, ScriptStep, KeeperAnswers, answers_between, opening, played}
 use Rattle.rd_kinds.specs.declared.operation.Op.{Op}
@@ -14,6 +13,7 @@ use Rattle.rd_lattice.specs.declared.replica.Replica.{Ghosts}
 use Rattle.rd_lattice.specs.declared.spelled.SpelledData.{Ghosts as Spelling}
 use Rattle.rd_keeper.specs.declared.keeper.Keeper.{Ghosts as Keeping}
 use Rattle.rd_views.specs.Sound.{last_view}
+use Rattle.rd_quorum.specs.Levels.{level_meant}
 use Rattle.rd_node.specs.declared.key.KeyDecl.{KeyDecl}
 use Rattle.rd_node.specs.Members.{AreOfKinds, declared}
 use Rattle.rd_node.specs.Steps.{replication}
@@ -29,14 +29,15 @@ use Rattle.rd_world.specs.Keeping.{Given, KeepsAt, IsKept, AreKept, IsNotCleared
 use Rattle.rd_world.specs.Ways.{IsPrefix, Means}
 
 abbrev pub step_of : Step → ScriptStep Op
-step_of (form.Update at key op) = ScriptStep.Update at key op Level.Local
-step_of (form.Get at key) = ScriptStep.Get at key Level.Local
+step_of (form.Update at key op level) = ScriptStep.Update at key op (level_meant level)
+step_of (form.Get at key level) = ScriptStep.Get at key (level_meant level)
 step_of (form.Flush at) = ScriptStep.Flush at
 step_of (form.Gossip at to) = ScriptStep.Gossip at to
 step_of (form.Deliver from to index) = ScriptStep.Deliver from to index
 step_of (form.Lose from to) = ScriptStep.Lose from to
 step_of form.Round = ScriptStep.Round
 step_of (form.Tick at) = ScriptStep.Tick at
+step_of (form.Timeout at op) = ScriptStep.Timeout at op
 step_of (form.Remove id) = ScriptStep.Remove id
 step_of (form.Join place) = ScriptStep.Join place
 step_of (form.Restart id) = ScriptStep.Restart id

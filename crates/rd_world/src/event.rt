@@ -1,5 +1,5 @@
 use rd_bytes::{Items, Text};
-use rd_node::{Reply, Sketch};
+use rd_node::{Finished, Reply, Sketch};
 use rd_vectors::Id;
 
 /// What was done.
@@ -42,6 +42,11 @@ pub enum Head {
         from: Id,
         to: Id,
         index: usize,
+    },
+    /// An open operation of a member was to be closed without a result.
+    Timeout {
+        at: Id,
+        op: u64,
     },
     /// A member was to leave.
     Remove {
@@ -107,12 +112,14 @@ pub struct SentTo {
 /// The messages that a step sent, in the order of their receivers.
 pub type Sketches = Items<SentTo>;
 
-/// One line of a report.
+/// One line of a report: what was done and what came of it, the messages that were sent, and the operation of the member that
+/// ended by it.
 #[derive(Drop)]
 pub struct Event {
     pub head: Head,
     pub answer: Answer,
     pub sent: Sketches,
+    pub finished: Option<Finished>,
 }
 
 /// The lines of a step, in their order.

@@ -9,7 +9,7 @@ use rd_bytes::{Items, Memory, Text};
 use rd_keeper::Keeper;
 use rd_kinds::Op;
 use rd_lattice::SpelledData;
-use rd_node::Input;
+use rd_node::{Input, Level};
 use rd_script::Step;
 use rd_vectors::Id;
 use std::alloc::Global;
@@ -58,14 +58,15 @@ impl<T: SpelledData<Op = Op>, K: Keeper + Drop> World<T, K> {
         ensures { MakesStep T.SpelledData.own step.now self.old self.new result }
     {
         match step {
-            Step::Update { at, key, op } => self.update(*at, key, op),
-            Step::Get { at, key } => self.get(*at, key),
+            Step::Update { at, key, op, level } => self.update(*at, key, op, *level),
+            Step::Get { at, key, level } => self.get(*at, key, *level),
             Step::Flush { at } => self.flush(*at),
             Step::Gossip { at, to } => self.gossip(*at, *to),
             Step::Deliver { from, to, index } => self.deliver_one(*from, *to, *index),
             Step::Lose { from, to } => Ok(self.lose(*from, *to)),
             Step::Round => unreachable!(),
             Step::Tick { at } => self.tick(*at),
+            Step::Timeout { at, op } => self.timeout(*at, *op),
             Step::Remove { id } => self.remove(*id),
             Step::Join { place } => self.join(*place),
             Step::Restart { id } => self.restart(*id),
@@ -73,9 +74,9 @@ impl<T: SpelledData<Op = Op>, K: Keeper + Drop> World<T, K> {
         }
     }
 
-    /// A member is to change the value of a key.
-    fn update(&mut self, at: Id, key: &Text, op: &Op) -> Result<Event, Memory>
-        ensures { MakesStep T.SpelledData.own (form.Update at key.now op.now) self.old self.new result }
+    /// A member is to change the value of a key, at so many members.
+    fn update(&mut self, at: Id, key: &Text, op: &Op, level: Level) -> Result<Event, Memory>
+        ensures { MakesStep T.SpelledData.own (form.Update at key.now op.now level) self.old self.new result }
     {
         let head = Head::Update {
             at,
@@ -83,19 +84,19 @@ impl<T: SpelledData<Op = Op>, K: Keeper + Drop> World<T, K> {
         };
         let key = key.copy(self.alloc)?;
         let op = copy_op(self.alloc, op)?;
-        self.give(at, head, &Input::Update { key, op })
+        self.give(at, head, &Input::Update { key, op, level })
     }
 
-    /// A member is to show the value of a key.
-    fn get(&mut self, at: Id, key: &Text) -> Result<Event, Memory>
-        ensures { MakesStep T.SpelledData.own (form.Get at key.now) self.old self.new result }
+    /// A member is to show the value of a key, as so many members have it.
+    fn get(&mut self, at: Id, key: &Text, level: Level) -> Result<Event, Memory>
+        ensures { MakesStep T.SpelledData.own (form.Get at key.now level) self.old self.new result }
     {
         let head = Head::Get {
             at,
             key: key.copy(self.alloc)?,
         };
         let key = key.copy(self.alloc)?;
-        self.give(at, head, &Input::Get { key })
+        self.give(at, head, &Input::Get { key, level })
     }
 
     /// A member is to send what its peers may lack.
@@ -117,6 +118,13 @@ impl<T: SpelledData<Op = Op>, K: Keeper + Drop> World<T, K> {
         ensures { MakesStep T.SpelledData.own (form.Tick at) self.old self.new result }
     {
         self.give(at, Head::Tick { at }, &Input::PruneTick)
+    }
+
+    /// An open operation of a member is to be closed without a result.
+    fn timeout(&mut self, at: Id, op: u64) -> Result<Event, Memory>
+        ensures { MakesStep T.SpelledData.own (form.Timeout at op) self.old self.new result }
+    {
+        self.give(at, Head::Timeout { at, op }, &Input::Timeout(op))
     }
 
     /// The message of a number is delivered, or the next one due where no number is given.

@@ -9,7 +9,7 @@ use crate::links::{Link, Links};
 use rd_bytes::{Items, Memory};
 use rd_keeper::Keeper;
 use rd_lattice::{Replica, SpelledData};
-use rd_node::{Input, Message, Node, Output, Post, Reply, StepError};
+use rd_node::{Finished, Input, Message, Node, Output, Post, Reply, StepError};
 use rd_vectors::Id;
 use std::alloc::Global;
 
@@ -51,11 +51,12 @@ fn send<T: Replica>(row: &mut Vec<Link<Message<T>>>, posts: Vec<Post<T>>, sent: 
     }
 }
 
-/// What a member answered: its reply, and what it sent.
+/// What a member answered: its reply, what it sent, and the operation that ended.
 #[derive(Drop)]
 pub(crate) struct Answered {
     pub(crate) reply: Reply,
     pub(crate) sent: Sketches,
+    pub(crate) finished: Option<Finished>,
 }
 
 /// A member makes a step: its messages, of which there is at most one for each member of its view, go to the ends of its
@@ -77,10 +78,18 @@ fn step_on_row<T: SpelledData, K: Keeper + Drop>(
     };
     reserve(row, room)?;
     let output = node.step(input)?;
-    let Output { reply, posts } = output;
+    let Output {
+        reply,
+        posts,
+        finished,
+    } = output;
     send(row, posts.into_vec(), &mut sent);
     let sent = Items::from_vec(sent);
-    Ok(Answered { reply, sent })
+    Ok(Answered {
+        reply,
+        sent,
+        finished,
+    })
 }
 
 /// The member of an identity makes a step: its messages go to the ends of its links, and are told.

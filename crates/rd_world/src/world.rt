@@ -147,11 +147,16 @@ impl<T: SpelledData<Op = Op>, K: Keeper + Drop> World<T, K> {
         match &mut self.nodes[usize::from(place)] {
             Some(node) => match step_on(self.alloc, node, &mut self.links, at, input) {
                 Ok(answered) => {
-                    let Answered { reply, sent } = answered;
+                    let Answered {
+                        reply,
+                        sent,
+                        finished,
+                    } = answered;
                     Ok(Event {
                         head,
                         answer: Answer::Reply(reply),
                         sent,
+                        finished,
                     })
                 }
                 Err(StepError::HistoryFull) => Ok(line(self.alloc, head, Answer::HistoryFull)),
@@ -226,20 +231,21 @@ fn item_at<X>(items: &[Option<X>], place: usize) -> Option<&X>
     }
 }
 
-/// An event that sent nothing.
+/// An event that sent nothing and ended nothing.
 pub(crate) fn line(alloc: Global, head: Head, answer: Answer) -> Event
-    ensures { result ≡ record { head = head; answer = answer; sent = [] } }
+    ensures { result ≡ record { head = head; answer = answer; sent = []; finished = None } }
 {
     Event {
         head,
         answer,
         sent: Items::new(alloc),
+        finished: None,
     }
 }
 
 /// The event of a message that was not handed over.
 fn undelivered(alloc: Global, from: Id, to: Id, index: usize, answer: Answer) -> Event
-    ensures { result ≡ record { head = head.Deliver from to index None; answer = answer; sent = [] } }
+    ensures { result ≡ record { head = head.Deliver from to index None; answer = answer; sent = []; finished = None } }
 {
     let head = Head::Deliver {
         from,

@@ -28,7 +28,7 @@ loop-keyed-preserved g c =
     let i = c.loop-keyed.keyed-index in
     let keyed = c.keyed-item.result in
     record {
-      kept = λ kept. c.in_ok-take_entry_at.ensures.kept (c.loop-keyed.invariant.kept kept);
+      kept = λ kept. c.in_ok-take_envelope.ensures.kept (c.loop-keyed.invariant.kept kept);
       image = λ kinds logs before node sent rest exact of_kinds held kept tells work.
           let S = StandsForKeyed R.kind_of R.IsDataOf kinds logs in
           let P = IsEntryPassedOver R c.args.keys.now in
@@ -39,11 +39,11 @@ loop-keyed-preserved g c =
                 let so_far = c.loop-keyed.invariant.image kinds logs before node first (last ∷ rest) exact' of_kinds held kept told work in
                 let theirs = subst (λ key. IsTakenFrom (logs key) last.item.history) (sym stands.same) stands.held.image.taken in
                 let exact_next = exact_before R.kind_of R.IsDataOf kinds logs c.args.id c.args.keys.now c.args.view before held c.loop-keyed.changes (after_entries node first) so_far last rest theirs exact' in
-                let next = c.in_ok-take_entry_at.ensures.image kinds logs before (after_entries node first) last exact_next held (c.loop-keyed.invariant.kept kept) stands so_far in
-                subst (λ (n : Member g.row.T-Kind.Denot g.row.T-Op.Denot Shown). IsAtWork R.kind_of R.IsDataOf kinds logs c.args.id c.args.keys.now c.args.view before c.take_entry_at.new.changes n) (sym same) next
+                let next = c.in_ok-take_envelope.ensures.image kinds logs before (after_entries node first) last exact_next held (c.loop-keyed.invariant.kept kept) stands so_far in
+                subst (λ (n : Member g.row.T-Kind.Denot g.row.T-Op.Denot Shown). IsAtWork R.kind_of R.IsDataOf kinds logs c.args.id c.args.keys.now c.args.view before c.take_envelope.new.changes n) (sym same) next
             | last_passed told passed ↦
                 let so_far = c.loop-keyed.invariant.image kinds logs before node sent rest exact of_kinds held kept told work in
-                subst (λ changes. IsAtWork R.kind_of R.IsDataOf kinds logs c.args.id c.args.keys.now c.args.view before changes (after_entries node sent)) (sym (c.in_ok-take_entry_at.ensures.passed_over of_kinds (c.loop-keyed.invariant.kept kept) passed)) so_far
+                subst (λ changes. IsAtWork R.kind_of R.IsDataOf kinds logs c.args.id c.args.keys.now c.args.view before changes (after_entries node sent)) (sym (c.in_ok-take_envelope.ensures.passed_over of_kinds (c.loop-keyed.invariant.kept kept) passed)) so_far
           ];
     }
 

@@ -14,7 +14,7 @@ use Rattle.rd_node.specs.Inputs.{TellsGroups, TellsEntries}
 use Rattle.rd_node.specs.Taking.{IsKept, LeadsTo, AreExactAt, IsAtWork}
 use Rattle.rd_node.proofs.Working.{kept_first, leads_first, items_back}
 use Rattle.rd_node.proofs.GroupSteps.{groups-only}
-use Rattle.rd_node.proofs.Replying.{brings, replies, answers_stand, changed_is, few_answers}
+use Rattle.rd_node.proofs.Replying.{brings, replies, answers_stand, not_opened, changed_is, few_answers}
 use Rattle.rd_node.proofs.taking.brought.Goals as goal
 
 pub returns-clause-kept : goal.returns-clause-kept
@@ -31,7 +31,7 @@ returns-clause-kept g c =
     subst (AreMade Kept keys) (sym (items_back Kept keys (with_items first one) two k1' k2)) k2
 
 pub returns-clause-image : goal.returns-clause-image
-returns-clause-image g c = λ digest kinds logs node sent held_by stands other exact.
+returns-clause-image g c = λ digest kinds logs node sent held_by stands other exchange exact.
     let of_kinds = held_by.of_kinds in
     let held = held_by.held in
     let R = g.T.Replica in
@@ -39,7 +39,7 @@ returns-clause-image g c = λ digest kinds logs node sent held_by stands other e
     let Kept = IsKept R.kind_of c.args.id in
     let keys = c.args.keys.now in
     let message = c.args.message.now in
-    let b = brings D kinds logs keys node c.args.from message sent stands other in
+    let b = brings D kinds logs keys node c.args.from message sent stands other exchange in
     let groups = subst (λ gs. TellsGroups R kinds logs keys gs b.sent_groups) (sym c.groups.ensures) b.groups_stand in
     let entries = subst (λ es. TellsEntries R kinds logs keys es b.sent_entries) (sym c.entries.ensures) b.entries_stand in
     let first = c.in_ok-changes.changes in
@@ -79,3 +79,9 @@ returns-clause-image g c = λ digest kinds logs node sent held_by stands other e
 
 pub returns-clause-few : goal.returns-clause-few
 returns-clause-few g c = subst (λ posts. length posts ≤ 2) (sym c.in_ok-posts.ensures) (few_answers g.T.Replica c.args.from c.as_slice-2.result.now c.in_ok-entries.entries)
+
+pub returns-clause-opens_none : goal.returns-clause-opens_none
+returns-clause-opens_none g c = not_opened c.reply-reply.result (only_asks c.args.message.now) c.any_changed-changed.result c.as_slice.result.now c.reply-reply.ensures
+
+pub returns-clause-counted : goal.returns-clause-counted
+returns-clause-counted g c = c.in_ok-changes.changes.ok.0 ∙ (kept_first g.T.Replica.kind_of c.args.id c.args.keys.now c.in_ok-changes.changes.items c.in_ok-changes.ensures).one_each

@@ -3,6 +3,6 @@ use Rattle.rd_node.proofs.GossipSteps.{no_status}
 use Rattle.rd_node.proofs.taking.taken.Goals as goal
 
 pub returns-in_default-clause-image : goal.returns-in_default-clause-image
-returns-in_default-clause-image g c = λ kinds logs node sent held_by stands exact.
+returns-in_default-clause-image g c = λ kinds logs node sent held_by stands exchange exact.
     let S = g.T.SpelledData in
-    c.brought.ensures.image (entry_digest S.byte_of S.history_spelled) kinds logs node sent held_by stands (no_status c.args.message.now c.in_default.not-Status) exact
+    c.brought.ensures.image (entry_digest S.byte_of S.history_spelled) kinds logs node sent held_by stands (no_status c.args.message.now c.in_default.not-Status) exchange exact

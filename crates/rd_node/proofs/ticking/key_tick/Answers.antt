@@ -1,8 +1,8 @@
-use Rattle.std.proofs.Common.{◌≡◌, ℕ, ◌+◌, ◌<◌, ◌≤◌, ◌++◌, [], ◌≢◌, None, take, length, get_or, List, refl, sym, ap, ◌∙◌, subst, arith}
+use Rattle.std.proofs.Common.{◌++◌, [], ◌≢◌, None, take, length, refl, sym, ap, ◌∙◌, subst, arith}
 use Rattle.std.specs.Prelude.{map}
 use Rattle.std.proofs.lemmas.List.{append-nil, take_all}
 use Rattle.rd_history.specs.History.{IsPartOf}
-use Rattle.rd_model.specs.Step.{Ticking, tick_identity}
+use Rattle.rd_model.specs.Step.{Ticking}
 use Rattle.rd_node.specs.declared.ticking.KeyTick.{KeyTick}
 use Rattle.rd_node.specs.Replies.{delta_groups, meant_at_key}
 use Rattle.rd_node.specs.Sending.{state_in}

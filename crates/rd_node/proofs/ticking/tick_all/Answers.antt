@@ -1,10 +1,9 @@
-use Rattle.std.proofs.Common.{◌≡◌, ℕ, ◌+◌, ◌<◌, ◌++◌, [], ◌∷◌, length, get_or, take, List, refl, sym, ap, ◌∙◌, subst, arith, append_assoc}
-use Rattle.std.specs.Prelude.{map, flat_map, All}
+use Rattle.std.proofs.Common.{◌++◌, [], ◌∷◌, take, sym, ap, ◌∙◌, subst, arith}
+use Rattle.std.specs.Prelude.{flat_map}
 use Rattle.std.proofs.lemmas.List.{take_all}
 use Rattle.std.proofs.lemmas.Grind.{flat_map-append}
-use Rattle.rd_node.specs.declared.key.KeyState.{KeyState}
 use Rattle.rd_node.specs.Changes.{AreMade}
-use Rattle.rd_node.specs.Replies.{delta_groups, meant_at_key}
+use Rattle.rd_node.specs.Replies.{delta_groups}
 use Rattle.rd_node.specs.Ticking.{CanTick, IsDue, IsKeyTick, IsTickedAs, TellsMore, tick_in}
 use Rattle.rd_node.proofs.Lists.{one_more}
 use Rattle.rd_node.proofs.Written.{counted_more, made_more}

@@ -22,3 +22,6 @@ returns-clause-quorum_premises c = runs.quorum_premises
 
 pub returns-clause-finishing_premises : goal.returns-clause-finishing_premises
 returns-clause-finishing_premises c = runs.finishing_premises
+
+pub returns-clause-script_premises : goal.returns-clause-script_premises
+returns-clause-script_premises c = runs.script_premises

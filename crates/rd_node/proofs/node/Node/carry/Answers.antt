@@ -1,5 +1,6 @@
-use Rattle.std.proofs.Common.{refl, sym, subst}
+use Rattle.std.proofs.Common.{refl, sym, ap, ◌∙◌, subst}
 use Rattle.std.specs.Coded.{Coded-set}
+use Rattle.rd_node.specs.Operations.{changed_operations}
 use Rattle.rd_node.specs.Storing.{AreStores}
 use Rattle.rd_node.specs.Steps.{IsKeptBy}
 use Rattle.rd_node.proofs.Keepers.{on_err, unchanged_same}
@@ -10,7 +11,7 @@ pub returns-in_err-stores-clause-unchanged : goal.returns-in_err-stores-clause-u
 returns-in_err-stores-clause-unchanged g c = on_err c.from_residual.result (unchanged_same c.args.self.now)
 
 pub returns-in_err-fate-clause-unchanged : goal.returns-in_err-fate-clause-unchanged
-returns-in_err-fate-clause-unchanged g c = on_err c.from_residual-in_err-fate.result (record { same = same_otherwise (Coded-set g.row.T-Kind.coded) c.args.self.now _ refl refl refl refl refl; told = c.in_err-fate.ensures.refused })
+returns-in_err-fate-clause-unchanged g c = on_err c.from_residual-in_err-fate.result (record { same = same_otherwise (Coded-set g.row.T-Kind.coded) c.args.self.now _ refl refl refl refl refl refl; told = c.in_err-fate.ensures.refused })
 
 pub returns-clause-carried : goal.returns-clause-carried
 returns-clause-carried g c =
@@ -19,6 +20,7 @@ returns-clause-carried g c =
     let fate = c.in_ok-fate.fate in
     record {
       planned = c.commit.ensures.planned;
+      operated = c.commit.ensures.operated ∙ ap (changed_operations code.operations) c.after.ensures;
       viewed = c.commit.ensures.viewed;
       counted = c.commit.ensures.counted;
       identity = c.commit.ensures.identity;

@@ -2,9 +2,11 @@ use Rattle.std.proofs.Common.{None, refl, sym, ap, ◌∙◌, subst}
 use Rattle.std.specs.Prelude.{map, All}
 use Rattle.rd_model.specs.View.{identities_of}
 use Rattle.rd_model.specs.Node.{one_step_later}
+use Rattle.rd_model.specs.Node.Input.{Flush}
 use Rattle.rd_model.specs.Node.Fate.{NoStore}
 use Rattle.rd_model.specs.Step.{step}
 use Rattle.rd_node.specs.declared.change.Change.TheVariants.{Same}
+use Rattle.rd_node.specs.declared.operations.OperationChange.TheVariants.{Same as Unchanged}
 use Rattle.rd_node.specs.declared.plan.Plan.TheVariants.{Each}
 use Rattle.rd_node.specs.declared.plan.Prepared.{Prepared}
 use Rattle.rd_node.specs.declared.reply.Reply.TheVariants as reply
@@ -15,7 +17,7 @@ use Rattle.rd_node.specs.Planning.{IsPrepared}
 use Rattle.rd_node.specs.Steps.{replication}
 use Rattle.rd_node.proofs.Flushes.{held_by, stands_flushed, flush_own, flush_kind, flush_unpruned}
 use Rattle.rd_node.proofs.Planned.{sound_each, leads_each}
-use Rattle.rd_node.proofs.PreparedSteps.{owned}
+use Rattle.rd_node.proofs.PreparedSteps.{owned, sound_as, operates_still}
 use Rattle.rd_node.proofs.node.Node.flushed.Goals as goal
 
 pub returns-clause-sound : goal.returns-clause-sound
@@ -24,7 +26,7 @@ returns-clause-sound g c =
     let code = c.args.self.now in
     let members = c.deref-4.result.now in
     let made = subst (λ keys. AreMade (IsFlush code.id members) keys c.in_ok-changes.changes.items) c.deref-3.ensures.value c.in_ok-changes.ensures in
-    sound_each R code.id code.steps code.keys.items (owned code) (IsFlush code.id members) (flush_own code.id members) (flush_kind code.id members R.kind_of) (flush_unpruned code.id members) c.in_ok-changes.changes made
+    sound_as code _ (sound_each R code.id code.steps code.keys.items (owned code) (IsFlush code.id members) (flush_own code.id members) (flush_kind code.id members R.kind_of) (flush_unpruned code.id members) c.in_ok-changes.changes made) refl refl
 
 pub returns-clause-image : goal.returns-clause-image
 returns-clause-image g c = λ kinds logs node sent s is safe.
@@ -36,8 +38,8 @@ returns-clause-image g c = λ kinds logs node sent s is safe.
     (subst (λ members. AreMade (IsFlush code.id members) c.deref-3.result.now changes.items) (c.deref-4.ensures.value ∙ c.in_ok-members.ensures) c.in_ok-changes.ensures) in
     let held = subst (All (IsHeldBy R.kind_of R.IsDataOf R.IsDeltaOf kinds logs code.id (one_step_later node))) (sym c.deref.ensures.value) (held_by R.IsDataOf kinds logs code node s) in
     let posts = c.in_ok-posts.ensures D kinds logs (one_step_later node) refl held (s.keys ∙ ap (map declared_by) (sym c.deref.ensures.value)) s.identity (ap identities_of s.view ∙ sym (c.deref-2.ensures.value ∙ c.in_ok-members.ensures)) in
-    let prepared : Prepared g.row.T.Denot g.row.T-Kind.Denot g.row.T-Op.Denot g.row.T-Delta.Denot R = record { view = None; plan = Each changes; output = record { reply = reply.Done; posts = c.in_ok-posts.posts } } in
-    subst (λ i. IsPrepared {ghosts = R} kinds logs code.keys.items node (step D node i NoStore) prepared) (sym is) (record {
+    let prepared : Prepared g.row.T.Denot g.row.T-Kind.Denot g.row.T-Op.Denot g.row.T-Delta.Denot R = record { view = None; plan = Each changes; operations = Unchanged; output = record { reply = reply.Done; posts = c.in_ok-posts.posts; finished = None } } in
+    subst (λ i. IsPrepared {ghosts = R} kinds logs code.keys.items code.operations node (step D node i NoStore) prepared) (sym is) (record {
       identity = refl;
       declared = refl;
       counted = refl;
@@ -45,5 +47,6 @@ returns-clause-image g c = λ kinds logs node sent s is safe.
       leads_on = leads_each R kinds logs code.keys.items node _ s.entries changes
           (λ k d within here. stands_flushed R.kind_of R.IsDataOf kinds logs code node s _ _ _ _ (code.unpruned k d within) (made.made k d Same within) here)
           (λ k d within none. refl);
+      operates = operates_still kinds logs code node s prepared (step D node Flush NoStore).node refl refl refl refl;
       answers = record { reply = refl; posts = posts; ended = refl };
     })

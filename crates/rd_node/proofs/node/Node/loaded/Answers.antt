@@ -42,26 +42,26 @@ invariant_of-result-clause-distinct g c = names_loaded c.in-Ok-restored.keys.ite
 
 pub returns-in-Err-Failed-clause-refused : goal.returns-in-Err-Failed-clause-refused
 returns-in-Err-Failed-clause-refused g c = (
-  record { same = same_otherwise (Coded-set g.row.T-Kind.coded) c.args.old _ refl refl refl refl refl; table = c.load.ensures.table; later = c.load.ensures.cause.later },
+  record { same = same_otherwise (Coded-set g.row.T-Kind.coded) c.args.old _ refl refl refl refl refl refl; table = c.load.ensures.table; later = c.load.ensures.cause.later },
   subst (λ (e : KeeperError). JoinsRefusal (g.K.Keeper.answers c.args.old.keeper) (g.K.Keeper.answers c.load.new.self) e) c.in-Err-Failed.field-0-is c.in-Err-Failed.ensures.answers,
   c.in-Err-Failed.ensures.cause.failed c.in-Err-Failed.field-0-is,
 )
 
 pub returns-in-Err-Memory-clause-refused : goal.returns-in-Err-Memory-clause-refused
 returns-in-Err-Memory-clause-refused g c = (
-  record { same = same_otherwise (Coded-set g.row.T-Kind.coded) c.args.old _ refl refl refl refl refl; table = c.load.ensures.table; later = c.load.ensures.cause.later },
+  record { same = same_otherwise (Coded-set g.row.T-Kind.coded) c.args.old _ refl refl refl refl refl refl; table = c.load.ensures.table; later = c.load.ensures.cause.later },
   inl (subst (λ (e : KeeperError). JoinsRefusal (g.K.Keeper.answers c.args.old.keeper) (g.K.Keeper.answers c.load.new.self) e) c.in-Err-Memory.field-0-is c.in-Err-Memory.ensures.answers),
 )
 
 pub returns-in-Err-Damaged-clause-refused : goal.returns-in-Err-Damaged-clause-refused
 returns-in-Err-Damaged-clause-refused g c = (
-  record { same = same_otherwise (Coded-set g.row.T-Kind.coded) c.args.old _ refl refl refl refl refl; table = c.load.ensures.table; later = c.load.ensures.cause.later },
+  record { same = same_otherwise (Coded-set g.row.T-Kind.coded) c.args.old _ refl refl refl refl refl refl; table = c.load.ensures.table; later = c.load.ensures.cause.later },
   c.in-Ok.ensures.answers,
 )
 
 pub returns-clause-refused : goal.returns-clause-refused
 returns-clause-refused g c = (
-  record { same = same_otherwise (Coded-set g.row.T-Kind.coded) c.args.old _ refl refl refl refl refl; table = c.load.ensures.table; later = c.load.ensures.cause.later },
+  record { same = same_otherwise (Coded-set g.row.T-Kind.coded) c.args.old _ refl refl refl refl refl refl; table = c.load.ensures.table; later = c.load.ensures.cause.later },
   inr c.in-Ok.ensures.answers,
 )
 
@@ -75,7 +75,7 @@ returns-in-Ok-restored-clause-stands g c = λ kinds logs table store e have_kind
     let same = c.in-Ok-restored.ensures.declared ∙ ap (map declared_by) c.deref.ensures.value in
     let loaded = told (g.K.Keeper.table c.args.old.keeper) c.in-Ok.loaded.items table c.in-Ok.ensures.loaded e in
     let holds : All (HoldsKept R S c.args.id c.args.view table) states = subst (λ (kept : List Stored). All (HoldsKept R S c.args.id c.args.view kept) states) loaded c.in-Ok-restored.ensures.holds in
-    stands_loaded R S g.met.T.SpelledData.spelling_means once kinds logs c.args.id c.args.view table store spells c.args.old.keys.items _ c.args.old.distinct same holds histories have_kinds refl refl refl
+    stands_loaded R S g.met.T.SpelledData.spelling_means once kinds logs c.args.id c.args.view table store spells c.args.old.keys.items _ c.args.old.distinct same holds histories have_kinds refl refl c.new.ensures refl
 
 pub returns-in-Ok-restored-clause-sound : goal.returns-in-Ok-restored-clause-sound
 returns-in-Ok-restored-clause-sound g c = λ table e.

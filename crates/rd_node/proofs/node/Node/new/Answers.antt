@@ -20,4 +20,4 @@ invariant_of-result-clause-distinct g c = subst AreDistinct (sym (names_fresh c.
 
 pub returns-in-Ok-clause-stands : goal.returns-in-Ok-clause-stands
 returns-in-Ok-clause-stands g c = λ kinds logs histories of_kinds.
-    stands_first g.T.Replica.kind_of g.T.Replica.IsDataOf kinds logs _ c.args.keys.now c.args.view c.in-Ok.ensures.declared c.in-Ok.ensures.fresh c.requires.distinct histories of_kinds refl refl
+    stands_first g.T.Replica.kind_of g.T.Replica.IsDataOf kinds logs _ c.args.keys.now c.args.view c.in-Ok.ensures.declared c.in-Ok.ensures.fresh c.requires.distinct histories of_kinds refl c.new.ensures refl

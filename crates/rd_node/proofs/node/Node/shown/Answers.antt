@@ -1,24 +1,29 @@
-use Rattle.std.proofs.Common.{◌≡◌, sym, ap, ◌∙◌, subst}
+use Rattle.std.proofs.Common.{◌≡◌, true, length, refl, sym, ap, ◌∙◌}
 use Rattle.std.specs.Str.{bytes_eq}
-use Rattle.rd_history.specs.Texts.{Text}
-use Rattle.rd_model.specs.Node.{Input, Level}
+use Rattle.rd_model.specs.Node.{needed}
 use Rattle.rd_model.specs.Node.Fate.{NoStore}
 use Rattle.rd_model.specs.Step.{step}
-use Rattle.rd_model.proofs.Steps.{bytes_eq-tells, step-get-undeclared, step-get-quiet}
-use Rattle.rd_model.proofs.Changes.{step-get-only}
+use Rattle.rd_messages.specs.declared.message.Message.{Message}
+use Rattle.rd_messages.specs.declared.message.Message.TheVariants.{Read}
 use Rattle.rd_envelope_codec.specs.Entries.{entry_digest}
-use Rattle.rd_node.specs.declared.reply.Output.{Output}
+use Rattle.rd_quorum.specs.Levels.{level_meant}
+use Rattle.rd_node.specs.declared.input.Input.TheVariants as input
+use Rattle.rd_node.specs.declared.plan.Plan.TheVariants.{Nothing}
+use Rattle.rd_node.specs.declared.plan.Prepared.{Prepared}
 use Rattle.rd_node.specs.declared.reply.Reply.TheVariants as reply
-use Rattle.rd_node.specs.Replies.{meant}
-use Rattle.rd_node.specs.Planning.{IsPrepared}
+use Rattle.rd_node.specs.Opening.{IsOpened}
+use Rattle.rd_node.specs.Preparing.{IsSoundFor, Prepares}
 use Rattle.rd_node.specs.Steps.{replication}
 use Rattle.rd_node.proofs.Lookup.{position-found, position-none}
-use Rattle.rd_node.proofs.Standing.{undeclared, has_members, has_key, held_at}
-use Rattle.rd_node.proofs.PreparedSteps.{sound_still, prepared_answered, prepared_later, quiet_output}
+use Rattle.rd_node.proofs.Standing.{undeclared, held_at}
+use Rattle.rd_node.proofs.PreparedSteps.{sound_still, sound_told, prepared_answered}
+use Rattle.rd_node.proofs.Updating.{get_undeclared}
+use Rattle.rd_node.proofs.LevelSteps.{if_both, got_too_few, got_value, got_pending}
+use Rattle.rd_node.proofs.Opens.{opened_can, opened_pending}
 use Rattle.rd_node.proofs.node.Node.shown.Goals as goal
 
 pub returns-in_default-clause-sound : goal.returns-in_default-clause-sound
-returns-in_default-clause-sound g c = sound_still c.args.self.now c.reply.result.plan c.reply.ensures.plan
+returns-in_default-clause-sound g c = sound_told c.args.self.now c.reply.result reply.UnknownKey c.reply.ensures.plan c.reply.ensures.operations c.reply.ensures.output refl
 
 pub returns-in_default-clause-image : goal.returns-in_default-clause-image
 returns-in_default-clause-image g c = λ kinds logs node sent s is safe.
@@ -27,27 +32,72 @@ returns-in_default-clause-image g c = λ kinds logs node sent s is safe.
     let code = c.args.self.now in
     let key = c.args.key.now in
     let none = position-none (λ state. bytes_eq state.name key) code.keys.items c.in_default.ensures in
-    let same = step-get-undeclared D node key NoStore (undeclared R.kind_of R.IsDataOf kinds logs code node s key none) in
-    subst (λ i. IsPrepared {ghosts = R} kinds logs code.keys.items node (step D node i NoStore) c.reply.result) (sym is)
-    (prepared_answered kinds logs code node s c.reply.result reply.UnknownKey c.reply.ensures.view c.reply.ensures.plan c.reply.ensures.output _ same)
+    let same = ap (λ i. step D node i NoStore) is ∙ get_undeclared D node key (level_meant c.args.level) (undeclared R.kind_of R.IsDataOf kinds logs code node s key none) in
+    prepared_answered kinds logs code node s c.reply.result reply.UnknownKey c.reply.ensures.view c.reply.ensures.plan c.reply.ensures.operations c.reply.ensures.output _ same
 
-pub returns-clause-image : goal.returns-clause-image
-returns-clause-image g c = λ kinds logs node sent s is safe.
+pub returns-in_default-needed-clause-sound : goal.returns-in_default-needed-clause-sound
+returns-in_default-needed-clause-sound g c = sound_told c.args.self.now c.reply-in_default-needed.result reply.TooFew c.reply-in_default-needed.ensures.plan c.reply-in_default-needed.ensures.operations c.reply-in_default-needed.ensures.output refl
+
+pub returns-in_default-needed-clause-image : goal.returns-in_default-needed-clause-image
+returns-in_default-needed-clause-image g c = λ kinds logs node sent s is safe.
     let R = g.T.Replica in
-    let D = replication R g.T.SpelledData in
+    let S = g.T.SpelledData in
+    let digest = entry_digest S.byte_of S.history_spelled in
     let code = c.args.self.now in
     let key = c.args.key.now in
-    let at = c.index.result.now in
-    let found = position-found (λ state. bytes_eq state.name key) code.keys.items c.in-Some.index c.in-Some.ensures in
-    let has = has_key R.kind_of R.IsDataOf kinds logs code node s key c.in-Some.index at found c.index.ensures in
-    let held = held_at R.kind_of R.IsDataOf kinds logs code node s c.in-Some.index at found.within c.index.ensures in
-    let named : at.name ≡ key = ap (λ state. state.name) c.index.ensures ∙ bytes_eq-tells _ key (found.passes at) in
-    let some = has_members R.kind_of R.IsDataOf kinds logs code node s c.members-seats.ensures.sound in
-    let reply = c.in_ok-reply.ensures (entry_digest g.T.SpelledData.byte_of g.T.SpelledData.history_spelled) node (logs at.name) has some held.held.image in
-    let told = subst (λ (name : Text). meant c.in_ok-reply.reply ≡ (step D node (Input.Get name Level.Local) NoStore).output.reply) named reply in
-    let quiet = step-get-quiet D node key NoStore in
-    let next = step D node (Input.Get key Level.Local) NoStore in
-    subst (λ i. IsPrepared {ghosts = R} kinds logs code.keys.items node (step D node i NoStore) c.reply-2.result) (sym is)
-    (prepared_later kinds logs code node s c.reply-2.result next c.reply-2.ensures.view c.reply-2.ensures.plan (step-get-only D node key NoStore)
-    (quiet_output kinds logs c.reply-2.result.output next.output (ap (λ (o : Output g.row.T.Denot g.row.T-Kind.Denot g.row.T-Op.Denot g.row.T-Delta.Denot R). o.posts) c.reply-2.ensures.output)
-    (ap (λ (o : Output g.row.T.Denot g.row.T-Kind.Denot g.row.T-Op.Denot g.row.T-Delta.Denot R). meant o.reply) c.reply-2.ensures.output ∙ told) quiet.posts quiet.ended))
+    let level = level_meant c.args.level in
+    let index = c.in-Some.index in
+    let at = c.index-state.result.now in
+    let found = position-found (λ state. bytes_eq state.name key) code.keys.items index c.in-Some.ensures in
+    let none = ap (needed level) (ap (λ v. length v.members) s.view ∙ ap length (sym c.members-members.ensures.members)) ∙ c.in_default-needed.ensures.too_few in
+    prepared_answered kinds logs code node s c.reply-in_default-needed.result reply.TooFew c.reply-in_default-needed.ensures.view c.reply-in_default-needed.ensures.plan c.reply-in_default-needed.ensures.operations c.reply-in_default-needed.ensures.output _ (got_too_few kinds logs code node s digest key level index at found c.index-state.ensures sent is none)
+
+pub returns-then-number-le1-clause-sound : goal.returns-then-number-le1-clause-sound
+returns-then-number-le1-clause-sound g c = sound_told c.args.self.now c.reply-then-number-le1.result c.in_ok-reply.reply c.reply-then-number-le1.ensures.plan c.reply-then-number-le1.ensures.operations c.reply-then-number-le1.ensures.output c.in_ok-reply.ensures.quiet
+
+pub returns-then-number-le1-clause-image : goal.returns-then-number-le1-clause-image
+returns-then-number-le1-clause-image g c = λ kinds logs node sent s is safe.
+    let R = g.T.Replica in
+    let S = g.T.SpelledData in
+    let digest = entry_digest S.byte_of S.history_spelled in
+    let code = c.args.self.now in
+    let key = c.args.key.now in
+    let level = level_meant c.args.level in
+    let index = c.in-Some.index in
+    let at = c.index-state.result.now in
+    let found = position-found (λ state. bytes_eq state.name key) code.keys.items index c.in-Some.ensures in
+    let number = ap (needed level) (ap (λ v. length v.members) s.view ∙ ap length (sym c.members-members.ensures.members)) ∙ c.in-Ok.ensures.enough in
+    let held = held_at R.kind_of R.IsDataOf kinds logs code node s index at found.within c.index-state.ensures in
+    let told = c.in_ok-reply.ensures.image digest (logs at.name) (node.entries at.name) held.held.image in
+    prepared_answered kinds logs code node s c.reply-then-number-le1.result c.in_ok-reply.reply c.reply-then-number-le1.ensures.view c.reply-then-number-le1.ensures.plan c.reply-then-number-le1.ensures.operations c.reply-then-number-le1.ensures.output _ (got_value kinds logs code node s digest key level index at found c.index-state.ensures sent is c.in-Ok.number number c.if-number-le1.true c.in_ok-reply.reply told)
+
+pub returns-clause-sound : goal.returns-clause-sound
+returns-clause-sound g c =
+    let R = g.T.Replica in
+    let code = c.args.self.now in
+    let name = c.index-state.result.now.name in
+    let n = c.in-Ok.number in
+    let message : Message g.row.T.Denot g.row.T-Kind.Denot g.row.T-Op.Denot g.row.T-Delta.Denot R = Read (length code.operations) name in
+    if_both (λ (prepared : Prepared g.row.T.Denot g.row.T-Kind.Denot g.row.T-Op.Denot g.row.T-Delta.Denot R). prepared.plan ≡ Nothing) (IsOpened code name true n message) (IsSoundFor code) c.read.result
+    (λ prepared plan o. record { plan = sound_still code prepared.plan plan; operations = opened_can code name true n message prepared o; pending = opened_pending code name true n message prepared o }) c.read.ensures.plan c.read.ensures.opened
+
+pub returns-clause-image : goal.returns-clause-image
+returns-clause-image g c =
+    let R = g.T.Replica in
+    let code = c.args.self.now in
+    let name = c.index-state.result.now.name in
+    let n = c.in-Ok.number in
+    let message : Message g.row.T.Denot g.row.T-Kind.Denot g.row.T-Op.Denot g.row.T-Delta.Denot R = Read (length code.operations) name in
+    if_both (λ (prepared : Prepared g.row.T.Denot g.row.T-Kind.Denot g.row.T-Op.Denot g.row.T-Delta.Denot R). prepared.plan ≡ Nothing) (IsOpened code name true n message)
+    (Prepares g.T.SpelledData code (input.Get c.args.key.now c.args.level)) c.read.result
+    (λ prepared plan o kinds logs node sent s is safe.
+    let S = g.T.SpelledData in
+    let digest = entry_digest S.byte_of S.history_spelled in
+    let key = c.args.key.now in
+    let level = level_meant c.args.level in
+    let index = c.in-Some.index in
+    let at = c.index-state.result.now in
+    let found = position-found (λ state. bytes_eq state.name key) code.keys.items index c.in-Some.ensures in
+    let number = ap (needed level) (ap (λ v. length v.members) s.view ∙ ap length (sym c.members-members.ensures.members)) ∙ c.in-Ok.ensures.enough in
+    got_pending kinds logs code node s digest key level index at found c.index-state.ensures sent is n number c.if-number-le1.false prepared plan o)
+    c.read.ensures.plan c.read.ensures.opened

@@ -1,32 +1,22 @@
-use Rattle.std.proofs.Common.{None, get_or, sym, ap, ◌∙◌, subst}
-use Rattle.std.specs.Prelude.{map, if◌then◌else◌}
-use Rattle.rd_history.specs.Texts.{Text}
-use Rattle.rd_history.specs.Vector.{VersionVector}
+use Rattle.std.proofs.Common.{refl, sym, ap, ◌∙◌, subst}
+use Rattle.std.specs.Prelude.{IfOk}
 use Rattle.rd_model.specs.Node.{one_step_later}
 use Rattle.rd_model.specs.Node.Fate.{NoStore}
-use Rattle.rd_model.specs.Node.Reply.{NotFromMember}
-use Rattle.rd_model.specs.Step.{step, step_of_take, answered}
+use Rattle.rd_model.specs.Step.{step, step_of_take}
 use Rattle.rd_model.proofs.Taking.{step-take-stranger}
-use Rattle.rd_node.specs.declared.change.Change.TheVariants.{Same}
-use Rattle.rd_node.specs.declared.plan.Plan.TheVariants.{Each}
-use Rattle.rd_node.specs.declared.plan.Prepared.{Prepared}
+use Rattle.rd_messages.specs.declared.message.Message.TheVariants.{ReadAnswer}
+use Rattle.rd_node.specs.declared.input.Input.TheVariants as input
 use Rattle.rd_node.specs.declared.reply.Reply.TheVariants as reply
-use Rattle.rd_node.specs.Keys.{declared_by}
-use Rattle.rd_node.specs.Own.{AreOfTheirKinds}
 use Rattle.rd_node.specs.Inputs.{StandsForTaken}
-use Rattle.rd_node.specs.Changes.{changed, AreMade}
-use Rattle.rd_node.specs.Members.{StandsForKey}
 use Rattle.rd_node.specs.Planning.{IsPrepared}
+use Rattle.rd_node.specs.Preparing.{Prepares}
 use Rattle.rd_node.specs.Steps.{replication}
-use Rattle.rd_node.specs.Taking.{IsKept, LeadsTo, AreHeld, AreExactAt}
-use Rattle.rd_node.proofs.Working.{kept_own, kept_kind, kept_unpruned}
-use Rattle.rd_node.proofs.TakingSteps.{member_is, held_first, stands_after, still_led}
-use Rattle.rd_node.proofs.Planned.{sound_each, leads_each}
-use Rattle.rd_node.proofs.PreparedSteps.{owned, sound_still, prepared_answered}
+use Rattle.rd_node.proofs.TakingSteps.{member_is, step_taken, exchanges}
+use Rattle.rd_node.proofs.PreparedSteps.{sound_told, prepared_answered}
 use Rattle.rd_node.proofs.node.Node.taken.Goals as goal
 
 pub returns-then-not-contains-clause-sound : goal.returns-then-not-contains-clause-sound
-returns-then-not-contains-clause-sound g c = sound_still c.args.self.now c.reply.result.plan c.reply.ensures.plan
+returns-then-not-contains-clause-sound g c = sound_told c.args.self.now c.reply.result reply.NotFromMember c.reply.ensures.plan c.reply.ensures.operations c.reply.ensures.output refl
 
 pub returns-then-not-contains-clause-image : goal.returns-then-not-contains-clause-image
 returns-then-not-contains-clause-image g c = λ kinds logs node sent s i safe.
@@ -34,45 +24,36 @@ returns-then-not-contains-clause-image g c = λ kinds logs node sent s i safe.
     let D = replication R g.T.SpelledData in
     let code = c.args.self.now in
     let stranger = member_is R.kind_of R.IsDataOf kinds logs code node s c.args.from ∙ sym c.contains.ensures ∙ c.if-not-contains.true in
-    subst (λ i. IsPrepared {ghosts = R} kinds logs code.keys.items node (step D node i NoStore) c.reply.result) (sym i.is)
-    (prepared_answered kinds logs code node s c.reply.result reply.NotFromMember c.reply.ensures.view c.reply.ensures.plan c.reply.ensures.output _ (step-take-stranger D node c.args.from i.told NoStore stranger))
+    subst (λ i. IsPrepared {ghosts = R} kinds logs code.keys.items code.operations node (step D node i NoStore) c.reply.result) (sym i.is)
+    (prepared_answered kinds logs code node s c.reply.result reply.NotFromMember c.reply.ensures.view c.reply.ensures.plan c.reply.ensures.operations c.reply.ensures.output _ (step-take-stranger D node c.args.from i.told NoStore stranger))
 
-pub returns-clause-sound : goal.returns-clause-sound
-returns-clause-sound g c =
-    let R = g.T.Replica in
-    let code = c.args.self.now in
-    let made = subst (λ keys. AreMade (IsKept R.kind_of code.id) keys c.in_ok-taken.taken.changes.items) c.deref.ensures.value c.in_ok-taken.ensures.kept in
-    sound_each R code.id code.steps code.keys.items (owned code) (IsKept R.kind_of code.id) (kept_own R.kind_of code.id) (kept_kind R.kind_of code.id) (kept_unpruned R.kind_of code.id) c.in_ok-taken.taken.changes made
+pub returns-in-Write-clause-image : goal.returns-in-Write-clause-image
+returns-in-Write-clause-image g c = subst (λ m. IfOk c.write_taken.result (Prepares g.T.SpelledData c.args.self.now (input.Take c.args.from m))) (sym c.in-Write.is) c.write_taken.ensures.image
 
-pub returns-clause-image : goal.returns-clause-image
-returns-clause-image g c = λ kinds logs node sent s i safe.
+pub returns-in-WriteAck-clause-image : goal.returns-in-WriteAck-clause-image
+returns-in-WriteAck-clause-image g c = subst (λ m. IfOk c.acknowledged.result (Prepares g.T.SpelledData c.args.self.now (input.Take c.args.from m))) (sym c.in-WriteAck.is) c.acknowledged.ensures.image
+
+pub returns-in-WriteNack-clause-sound : goal.returns-in-WriteNack-clause-sound
+returns-in-WriteNack-clause-sound g c = sound_told c.args.self.now c.reply-in-WriteNack.result reply.Taken c.reply-in-WriteNack.ensures.plan c.reply-in-WriteNack.ensures.operations c.reply-in-WriteNack.ensures.output refl
+
+pub returns-in-WriteNack-clause-image : goal.returns-in-WriteNack-clause-image
+returns-in-WriteNack-clause-image g c = λ kinds logs node sent s i safe.
     let R = g.T.Replica in
     let D = replication R g.T.SpelledData in
     let code = c.args.self.now in
-    let changes = c.in_ok-taken.taken.changes in
-    let keys_are = c.deref.ensures.value in
+    let told = c.reply-in-WriteNack in
     let member = member_is R.kind_of R.IsDataOf kinds logs code node s c.args.from ∙ sym c.contains.ensures ∙ c.if-not-contains.false in
-    let same = ap (λ b. if b then step_of_take D (one_step_later node) c.args.from NoStore i.told else answered (one_step_later node) NotFromMember) member in
-    let next = step_of_take D (one_step_later node) c.args.from NoStore i.told in
-    let next_is = ap (λ st. st.node) (ap (λ input. step D node input NoStore) i.is ∙ same) in
-    let exact = subst (λ keys. AreExactAt keys next.node.entries) (sym keys_are) (λ k d within. subst (λ n. AreExactAt code.keys.items n.entries) next_is (λ k d within. safe.exact (get_or code.keys.items k d).name) k d within) in
-    let of_kinds = subst (AreOfTheirKinds R.kind_of) (sym keys_are) code.of_kinds in
-    let held = subst (λ keys. AreHeld R.kind_of R.IsDataOf kinds logs code.id keys node.entries) (sym keys_are) (held_first R.kind_of R.IsDataOf kinds logs code node s) in
-    let stands = subst (λ keys. StandsForTaken kinds logs keys c.args.message.now i.told) (sym keys_are) i.message_stands in
-    let t = c.in_ok-taken.ensures.image kinds logs (one_step_later node) i.told
-    (record { of_kinds = of_kinds; held = held; identity = s.identity; viewed = ap (λ v. v.number) s.view ∙ sym c.number-view.ensures.number; declares = s.keys ∙ ap (map declared_by) (sym keys_are) }) stands exact in
-    let kept = subst (λ keys. AreMade (IsKept R.kind_of code.id) keys changes.items) keys_are c.in_ok-taken.ensures.kept in
-    let leads = subst (λ keys. AreMade (LeadsTo R.IsDataOf logs node.entries next.node.entries) keys changes.items) keys_are t.leads in
-    let prepared : Prepared g.row.T.Denot g.row.T-Kind.Denot g.row.T-Op.Denot g.row.T-Delta.Denot R = record { view = None; plan = Each changes; output = c.in_ok-taken.taken.output } in
-    subst (λ st. IsPrepared {ghosts = R} kinds logs code.keys.items node st prepared) (sym (ap (λ input. step D node input NoStore) i.is ∙ same)) (record {
-      identity = ap (λ n. n.identity) t.only;
-      declared = ap (λ n. n.keys) t.only;
-      counted = ap (λ n. n.steps) t.only;
-      viewed = ap (λ n. n.view) t.only;
-      leads_on = leads_each R kinds logs code.keys.items node next.node s.entries changes
-          (λ k d within here.
-          subst (λ (f : Text → VersionVector). StandsForKey R.kind_of R.IsDataOf R.IsDeltaOf kinds logs (changed (get_or code.keys.items k d) (get_or changes.items k Same)) (next.node.entries (get_or code.keys.items k d).name) (f (get_or code.keys.items k d).name)) (sym (ap (λ n. n.flushed) t.only))
-          (stands_after R.kind_of R.IsDataOf R.IsDeltaOf kinds logs code.id node.entries next.node.entries node.flushed (get_or code.keys.items k d) (get_or changes.items k Same) (code.unpruned k d within) (code.logged k d within) (kept.made k d Same within) (leads.made k d Same within) here))
-          (λ k d within none. still_led R.kind_of R.IsDataOf R.IsDeltaOf kinds logs code.id node.entries next.node.entries node.flushed (get_or code.keys.items k d) (get_or changes.items k Same) (leads.made k d Same within) none);
-      answers = record { reply = t.reply; posts = t.posts; ended = t.ended };
-    })
+    let stands = subst (λ m. StandsForTaken kinds logs code.keys.items m i.told) c.in-WriteNack.is i.message_stands in
+    let same = step_taken D node c.args.from sent i.told i.is member ∙ ap (step_of_take D (one_step_later node) c.args.from NoStore) stands in
+    prepared_answered kinds logs code node s told.result reply.Taken told.ensures.view told.ensures.plan told.ensures.operations told.ensures.output _ same
+
+pub returns-in-Read-clause-image : goal.returns-in-Read-clause-image
+returns-in-Read-clause-image g c = subst (λ m. IfOk c.read_taken.result (Prepares g.T.SpelledData c.args.self.now (input.Take c.args.from m))) (sym c.in-Read.is) c.read_taken.ensures.image
+
+pub returns-in-ReadAnswer-clause-image : goal.returns-in-ReadAnswer-clause-image
+returns-in-ReadAnswer-clause-image g c =
+    let is = ap (λ o. ReadAnswer c.in-ReadAnswer.op c.in-ReadAnswer.key o) c.as_ref.ensures.value ∙ sym c.in-ReadAnswer.is in
+    subst (λ m. IfOk c.answer_taken.result (Prepares g.T.SpelledData c.args.self.now (input.Take c.args.from m))) is c.answer_taken.ensures.image
+
+pub exchanged-requires-clause-exchange : goal.exchanged-requires-clause-exchange
+exchanged-requires-clause-exchange g c = exchanges c.args.message.now c.in_default.not-Write c.in_default.not-WriteAck c.in_default.not-WriteNack c.in_default.not-Read c.in_default.not-ReadAnswer

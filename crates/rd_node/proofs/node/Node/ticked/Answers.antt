@@ -1,23 +1,27 @@
-use Rattle.std.proofs.Common.{◌≡◌, ◌<◌, List, [], length, get_or, None, false, true, refl, sym, ap, ◌∙◌, subst, arith}
-use Rattle.std.specs.Prelude.{map, All, ◌==◌}
+use Rattle.std.proofs.Common.{◌≡◌, ◌<◌, Bool, not, List, [], length, get_or, None, false, true, refl, sym, ap, ◌∙◌, subst, arith}
+use Rattle.std.specs.Prelude.{All, ◌==◌}
 use Rattle.std.proofs.lemmas.Bool.{eq-eqb}
 use Rattle.rd_model.specs.View.{leader}
 use Rattle.rd_model.specs.Node.{one_step_later}
 use Rattle.rd_model.specs.Node.Fate.{NoStore}
-use Rattle.rd_model.specs.Step.{step}
+use Rattle.rd_model.specs.Node.Reply.{NotLeader}
+use Rattle.rd_model.specs.Step.{step, answered}
 use Rattle.rd_envelope_codec.specs.Entries.{entry_digest}
+use Rattle.rd_node.specs.declared.operations.OperationChange.TheVariants.{Same}
 use Rattle.rd_node.specs.declared.plan.Plan.TheVariants as plan
 use Rattle.rd_node.specs.declared.plan.Prepared.{Prepared}
+use Rattle.rd_node.specs.declared.reply.Output.{Output}
 use Rattle.rd_node.specs.declared.reply.Reply.TheVariants as reply
 use Rattle.rd_node.specs.declared.key.KeyState.{KeyState}
 use Rattle.rd_node.specs.Changes.{AreMade}
 use Rattle.rd_node.specs.Members.{IsSafe}
+use Rattle.rd_node.specs.Outputs.{is_pending}
 use Rattle.rd_node.specs.Planning.{IsPrepared}
 use Rattle.rd_node.specs.Steps.{replication}
 use Rattle.rd_node.specs.Ticking.{CanTick, IsKeyTick, IsTickedAs, IsDue, TellsMore}
 use Rattle.rd_node.proofs.Leading.{same_number, left_others, left_few}
 use Rattle.rd_node.proofs.Planned.{sound_ticked}
-use Rattle.rd_node.proofs.PreparedSteps.{owned, sound_still, prepared_answered}
+use Rattle.rd_node.proofs.PreparedSteps.{owned, sound_as, sound_told, prepared_answered}
 use Rattle.rd_node.proofs.TickSteps.{step-tick-led, step-tick-unled, all_due, ticks_in, prepared_ticked}
 use Rattle.rd_node.proofs.node.Node.ticked.Goals as goal
 
@@ -40,11 +44,30 @@ tick_all-requires g c = λ k d within.
       small = (let f = code.few_own k d inside in let r = c.requires in omega (arith, f, r));
     }))
 
+-- a test that tells numbers apart
+apart : (same : Bool) → true ≡ not same → same ≡ false
+apart true is = absurd (cc is)
+apart false is = refl
+
+pub returns-then-ne-clause-sound : goal.returns-then-ne-clause-sound
+returns-then-ne-clause-sound g c = sound_told c.args.self.now c.reply.result (reply.NotLeader c.leader-leader.result) c.reply.ensures.plan c.reply.ensures.operations c.reply.ensures.output refl
+
+pub returns-then-ne-clause-image : goal.returns-then-ne-clause-image
+returns-then-ne-clause-image g c = λ kinds logs node sent s is safe.
+    let R = g.T.Replica in
+    let D = replication R g.T.SpelledData in
+    let code = c.args.self.now in
+    let leads : leader node.view ≡ c.leader-leader.result = ap leader s.view ∙ sym c.leader-leader.ensures in
+    let unled : (leader node.view == node.identity) ≡ false = (λ i. leads i == s.identity i) ∙ apart (c.leader-leader.result == code.id) c.if-ne.ensures in
+    let same = step-tick-unled D node unled ∙ ap (λ n. answered (one_step_later node) (NotLeader n)) leads in
+    subst (λ i. IsPrepared {ghosts = R} kinds logs code.keys.items code.operations node (step D node i NoStore) c.reply.result) (sym is)
+    (prepared_answered kinds logs code node s c.reply.result (reply.NotLeader c.leader-leader.result) c.reply.ensures.view c.reply.ensures.plan c.reply.ensures.operations c.reply.ensures.output _ same)
+
 pub returns-clause-sound : goal.returns-clause-sound
 returns-clause-sound g c =
     let code = c.args.self.now in
-    sound_ticked g.T.Replica code.id code.steps code.keys.items (owned code) c.in_ok-ticks.ticks.keys
-    (subst (λ (l : List (KeyState g.row.T.Denot g.row.T-Kind.Denot g.row.T-Op.Denot g.row.T-Delta.Denot)). AreMade (IsKeyTick g.T.Replica code.id) l c.in_ok-ticks.ticks.keys.items) c.deref.ensures.value c.in_ok-ticks.ensures.own)
+    sound_as code _ (sound_ticked g.T.Replica code.id code.steps code.keys.items (owned code) c.in_ok-ticks.ticks.keys
+    (subst (λ (l : List (KeyState g.row.T.Denot g.row.T-Kind.Denot g.row.T-Op.Denot g.row.T-Delta.Denot)). AreMade (IsKeyTick g.T.Replica code.id) l c.in_ok-ticks.ticks.keys.items) c.deref.ensures.value c.in_ok-ticks.ensures.own)) refl (ap (λ (o : Output g.row.T.Denot g.row.T-Kind.Denot g.row.T-Op.Denot g.row.T-Delta.Denot g.T.Replica). is_pending o.reply) c.told.ensures)
 
 pub returns-clause-image : goal.returns-clause-image
 returns-clause-image g c = λ kinds logs node sent s is safe.
@@ -66,7 +89,7 @@ returns-clause-image g c = λ kinds logs node sent s is safe.
     let own = subst (λ (l : List (KeyState g.row.T.Denot g.row.T-Kind.Denot g.row.T-Op.Denot g.row.T-Delta.Denot)). AreMade (IsKeyTick R code.id) l ticks.keys.items) keys c.in_ok-ticks.ensures.own in
     let made = subst (λ (l : List (KeyState g.row.T.Denot g.row.T-Kind.Denot g.row.T-Op.Denot g.row.T-Delta.Denot)). AreMade (IsTickedAs D (one_step_later node) R logs) l ticks.keys.items) keys image in
     let told = subst (λ (l : List (KeyState g.row.T.Denot g.row.T-Kind.Denot g.row.T-Op.Denot g.row.T-Delta.Denot)). TellsMore D (one_step_later node) [] l ticks.outcomes) keys tells in
-    let prepared : Prepared g.row.T.Denot g.row.T-Kind.Denot g.row.T-Op.Denot g.row.T-Delta.Denot R = record { view = None; plan = plan.Ticked ticks.keys; output = c.told.result } in
-    subst (λ i. IsPrepared {ghosts = R} kinds logs code.keys.items node (step D node i NoStore) prepared) (sym is)
-    (subst (λ st. IsPrepared {ghosts = R} kinds logs code.keys.items node st prepared) (sym (step-tick-led D node led))
-    (prepared_ticked D kinds logs code node s led ticks.keys ticks.outcomes own made told prepared refl refl c.told.ensures))
+    let prepared : Prepared g.row.T.Denot g.row.T-Kind.Denot g.row.T-Op.Denot g.row.T-Delta.Denot R = record { view = None; plan = plan.Ticked ticks.keys; operations = Same; output = c.told.result } in
+    subst (λ i. IsPrepared {ghosts = R} kinds logs code.keys.items code.operations node (step D node i NoStore) prepared) (sym is)
+    (subst (λ st. IsPrepared {ghosts = R} kinds logs code.keys.items code.operations node st prepared) (sym (step-tick-led D node led))
+    (prepared_ticked D kinds logs code node s led ticks.keys ticks.outcomes own made told prepared refl refl refl c.told.ensures))

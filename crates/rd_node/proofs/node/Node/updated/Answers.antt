@@ -1,24 +1,35 @@
-use Rattle.std.proofs.Common.{◌≡◌, None, refl, sym, ap, ◌∙◌, subst}
+use Rattle.std.proofs.Common.{◌≡◌, None, false, length, refl, sym, ap, ◌∙◌, subst}
 use Rattle.std.specs.Str.{bytes_eq}
-use Rattle.rd_history.specs.Texts.{Text}
-use Rattle.rd_history.specs.Log.{IsTakenFrom}
-use Rattle.rd_model.specs.Node.{Input, Level}
+use Rattle.rd_model.specs.Node.{needed}
 use Rattle.rd_model.specs.Node.Fate.{NoStore}
 use Rattle.rd_model.specs.Step.{step}
-use Rattle.rd_model.proofs.Steps.{bytes_eq-tells, step-update-undeclared, step-update-quiet}
-use Rattle.rd_model.proofs.Changes.{step-update-only}
+use Rattle.rd_messages.specs.declared.message.Message.{Message}
+use Rattle.rd_messages.specs.declared.message.Message.TheVariants.{Write}
 use Rattle.rd_envelope_codec.specs.Entries.{entry_digest}
+use Rattle.rd_quorum.specs.Levels.{level_meant}
+use Rattle.rd_node.specs.declared.operations.OperationChange.TheVariants.{Same}
+use Rattle.rd_node.specs.declared.input.Input.TheVariants as input
+use Rattle.rd_node.specs.declared.key.Updated.TheVariants.{Refused, Recorded}
 use Rattle.rd_node.specs.declared.plan.Plan.TheVariants.{At}
 use Rattle.rd_node.specs.declared.plan.Prepared.{Prepared}
 use Rattle.rd_node.specs.declared.reply.Reply.TheVariants as reply
-use Rattle.rd_node.specs.Planning.{IsPrepared}
+use Rattle.rd_node.specs.Opening.{IsOpened}
+use Rattle.rd_node.specs.Outputs.{is_pending}
+use Rattle.rd_node.specs.Planning.{IsSoundPlan}
+use Rattle.rd_node.specs.Preparing.{IsSoundFor, Prepares}
 use Rattle.rd_node.specs.Steps.{replication}
 use Rattle.rd_node.specs.Updates.{IsOwn, IsUpdate}
 use Rattle.rd_node.proofs.Lookup.{position-found, position-none}
-use Rattle.rd_node.proofs.Standing.{undeclared, has_members, has_key, held_at}
-use Rattle.rd_node.proofs.PreparedSteps.{prepared_answered, prepared_quiet}
-use Rattle.rd_node.proofs.Records.{sound_recorded, prepared_recorded}
+use Rattle.rd_node.proofs.Standing.{undeclared, held_at}
+use Rattle.rd_node.proofs.PreparedSteps.{sound_told, sound_as, prepared_answered}
+use Rattle.rd_node.proofs.Updating.{update_undeclared}
+use Rattle.rd_node.proofs.Records.{sound_recorded}
+use Rattle.rd_node.proofs.LevelSteps.{if_both, told_unfit, told_too_few, told_refused, taken_if, prepared_done, prepared_pending}
+use Rattle.rd_node.proofs.Opens.{opened_can, opened_pending}
 use Rattle.rd_node.proofs.node.Node.updated.Goals as goal
+
+pub returns-in_default-clause-sound : goal.returns-in_default-clause-sound
+returns-in_default-clause-sound g c = sound_told c.args.self.now c.reply.result reply.UnknownKey c.reply.ensures.plan c.reply.ensures.operations c.reply.ensures.output refl
 
 pub returns-in_default-clause-image : goal.returns-in_default-clause-image
 returns-in_default-clause-image g c = λ kinds logs node sent s is safe.
@@ -27,63 +38,150 @@ returns-in_default-clause-image g c = λ kinds logs node sent s is safe.
     let code = c.args.self.now in
     let key = c.args.key.now in
     let none = position-none (λ state. bytes_eq state.name key) code.keys.items c.in_default.ensures in
-    let same = step-update-undeclared D node key NoStore (undeclared R.kind_of R.IsDataOf kinds logs code node s key none) c.args.op.now in
-    subst (λ i. IsPrepared {ghosts = R} kinds logs code.keys.items node (step D node i NoStore) c.reply.result) (sym is)
-    (prepared_answered kinds logs code node s c.reply.result reply.UnknownKey c.reply.ensures.view c.reply.ensures.plan c.reply.ensures.output _ same)
+    let same = ap (λ i. step D node i NoStore) is ∙ update_undeclared D node key (level_meant c.args.level) (undeclared R.kind_of R.IsDataOf kinds logs code node s key none) c.args.op.now in
+    prepared_answered kinds logs code node s c.reply.result reply.UnknownKey c.reply.ensures.view c.reply.ensures.plan c.reply.ensures.operations c.reply.ensures.output _ same
+
+pub returns-then-not-fits-clause-sound : goal.returns-then-not-fits-clause-sound
+returns-then-not-fits-clause-sound g c = sound_told c.args.self.now c.reply-then-not-fits.result reply.WrongKind c.reply-then-not-fits.ensures.plan c.reply-then-not-fits.ensures.operations c.reply-then-not-fits.ensures.output refl
+
+pub returns-then-not-fits-clause-image : goal.returns-then-not-fits-clause-image
+returns-then-not-fits-clause-image g c = λ kinds logs node sent s is safe.
+    let R = g.T.Replica in
+    let S = g.T.SpelledData in
+    let digest = entry_digest S.byte_of S.history_spelled in
+    let code = c.args.self.now in
+    let key = c.args.key.now in
+    let op = c.args.op.now in
+    let level = level_meant c.args.level in
+    let index = c.in-Some.index in
+    let at = c.index-state.result.now in
+    let found = position-found (λ state. bytes_eq state.name key) code.keys.items index c.in-Some.ensures in
+    prepared_answered kinds logs code node s c.reply-then-not-fits.result reply.WrongKind c.reply-then-not-fits.ensures.view c.reply-then-not-fits.ensures.plan c.reply-then-not-fits.ensures.operations c.reply-then-not-fits.ensures.output _ (told_unfit kinds logs code node s digest key level index at found c.index-state.ensures sent op is (sym c.fits.ensures ∙ c.if-not-fits.true))
+
+pub returns-in_default-needed-clause-sound : goal.returns-in_default-needed-clause-sound
+returns-in_default-needed-clause-sound g c = sound_told c.args.self.now c.reply-in_default-needed.result reply.TooFew c.reply-in_default-needed.ensures.plan c.reply-in_default-needed.ensures.operations c.reply-in_default-needed.ensures.output refl
+
+pub returns-in_default-needed-clause-image : goal.returns-in_default-needed-clause-image
+returns-in_default-needed-clause-image g c = λ kinds logs node sent s is safe.
+    let R = g.T.Replica in
+    let S = g.T.SpelledData in
+    let digest = entry_digest S.byte_of S.history_spelled in
+    let code = c.args.self.now in
+    let key = c.args.key.now in
+    let op = c.args.op.now in
+    let level = level_meant c.args.level in
+    let index = c.in-Some.index in
+    let at = c.index-state.result.now in
+    let found = position-found (λ state. bytes_eq state.name key) code.keys.items index c.in-Some.ensures in
+    let fits = sym c.fits.ensures ∙ c.if-not-fits.false in
+    let none = ap (needed level) (ap (λ v. length v.members) s.view ∙ ap length (sym c.members-members.ensures.members)) ∙ c.in_default-needed.ensures.too_few in
+    prepared_answered kinds logs code node s c.reply-in_default-needed.result reply.TooFew c.reply-in_default-needed.ensures.view c.reply-in_default-needed.ensures.plan c.reply-in_default-needed.ensures.operations c.reply-in_default-needed.ensures.output _ (told_too_few kinds logs code node s digest key level index at found c.index-state.ensures sent op is fits none)
+
+pub returns-in-Refused-clause-sound : goal.returns-in-Refused-clause-sound
+returns-in-Refused-clause-sound g c =
+    let own : IsOwn g.T.Replica c.args.self.now.id c.index-state.result.now (Refused c.in-Refused.reply) = subst (IsOwn g.T.Replica c.args.self.now.id c.index-state.result.now) c.in-Refused.is c.in_ok-reply.ensures.owned in
+    sound_told c.args.self.now c.reply-in-Refused.result c.in-Refused.reply c.reply-in-Refused.ensures.plan c.reply-in-Refused.ensures.operations c.reply-in-Refused.ensures.output own
 
 pub returns-in-Refused-clause-image : goal.returns-in-Refused-clause-image
 returns-in-Refused-clause-image g c = λ kinds logs node sent s is safe.
     let R = g.T.Replica in
-    let D = replication R g.T.SpelledData in
+    let S = g.T.SpelledData in
+    let digest = entry_digest S.byte_of S.history_spelled in
     let code = c.args.self.now in
     let key = c.args.key.now in
     let op = c.args.op.now in
-    let at = c.index.result.now in
-    let found = position-found (λ state. bytes_eq state.name key) code.keys.items c.in-Some.index c.in-Some.ensures in
-    let has = has_key R.kind_of R.IsDataOf kinds logs code node s key c.in-Some.index at found c.index.ensures in
-    let held = held_at R.kind_of R.IsDataOf kinds logs code node s c.in-Some.index at found.within c.index.ensures in
-    let named : at.name ≡ key = ap (λ state. state.name) c.index.ensures ∙ bytes_eq-tells _ key (found.passes at) in
-    let some = has_members R.kind_of R.IsDataOf kinds logs code node s c.members-seats.ensures.sound in
-    let is' : sent ≡ Input.Update at.name op Level.Local = is ∙ ap (λ (name : Text). Input.Update name op Level.Local) (sym named) in
-    let next = step D node (Input.Update at.name op Level.Local) NoStore in
-    let taken = subst (λ i. IsTakenFrom (logs at.name) ((step D node i NoStore).node.entries at.name).history) is' (safe.taken at.name) in
-    let image = c.in_ok-reply.ensures.image (entry_digest g.T.SpelledData.byte_of g.T.SpelledData.history_spelled) node (logs at.name) has s.identity some held.held.image held.logged taken in
-    let u = subst (IsUpdate R at (logs at.name) node next) c.in-Refused.is image in
-    subst (λ i. IsPrepared {ghosts = R} kinds logs code.keys.items node (step D node i NoStore) c.reply-in-Refused.result) (sym is')
-    (prepared_quiet kinds logs code node s c.reply-in-Refused.result c.in-Refused.reply c.reply-in-Refused.ensures.view c.reply-in-Refused.ensures.plan c.reply-in-Refused.ensures.output next at.name
-    (step-update-only D node at.name NoStore op) u.0 (step-update-quiet D node at.name NoStore op) u.1)
-
-pub returns-in-Recorded-clause-sound : goal.returns-in-Recorded-clause-sound
-returns-in-Recorded-clause-sound g c =
-    let R = g.T.Replica in
-    let code = c.args.self.now in
-    let key = c.args.key.now in
-    let at = c.index.result.now in
-    let found = position-found (λ state. bytes_eq state.name key) code.keys.items c.in-Some.index c.in-Some.ensures in
-    sound_recorded code c.in-Some.index at c.in-Recorded.entry c.in-Recorded.next found.within c.index.ensures (subst (IsOwn R code.id at) c.in-Recorded.is c.in_ok-reply.ensures.owned)
-
-pub returns-in-Recorded-clause-image : goal.returns-in-Recorded-clause-image
-returns-in-Recorded-clause-image g c = λ kinds logs node sent s is safe.
-    let R = g.T.Replica in
-    let D = replication R g.T.SpelledData in
-    let code = c.args.self.now in
-    let key = c.args.key.now in
-    let op = c.args.op.now in
-    let at = c.index.result.now in
+    let level = level_meant c.args.level in
     let index = c.in-Some.index in
-    let entry = c.in-Recorded.entry in
-    let record' = c.in-Recorded.next in
+    let at = c.index-state.result.now in
     let found = position-found (λ state. bytes_eq state.name key) code.keys.items index c.in-Some.ensures in
-    let has = has_key R.kind_of R.IsDataOf kinds logs code node s key index at found c.index.ensures in
-    let held = held_at R.kind_of R.IsDataOf kinds logs code node s index at found.within c.index.ensures in
-    let named : at.name ≡ key = ap (λ state. state.name) c.index.ensures ∙ bytes_eq-tells _ key (found.passes at) in
-    let some = has_members R.kind_of R.IsDataOf kinds logs code node s c.members-seats.ensures.sound in
-    let is' : sent ≡ Input.Update at.name op Level.Local = is ∙ ap (λ (name : Text). Input.Update name op Level.Local) (sym named) in
-    let next = step D node (Input.Update at.name op Level.Local) NoStore in
-    let taken = subst (λ i. IsTakenFrom (logs at.name) ((step D node i NoStore).node.entries at.name).history) is' (safe.taken at.name) in
-    let image = c.in_ok-reply.ensures.image (entry_digest g.T.SpelledData.byte_of g.T.SpelledData.history_spelled) node (logs at.name) has s.identity some held.held.image held.logged taken in
-    let u = subst (IsUpdate R at (logs at.name) node next) c.in-Recorded.is image in
-    let own = subst (IsOwn R code.id at) c.in-Recorded.is c.in_ok-reply.ensures.owned in
-    let prepared : Prepared g.row.T.Denot g.row.T-Kind.Denot g.row.T-Op.Denot g.row.T-Delta.Denot R = record { view = None; plan = At index entry record'; output = c.told.result } in
-    subst (λ i. IsPrepared {ghosts = R} kinds logs code.keys.items node (step D node i NoStore) prepared) (sym is')
-    (prepared_recorded code index at entry record' found.within c.index.ensures own kinds logs node s D op u prepared refl refl c.told.ensures)
+    let fits = sym c.fits.ensures ∙ c.if-not-fits.false in
+    let n = c.in-Ok.number in
+    let number = ap (needed level) (ap (λ v. length v.members) s.view ∙ ap length (sym c.members-members.ensures.members)) ∙ c.in-Ok.ensures.enough in
+    let held = held_at R.kind_of R.IsDataOf kinds logs code node s index at found.within c.index-state.ensures in
+    let made = c.in_ok-reply.ensures.image (logs at.name) (node.entries at.name) held.held.image held.logged (taken_if kinds logs code node s digest key level index at found c.index-state.ensures sent op is fits n number safe.taken) in
+    let u : IsUpdate R code.id op at (logs at.name) (node.entries at.name) (Refused c.in-Refused.reply) = subst (IsUpdate R code.id op at (logs at.name) (node.entries at.name)) c.in-Refused.is made in
+    prepared_answered kinds logs code node s c.reply-in-Refused.result c.in-Refused.reply c.reply-in-Refused.ensures.view c.reply-in-Refused.ensures.plan c.reply-in-Refused.ensures.operations c.reply-in-Refused.ensures.output _ (told_refused kinds logs code node s digest key level index at found c.index-state.ensures sent op is fits n number c.in-Refused.reply u)
+
+pub returns-then-number-le1-clause-sound : goal.returns-then-number-le1-clause-sound
+returns-then-number-le1-clause-sound g c =
+    let R = g.T.Replica in
+    let code = c.args.self.now in
+    let index = c.in-Some.index in
+    let at = c.index-state.result.now in
+    let found = position-found (λ state. bytes_eq state.name c.args.key.now) code.keys.items index c.in-Some.ensures in
+    let entry = c.in-Recorded.entry in
+    let next = c.in-Recorded.next in
+    let own : IsOwn R code.id at (Recorded entry next) = subst (IsOwn R code.id at) c.in-Recorded.is c.in_ok-reply.ensures.owned in
+    let prepared : Prepared g.row.T.Denot g.row.T-Kind.Denot g.row.T-Op.Denot g.row.T-Delta.Denot R = record { view = None; plan = At index entry next; operations = Same; output = c.told.result } in
+    sound_as code prepared (sound_recorded code index at entry next found.within c.index-state.ensures own) refl (ap (λ o. is_pending o.reply) c.told.ensures)
+
+pub returns-then-number-le1-clause-image : goal.returns-then-number-le1-clause-image
+returns-then-number-le1-clause-image g c = λ kinds logs node sent s is safe.
+    let R = g.T.Replica in
+    let S = g.T.SpelledData in
+    let digest = entry_digest S.byte_of S.history_spelled in
+    let code = c.args.self.now in
+    let key = c.args.key.now in
+    let op = c.args.op.now in
+    let level = level_meant c.args.level in
+    let index = c.in-Some.index in
+    let at = c.index-state.result.now in
+    let found = position-found (λ state. bytes_eq state.name key) code.keys.items index c.in-Some.ensures in
+    let fits = sym c.fits.ensures ∙ c.if-not-fits.false in
+    let n = c.in-Ok.number in
+    let number = ap (needed level) (ap (λ v. length v.members) s.view ∙ ap length (sym c.members-members.ensures.members)) ∙ c.in-Ok.ensures.enough in
+    let held = held_at R.kind_of R.IsDataOf kinds logs code node s index at found.within c.index-state.ensures in
+    let made = c.in_ok-reply.ensures.image (logs at.name) (node.entries at.name) held.held.image held.logged (taken_if kinds logs code node s digest key level index at found c.index-state.ensures sent op is fits n number safe.taken) in
+    let entry = c.in-Recorded.entry in
+    let next = c.in-Recorded.next in
+    let own : IsOwn R code.id at (Recorded entry next) = subst (IsOwn R code.id at) c.in-Recorded.is c.in_ok-reply.ensures.owned in
+    let u : IsUpdate R code.id op at (logs at.name) (node.entries at.name) (Recorded entry next) = subst (IsUpdate R code.id op at (logs at.name) (node.entries at.name)) c.in-Recorded.is made in
+    let prepared : Prepared g.row.T.Denot g.row.T-Kind.Denot g.row.T-Op.Denot g.row.T-Delta.Denot R = record { view = None; plan = At index entry next; operations = Same; output = c.told.result } in
+    prepared_done kinds logs code node s digest key level index at found c.index-state.ensures sent op is fits n number entry next own u prepared refl refl c.if-number-le1.true refl c.told.ensures
+
+pub returns-else-number-le1-clause-sound : goal.returns-else-number-le1-clause-sound
+returns-else-number-le1-clause-sound g c =
+    let R = g.T.Replica in
+    let code = c.args.self.now in
+    let index = c.in-Some.index in
+    let at = c.index-state.result.now in
+    let found = position-found (λ state. bytes_eq state.name c.args.key.now) code.keys.items index c.in-Some.ensures in
+    let entry = c.in-Recorded.entry in
+    let next = c.in-Recorded.next in
+    let own : IsOwn R code.id at (Recorded entry next) = subst (IsOwn R code.id at) c.in-Recorded.is c.in_ok-reply.ensures.owned in
+    let message : Message g.row.T.Denot g.row.T-Kind.Denot g.row.T-Op.Denot g.row.T-Delta.Denot R = Write (length code.operations) at.name entry in
+    let n = c.in-Ok.number in
+    if_both (λ (prepared : Prepared g.row.T.Denot g.row.T-Kind.Denot g.row.T-Op.Denot g.row.T-Delta.Denot R). prepared.plan ≡ At index entry next) (IsOpened code at.name false n message) (IsSoundFor code) c.written.result
+    (λ prepared plan o. record {
+      plan = subst (IsSoundPlan R code.id code.steps code.keys.items) (sym plan) (sound_recorded code index at entry next found.within c.index-state.ensures own);
+      operations = opened_can code at.name false n message prepared o;
+      pending = opened_pending code at.name false n message prepared o;
+    }) c.written.ensures.plan c.written.ensures.opened
+
+pub returns-else-number-le1-clause-image : goal.returns-else-number-le1-clause-image
+returns-else-number-le1-clause-image g c =
+    let R = g.T.Replica in
+    let code = c.args.self.now in
+    let index = c.in-Some.index in
+    let at = c.index-state.result.now in
+    let entry = c.in-Recorded.entry in
+    let next = c.in-Recorded.next in
+    let message : Message g.row.T.Denot g.row.T-Kind.Denot g.row.T-Op.Denot g.row.T-Delta.Denot R = Write (length code.operations) at.name entry in
+    if_both (λ (prepared : Prepared g.row.T.Denot g.row.T-Kind.Denot g.row.T-Op.Denot g.row.T-Delta.Denot R). prepared.plan ≡ At index entry next) (IsOpened code at.name false c.in-Ok.number message)
+    (Prepares g.T.SpelledData code (input.Update c.args.key.now c.args.op.now c.args.level)) c.written.result
+    (λ prepared plan o kinds logs node sent s is safe.
+    let S = g.T.SpelledData in
+    let digest = entry_digest S.byte_of S.history_spelled in
+    let key = c.args.key.now in
+    let op = c.args.op.now in
+    let level = level_meant c.args.level in
+    let found = position-found (λ state. bytes_eq state.name key) code.keys.items index c.in-Some.ensures in
+    let fits = sym c.fits.ensures ∙ c.if-not-fits.false in
+    let n = c.in-Ok.number in
+    let number = ap (needed level) (ap (λ v. length v.members) s.view ∙ ap length (sym c.members-members.ensures.members)) ∙ c.in-Ok.ensures.enough in
+    let held = held_at R.kind_of R.IsDataOf kinds logs code node s index at found.within c.index-state.ensures in
+    let made = c.in_ok-reply.ensures.image (logs at.name) (node.entries at.name) held.held.image held.logged (taken_if kinds logs code node s digest key level index at found c.index-state.ensures sent op is fits n number safe.taken) in
+    let own : IsOwn R code.id at (Recorded entry next) = subst (IsOwn R code.id at) c.in-Recorded.is c.in_ok-reply.ensures.owned in
+    let u : IsUpdate R code.id op at (logs at.name) (node.entries at.name) (Recorded entry next) = subst (IsUpdate R code.id op at (logs at.name) (node.entries at.name)) c.in-Recorded.is made in
+    prepared_pending kinds logs code node s digest key level index at found c.index-state.ensures sent op is fits n number entry next own u prepared o.viewed plan c.if-number-le1.false o)
+    c.written.ensures.plan c.written.ensures.opened

@@ -1,4 +1,4 @@
-use Rattle.std.proofs.Common.{◌≡◌, [], ◌∷◌, ◌++◌, ap, sym, ◌∙◌, subst, refl, Some}
+use Rattle.std.proofs.Common.{[], ◌∷◌, ◌++◌, ap, sym, ◌∙◌, subst, refl, Some}
 use Rattle.std.proofs.lemmas.Result.{on_ok_weaker}
 use Rattle.rd_markers.specs.Marks.{performed_in}
 use Rattle.rd_envelope.specs.Words.{parts_of}

@@ -1,0 +1,45 @@
+use Rattle.std.proofs.Common.{◌≡◌, None, Some, sym, ap, ◌∙◌, subst, subst₂}
+use Rattle.std.specs.Prelude.{option_map, if◌then◌else◌}
+use Rattle.std.specs.Str.{bytes_eq}
+use Rattle.rd_model.specs.Entry.{has_records}
+use Rattle.rd_model.specs.Message.{Message as Sent}
+use Rattle.rd_model.specs.Node.{HasKey, key_state, state_of}
+use Rattle.rd_model.specs.Step.{answered_entry}
+use Rattle.rd_model.proofs.Steps.{bytes_eq-tells}
+use Rattle.rd_messages.specs.declared.message.Message.TheVariants.{ReadAnswer}
+use Rattle.rd_messages.specs.Standing.{StandsForEntry, StandsForMessage}
+use Rattle.rd_node.specs.Replies.{delta_groups}
+use Rattle.rd_node.proofs.Lookup.{position-found, position-none}
+use Rattle.rd_node.proofs.Standing.{undeclared, has_key, held_at}
+use Rattle.rd_node.proofs.Replying.{read_stands}
+use Rattle.rd_node.proofs.node.Node.read_answer.Goals as goal
+
+pub returns-in_default : goal.returns-in_default
+returns-in_default g c = λ digest kinds logs node s.
+    let R = g.T.Replica in
+    let D = delta_groups R.data_type digest in
+    let code = c.args.self.now in
+    let op = c.args.op in
+    let key = c.args.key.now in
+    let none = position-none (λ state. bytes_eq state.name key) code.keys.items c.in_default.ensures in
+    let is = ap (option_map (state_of node)) (undeclared R.kind_of R.IsDataOf kinds logs code node s key none) in
+    ap (λ o. Sent.ReadAnswer op key (answered_entry D o)) is ∙ ap (λ k. Sent.ReadAnswer op k None) (sym c.in_ok-key.ensures)
+
+pub returns : goal.returns
+returns g c = λ digest kinds logs node s.
+    let R = g.T.Replica in
+    let D = delta_groups R.data_type digest in
+    let code = c.args.self.now in
+    let op = c.args.op in
+    let key = c.args.key.now in
+    let at = c.index.result.now in
+    let found = position-found (λ state. bytes_eq state.name key) code.keys.items c.in-Some.index c.in-Some.ensures in
+    let named : at.name ≡ key = ap (λ state. state.name) c.index.ensures ∙ bytes_eq-tells _ key (found.passes at) in
+    let has = subst (λ name. HasKey node name (R.kind_of at.entry.value)) named (has_key R.kind_of R.IsDataOf kinds logs code node s key c.in-Some.index at found c.index.ensures) in
+    let held = subst (λ name. StandsForEntry R.kind_of R.IsDataOf kinds logs name at.entry (node.entries name)) named (held_at R.kind_of R.IsDataOf kinds logs code node s c.in-Some.index at found.within c.index.ensures).held in
+    let is = ap (option_map (state_of node)) has.1 in
+    let copy = c.in_ok-envelope.ensures (logs key) (node.entries key) held.image in
+    let held_records = has_records (node.entries key) in
+    subst₂ (λ k o. StandsForMessage {ghosts = R} R.kind_of R.IsDataOf kinds logs (ReadAnswer op k o) (Sent.ReadAnswer op key (answered_entry D (key_state node key)))) (sym c.in_ok-key-2.ensures) (sym copy)
+    (subst (λ o. StandsForMessage {ghosts = R} R.kind_of R.IsDataOf kinds logs (ReadAnswer op key (if held_records then Some at.entry else None)) (Sent.ReadAnswer op key (answered_entry D o))) (sym is)
+    (read_stands R kinds logs op key held_records at.entry (node.entries key) held))

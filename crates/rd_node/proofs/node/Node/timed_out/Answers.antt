@@ -1,0 +1,57 @@
+use Rattle.std.proofs.Common.{◌≡◌, None, refl, ap, ◌∙◌, sym, subst}
+use Rattle.std.specs.Prelude.{slice_get, is_some}
+use Rattle.rd_model.specs.Node.Fate.{NoStore}
+use Rattle.rd_model.specs.Node.{Reply as Meant}
+use Rattle.rd_model.specs.Step.{step, answered}
+use Rattle.rd_node.specs.declared.operation.Operation.TheVariants.{Open, TimedOut}
+use Rattle.rd_node.specs.declared.operations.OperationChange.TheVariants.{Put}
+use Rattle.rd_node.specs.declared.plan.Plan.TheVariants.{Nothing}
+use Rattle.rd_node.specs.declared.plan.Prepared.{Prepared}
+use Rattle.rd_node.specs.declared.reply.Reply.TheVariants as reply
+use Rattle.rd_node.specs.Outputs.{is_pending}
+use Rattle.rd_node.specs.Planning.{IsPrepared}
+use Rattle.rd_node.specs.Replies.{meant}
+use Rattle.rd_node.specs.Steps.{replication}
+use Rattle.rd_node.proofs.Closes.{closed, step-closes, step-closes_none}
+use Rattle.rd_node.proofs.Counts.{open_there, open_within}
+use Rattle.rd_node.proofs.Looking.{looked_open}
+use Rattle.rd_node.proofs.Operating.{operates_closed}
+use Rattle.rd_node.proofs.PreparedSteps.{sound_still, sound_told, prepared_moved, prepared_answered, quiet_output}
+use Rattle.rd_node.proofs.node.Node.timed_out.Goals as goal
+
+pub returns-in-Some-clause-sound : goal.returns-in-Some-clause-sound
+returns-in-Some-clause-sound g c =
+    let operations = c.args.self.now.operations in
+    record {
+      plan = sound_still c.args.self.now _ refl;
+      operations = open_within operations c.args.op (Open c.in-Some.field-0.now) (open_there (slice_get operations c.args.op) c.in-Some.field-0.now (sym c.in-Some.ensures));
+      pending = ap (λ o. is_pending o.reply) c.told.ensures;
+    }
+
+pub returns-in-Some-clause-image : goal.returns-in-Some-clause-image
+returns-in-Some-clause-image g c = λ kinds logs node sent s is safe.
+    let R = g.T.Replica in
+    let D = replication R g.T.SpelledData in
+    let code = c.args.self.now in
+    let op = c.args.op in
+    let asked = c.in-Some.field-0.now in
+    let there = open_there (slice_get code.operations op) asked (sym c.in-Some.ensures) in
+    let is_there = looked_open code.operations node s.operations op ∙ ap is_some (sym c.in-Some.ensures) in
+    let next = answered (closed D node op) Meant.TimedOut in
+    let same : step D node sent NoStore ≡ next = ap (λ i. step D node i NoStore) is ∙ step-closes D node op is_there in
+    let prepared : Prepared g.row.T.Denot g.row.T-Kind.Denot g.row.T-Op.Denot g.row.T-Delta.Denot R = record { view = None; plan = Nothing; operations = Put op TimedOut; output = c.told.result } in
+    subst (λ st. IsPrepared {ghosts = R} kinds logs code.keys.items code.operations node st prepared) (sym same)
+    (prepared_moved kinds logs code node s prepared next refl refl refl refl refl refl refl refl (operates_closed code.operations node next.node s.operations op asked there refl refl refl)
+    (quiet_output kinds logs c.told.result next.output (ap (λ o. o.posts) c.told.ensures) (ap (λ o. o.finished) c.told.ensures) (ap (λ o. meant o.reply) c.told.ensures) refl refl))
+
+pub returns-in-None-clause-sound : goal.returns-in-None-clause-sound
+returns-in-None-clause-sound g c = sound_told c.args.self.now c.reply.result reply.NoSuchOp c.reply.ensures.plan c.reply.ensures.operations c.reply.ensures.output refl
+
+pub returns-in-None-clause-image : goal.returns-in-None-clause-image
+returns-in-None-clause-image g c = λ kinds logs node sent s is safe.
+    let R = g.T.Replica in
+    let D = replication R g.T.SpelledData in
+    let code = c.args.self.now in
+    let none = looked_open code.operations node s.operations c.args.op ∙ ap is_some (sym c.in-None.ensures) in
+    prepared_answered kinds logs code node s c.reply.result reply.NoSuchOp c.reply.ensures.view c.reply.ensures.plan c.reply.ensures.operations c.reply.ensures.output
+    (step D node sent NoStore) (ap (λ i. step D node i NoStore) is ∙ step-closes_none D node c.args.op none)

@@ -1,0 +1,65 @@
+-- What an answer counts for.
+--     open_at        the open operation of a number
+--     IsAnswered        who is asked, with one answer more
+--     IsCountOf        what an answer makes of the operations, and what ends by it
+--     LooksAt        how an operation of the model stands
+use Rattle.std.specs.Prelude.{◌≡◌, ℕ, ◌<◌, ◌≤◌, ◌==◌, ◌&&◌, List, Bool, true, false, not, Option, Some, None, slice_get, IfSome}
+use Rattle.std.specs.List.{list_any}
+use Rattle.std.specs.Str.{bytes_eq}
+use Rattle.rd_history.specs.Texts.{Text}
+use Rattle.rd_history.specs.Vector.{with_member}
+use Rattle.rd_model.specs.Node as nodes
+use Rattle.rd_model.specs.Node.{OpenOperation}
+use Rattle.rd_model.specs.Step.{with_answer}
+use Rattle.rd_kinds.specs.declared.shown.Shown.{Shown}
+use Rattle.rd_vectors.specs.IdSets.{member_count}
+use Rattle.rd_quorum.specs.Counts.{answered_by}
+use Rattle.rd_node.specs.declared.counting.Counted.{Counted}
+use Rattle.rd_node.specs.declared.operation.Asked.{Asked}
+use Rattle.rd_node.specs.declared.operation.Look.{Look}
+use Rattle.rd_node.specs.declared.operation.Look.TheVariants as look
+use Rattle.rd_node.specs.declared.operation.Operation.{Operation}
+use Rattle.rd_node.specs.declared.operation.Operation.TheVariants.{Open, Finished}
+use Rattle.rd_node.specs.declared.operation.OperationResult.{OperationResult}
+use Rattle.rd_node.specs.declared.operations.OperationChange.TheVariants.{Same, Put}
+use Rattle.rd_node.specs.Operations.{asked_meant, result_meant, result_at}
+
+abbrev pub open_as : Option Operation → Option Asked
+open_as (Some (Open asked)) = Some asked
+open_as _ = None
+
+-- the open operation of a number
+abbrev pub open_at : List Operation → ℕ → Option Asked
+open_at operations op = open_as (slice_get operations op)
+
+-- how many have answered once this member did
+abbrev pub count_with : Asked → ℕ → ℕ
+count_with asked from = member_count (with_member (answered_by asked.tally) from)
+
+-- one answer more, or as many as are needed
+abbrev pub IsAnswered : Asked → ℕ → Option Asked → Type 0
+IsAnswered asked from None = asked.tally.needed ≤ count_with asked from
+IsAnswered asked from (Some next) = (count_with asked from < asked.tally.needed) × ((op : ℕ) → asked_meant op next ≡ with_answer from (asked_meant op asked))
+
+abbrev pub is_write : Asked → Bool
+is_write asked = not asked.reads
+
+abbrev pub is_read_of : Text → Asked → Bool
+is_read_of key asked = asked.reads && bytes_eq asked.key key
+
+-- what an answer from a member makes of the operation of this number, if it is open and passes the test
+pub data IsCountOf (operations : List Operation) (from op : ℕ) (test : Asked → Bool) (Ends : OperationResult → Type 0) : Counted → Type 0 where
+  nothing : IfSome (open_at operations op) (λ asked. test asked ≡ false) → IsCountOf operations from op test Ends (record { change = Same; finished = None })
+  waits : (asked next : Asked) → open_at operations op ≡ Some asked → test asked ≡ true → IsAnswered asked from (Some next)
+      → IsCountOf operations from op test Ends (record { change = Put op (Open next); finished = None })
+  ends : (asked : Asked) (end : OperationResult) → open_at operations op ≡ Some asked → test asked ≡ true → IsAnswered asked from None → Ends end
+      → IsCountOf operations from op test Ends (record { change = Put op (Finished end); finished = Some (record { op = op; result = end }) })
+
+-- an operation of this number is open
+abbrev pub is_open : {Kind Op : Type 0} → nodes.Node Kind Op Shown → ℕ → Bool
+is_open node op = list_any (λ (o : OpenOperation). o.op == op) node.open_operations
+
+abbrev pub LooksAt : {Kind Op : Type 0} → nodes.Node Kind Op Shown → ℕ → Look → Type 0
+LooksAt node op look.Open = is_open node op ≡ true
+LooksAt node op (look.Finished end) = (is_open node op ≡ false) × (result_at node.finished op ≡ Some (result_meant end))
+LooksAt node op look.NoSuchOp = (is_open node op ≡ false) × (result_at node.finished op ≡ None)
