@@ -2,9 +2,8 @@
 #![tactic(auto)]
 
 use rd_embedding::{
-    Data, Finished, Id, Input, Items, KeyDecl, Kind, Level, Memory, MemoryKeeper, Node, Op,
-    OperationResult, Output, Post, Posts, StepError, Text, TextError, View, ViewList, are_distinct,
-    push_shown,
+    Data, Id, Input, Items, KeyDecl, Kind, Level, Memory, MemoryKeeper, Node, Op, Output, Post,
+    Posts, Reply, StepError, Text, TextError, View, ViewList, are_distinct, push_shown,
 };
 use std::alloc::Global;
 use std::process::ExitCode;
@@ -67,14 +66,8 @@ fn member(
     }
 }
 
-/// Hands the messages of one member to another, and then what this answers back. A service would send and receive them. It
-/// tells which operation of the first member ended by an answer.
-fn hand(
-    from: &mut Member,
-    to: &mut Member,
-    posts: Posts<Data>,
-) -> Result<Option<Finished>, Stopped> {
-    let mut ended = None;
+/// Hands the messages of one member to another, and then what this answers back. A service would send and receive them.
+fn hand(from: &mut Member, to: &mut Member, posts: Posts<Data>) -> Result<(), Stopped> {
     for Post { to: _, message } in posts.into_vec() {
         let heard = Input::Take {
             from: from.id(),
@@ -85,33 +78,23 @@ fn hand(
                 from: to.id(),
                 message,
             };
-            let Output {
-                reply: _,
-                posts: _,
-                finished,
-            } = from.step(&answered)?;
-            if finished.is_some() {
-                ended = finished;
-            }
+            from.step(&answered)?;
         }
     }
-    Ok(ended)
+    Ok(())
 }
 
-/// What a member shows of a key, once it has asked the other one.
-fn shown(
-    alloc: Global,
-    member: &mut Member,
-    other: &mut Member,
-    key: Text,
-) -> Result<String, Stopped> {
+/// What a member shows of a key.
+fn shown(alloc: Global, member: &mut Member, key: Text) -> Result<String, Stopped> {
     let mut text = String::new(alloc);
-    let level = Level::All;
-    let posts = member.step(&Input::Get { key, level })?.posts;
-    if let Some(ended) = hand(member, other, posts)? {
-        if let OperationResult::Read(value) = ended.result {
-            push_shown(alloc, &mut text, &value)?;
-        }
+    let level = Level::Local;
+    let Output {
+        reply,
+        posts: _,
+        finished: _,
+    } = member.step(&Input::Get { key, level })?;
+    if let Reply::Value(value) = reply {
+        push_shown(alloc, &mut text, &value)?;
     }
     Ok(text)
 }
@@ -142,13 +125,12 @@ fn add(alloc: Global, member: &mut Member, element: &str) -> Result<(), Stopped>
     Ok(())
 }
 
-/// One of the two members adds milk and sends what it has, and then bread, and the other asks it and shows its cart.
+/// One of the two members adds milk and sends what it has, and the other shows its cart.
 fn shop(alloc: Global, first: &mut Member, second: &mut Member) -> Result<String, Stopped> {
     add(alloc, first, "milk")?;
     let posts = first.step(&Input::Flush)?.posts;
     hand(first, second, posts)?;
-    add(alloc, first, "bread")?;
-    shown(alloc, second, first, cart(alloc)?)
+    shown(alloc, second, cart(alloc)?)
 }
 
 /// Two members of one view.
