@@ -1,14 +1,12 @@
 -- A script's run over keepers, from what the world's calls say of it.
-use Rattle.std.proofs.Common.{◌≡◌, ℕ, zero, suc, ◌+◌, ◌<◌, ◌≤◌, List, [], ◌∷◌, length, map, get_or, refl, sym, ap, subst, ◌∙◌, arith, Bool, true, false, Option, Some, None, inl, inr, ◌⊎◌, Ok, Err, Vec, String, Global, string_bytes, append-nil}
+use Rattle.std.proofs.Common.{◌≡◌, ℕ, zero, suc, ◌+◌, ◌<◌, ◌≤◌, List, [], ◌∷◌, length, map, get_or, refl, sym, ap, subst, ◌∙◌, arith, Bool, true, false, Option, Some, None, inl, inr, ◌⊎◌, Ok, Err, String, Global, string_bytes, append-nil}
 use Rattle.std.specs.Prelude.{Result, MatchResult, All, Any, IsSome, if◌then◌else◌, nat_lt, slice_get}
 use Rattle.std.specs.List.{AllByRecursion}
 use Rattle.std.proofs.lemmas.Bool.{cases_lt}
 use Rattle.std.proofs.lemmas.Bool.Decides.{nat_tests}
 use Rattle.std.proofs.lemmas.Option.{get_or_from_slice_get, slice_get-get_or}
 use Rattle.rd_history.specs.Texts.{Text}
-use Rattle.rd_history.specs.History.{History}
 use Rattle.rd_history.proofs.PruneLaws.{IsIn}
-use Rattle.rd_model.specs.DataType.{DataType}
 use Rattle.rd_model.specs.Node as model
 use Rattle.rd_model.specs.Script.{Playing, KeeperAnswers, IsStep, opening, answers_between}
 use Rattle.rd_runs.proofs.AgreementOverRuns.{logs_throughout}
@@ -32,20 +30,22 @@ use Rattle.rd_world.specs.Standing.{TellsStore}
 use Rattle.rd_world.specs.Steps.{Starts}
 use Rattle.rd_world.specs.Ways.{Means}
 use Rattle.rd_operations.proofs.QuorumOfScripts.{gets_include}
+use Rattle.rd_settling_digests.proofs.ByDigests.{agree_by_digests}
 use Rattle.rd_script.specs.declared.script.Step.{Step}
 use Rattle.rd_script.specs.declared.script.Step.TheVariants as form
 use Rattle.rd_script.specs.WellFormed as script_rules
-use Rattle.rd_report.specs.Run.{decl_of, in_order, step_of, ending, beginning, IsReport}
-use Rattle.rd_report.specs.Kept.{answers_by, HoldsStore, LoadWhatTheyTook, IsWholeRun, IsRunOver, IsPlayed}
+use Rattle.rd_script.specs.WellFormed.{IsWellFormed}
+use Rattle.rd_report.specs.Run.{decl_of, in_order, step_of, ending, beginning}
+use Rattle.rd_report.specs.Kept.{answers_by, HoldsStore, LoadWhatTheyTook, IsWholeRun, IsRunOver, IsPlayed, IsUnplayed}
 use Rattle.rd_report.specs.declared.playing.Ending.{Ending}
 use Rattle.rd_report.specs.declared.playing.Ending.TheVariants.{Told, NotCleared, Memory}
-use Rattle.rd_report.specs.Telling.{AllTell, LoadAll, SetsOut, Follows, TellsAll}
+use Rattle.rd_report.specs.Telling.{AllTell, LoadAll, SetsOut, Follows, TellsRun, Opens, AreAllKept}
 use Rattle.rd_report.proofs.Composed.{kept_further}
 use Rattle.rd_report.proofs.Foretold.{foretold_between}
 use Rattle.rd_report.proofs.Holding.{holds_store}
 use Rattle.rd_report.proofs.KeepersBack.{keeper_past, ComeBack, come_back}
 use Rattle.rd_report.proofs.NamedKinds.{kind_among, are_of_kinds}
-use Rattle.rd_report.proofs.Orders.{in_ordered, from_ordered, in_mapped, from_mapped}
+use Rattle.rd_report.proofs.Orders.{distinct_keys, in_ordered, from_ordered, in_mapped, from_mapped}
 use Rattle.rd_world.proofs.StoredKeys.{run_stores_declared, any_in}
 use Rattle.rd_report.proofs.Unfailing.{none_failed}
 
@@ -79,8 +79,9 @@ model_step (form.Remove id) ok = tt
 model_step (form.Join place) ok = ok
 model_step (form.Restart id) ok = tt
 model_step (form.Install at view) ok = tt
+model_step form.Settle ok = tt
 
-pub model_steps : (steps : List Step) → All script_rules.IsStep steps → AllByRecursion IsStep (map step_of steps)
+model_steps : (steps : List Step) → All script_rules.IsStep steps → AllByRecursion IsStep (map step_of steps)
 model_steps [] all = tt
 model_steps (step ∷ steps) all = (model_step step (all zero step (omega arith)), model_steps steps (λ k d less. all (suc k) d (omega arith)))
 
@@ -126,6 +127,10 @@ module _ {T K Kind Op Delta : Type 0} {ghosts : Ghosts T Kind Op Delta} {keeping
 
 -- THE RUN
 
+-- what is said of where a script begins and of its steps is said of the script
+abbrev pub of_script : (Playing Kind Op Shown → List Step → List ℕ → Type 0) → KeeperAnswers → Script → List ℕ → Type 0
+of_script says answers script text = says (beginning answers script) script.steps text
+
 module _ {T K Delta : Type 0} {ghosts : Ghosts T Kind Op Delta} {keeping : Keeping K} (spelling : Spelling T Kind Op Delta) (script : Script) (keys : List (KeyDecl T Kind Op Delta)) (old : List K) (first : World T K Kind Op Delta ghosts keeping)
     (eight : length old ≡ 8) (made : map declared keys ≡ map decl_of (in_order script.keys)) (apart : AreDistinct (map (λ (d : KeyDecl T Kind Op Delta). d.key) keys)) (starts : Starts spelling script.members keys old first) (within : AllByRecursion IsStep (map step_of script.steps)) where
   -- kept from the start on
@@ -169,7 +174,8 @@ module _ {T K Delta : Type 0} {ghosts : Ghosts T Kind Op Delta} {keeping : Keepi
             let none = keeper_past first.nodes.items first.spare.items place (omega (arith, more, first_nodes)) (omega (arith, more, first_spare)) in
             absurd (let e : None ≡ Some keeper = sym none ∙ is in cc e)
 
-    module _ (new : List K) (last : World T K Kind Op Delta ghosts keeping) (nodes : length last.nodes.items ≡ 8) (spare : length last.spare.items ≡ 8) (back : new ≡ keepers_of last.nodes.items last.spare.items) (text : List ℕ) (tells : TellsAll spelling script.steps first last text) where
+    module _ (new : List K) (last : World T K Kind Op Delta ghosts keeping) (nodes : length last.nodes.items ≡ 8) (spare : length last.spare.items ≡ 8) (back : new ≡ keepers_of last.nodes.items last.spare.items)
+        (begins says : Playing Kind Op Shown → List Step → List ℕ → Type 0) (text : List ℕ) (tells : TellsRun spelling begins says script.steps first last text) where
       -- the answers of each keeper, the clear at the start first
       whole_given : Given
       whole_given place = if nat_lt place 8 then true ∷ tells.given place else []
@@ -235,7 +241,7 @@ module _ {T K Delta : Type 0} {ghosts : Ghosts T Kind Op Delta} {keeping : Keepi
         follows : Follows spelling kinds script.members decls (beginning answers script) tells.given script.steps last
         follows = (tells.whole loads_all kinds script.members decls (beginning answers script) sets_out).0
 
-        reported_so : IsReport ghosts.data_type spelling.byte_of spelling.history_spelled answers script text
+        reported_so : says (beginning answers script) script.steps text
         reported_so = (tells.whole loads_all kinds script.members decls (beginning answers script) sets_out).1
 
         abbrev end : Playing Kind Op Shown
@@ -255,16 +261,17 @@ module _ {T K Delta : Type 0} {ghosts : Ghosts T Kind Op Delta} {keeping : Keepi
             holds_store ghosts spelling kinds logs.0 table (end.world.stores place) spells script.keys key_kinds
             (λ name entry has. durable_key name (run_stores_declared D decls script.members end.events end.world run place name entry has))
 
-        whole_so : IsWholeRun ghosts.data_type spelling.byte_of spelling.history_spelled keeping whole_given script old new text
+        whole_so : IsWholeRun ghosts.data_type spelling.byte_of spelling.history_spelled keeping (of_script says) whole_given script old new text
         whole_so = record {
           reported = reported_so;
           called = called_so;
           majorities = gets_include (replication ghosts spelling) answers script.members decls (map step_of script.steps) follows.means.run.some follows.means.run.few within;
+          settles = λ stays. agree_by_digests (replication ghosts spelling) spelling.byte_of spelling.history_spelled refl stays answers script.members decls (map step_of script.steps) follows.means.run.some follows.means.run.few within;
           stored = record { count = kept_so.count; each = λ place before after was is. stored_so place after is };
-          unfailing = λ stays. subst (λ (a : KeeperAnswers). IsReport ghosts.data_type spelling.byte_of spelling.history_spelled a script text) (none_failed keeping whole_given old new kept_so others_so stays) reported_so;
+          unfailing = λ stays. subst (λ (a : KeeperAnswers). of_script says a script text) (none_failed keeping whole_given old new kept_so others_so stays) reported_so;
         }
 
-      pub run_over : IsRunOver ghosts.data_type spelling.byte_of spelling.history_spelled keeping script old new text
+      pub run_over : IsRunOver ghosts.data_type spelling.byte_of spelling.history_spelled keeping (of_script begins) (of_script says) script old new text
       run_over = record {
         given = whole_given;
         kept = kept_so;
@@ -276,16 +283,38 @@ module _ {T K Delta : Type 0} {ghosts : Ghosts T Kind Op Delta} {keeping : Keepi
       pub kept_over : AreKept keeping old new
       kept_over = are_kept old new last eight nodes spare back kept_each
 
-    -- how it ended, by how it was told
-    pub ends_so : (new : List K) (last : World T K Kind Op Delta ghosts keeping) → length last.nodes.items ≡ 8 → length last.spare.items ≡ 8 → new ≡ keepers_of last.nodes.items last.spare.items → {E : Type 0} (told : Result (String Global) E) (end : Ending)
-        → MatchResult told (λ text. TellsAll spelling script.steps first last (string_bytes text)) (λ _. (place : ℕ) → IsKept keeping (keeper_of first.nodes.items first.spare.items place) (keeper_of last.nodes.items last.spare.items place))
-        → MatchResult told (λ text. end ≡ Told text) (λ _. end ≡ Memory) → IsPlayed ghosts.data_type spelling.byte_of spelling.history_spelled keeping script old new end
-    ends_so new last nodes spare back (Ok text) end tells is =
-        subst (IsPlayed ghosts.data_type spelling.byte_of spelling.history_spelled keeping script old new) (sym is)
-        (record { ends = run_over new last nodes spare back (string_bytes text) tells; kept = kept_over new last nodes spare back (string_bytes text) tells })
-    ends_so new last nodes spare back (Err e) end kept is =
-        subst (IsPlayed ghosts.data_type spelling.byte_of spelling.history_spelled keeping script old new) (sym is)
-        (record { ends = tt; kept = are_kept old new last eight nodes spare back (λ place keeper was. is_kept_from place keeper (keeper_of last.nodes.items last.spare.items place) was (kept place)) })
+-- how it ended, by how it was told
+module _ {T K Delta : Type 0} {ghosts : Ghosts T Kind Op Delta} {keeping : Keeping K} (spelling : Spelling T Kind Op Delta) (begins says : Playing Kind Op Shown → List Step → List ℕ → Type 0) (script : Script) (old new : List K) (first last : World T K Kind Op Delta ghosts keeping) (formed : IsWellFormed script) (eight : length old ≡ 8)
+    (opens : Opens spelling script old first) (back : new ≡ keepers_of last.nodes.items last.spare.items) where
+  pub ends_so : {E : Type 0} (told : Result (String Global) E) (end : Ending) → MatchResult told (λ text. TellsRun spelling begins says script.steps first last (string_bytes text)) (λ _. AreAllKept first last) → MatchResult told (λ text. end ≡ Told text) (λ _. end ≡ Memory)
+      → IsPlayed keeping (IsRunOver ghosts.data_type spelling.byte_of spelling.history_spelled keeping (of_script begins) (of_script says)) script old new end
+  ends_so {E} told end tells is = by_told told tells is
+    where
+      apart : AreDistinct (map (λ (d : KeyDecl T Kind Op Delta). d.key) opens.keys)
+      apart = distinct_keys script.keys opens.keys opens.made formed.key_names
+
+      eight_of : (world : World T K Kind Op Delta ghosts keeping) → (length world.nodes.items ≡ 8) × (length world.spare.items ≡ 8)
+      eight_of world = (sym world.nodes.ok.0 ∙ world.eight_nodes, sym world.spare.ok.0 ∙ world.eight_spare)
+
+      by_told : (told : Result (String Global) E) → MatchResult told (λ text. TellsRun spelling begins says script.steps first last (string_bytes text)) (λ _. AreAllKept first last) → MatchResult told (λ text. end ≡ Told text) (λ _. end ≡ Memory)
+          → IsPlayed keeping (IsRunOver ghosts.data_type spelling.byte_of spelling.history_spelled keeping (of_script begins) (of_script says)) script old new end
+      by_told (Ok text) tells is =
+          let start = eight_of first in
+          let stop = eight_of last in
+          let within = model_steps script.steps formed.steps in
+          subst (IsPlayed keeping (IsRunOver ghosts.data_type spelling.byte_of spelling.history_spelled keeping (of_script begins) (of_script says)) script old new) (sym is)
+          (record {
+            ends = run_over spelling script opens.keys old first eight opens.made apart opens.starts within start.0 start.1 new last stop.0 stop.1 back begins says (string_bytes text) tells;
+            kept = kept_over spelling script opens.keys old first eight opens.made apart opens.starts within start.0 start.1 new last stop.0 stop.1 back begins says (string_bytes text) tells;
+          })
+      by_told (Err e) kept is =
+          let stop = eight_of last in
+          let within = model_steps script.steps formed.steps in
+          subst (IsPlayed keeping (IsRunOver ghosts.data_type spelling.byte_of spelling.history_spelled keeping (of_script begins) (of_script says)) script old new) (sym is)
+          (record {
+            ends = tt;
+            kept = are_kept old new last eight stop.0 stop.1 back (λ place keeper was. is_kept_from spelling script opens.keys old first eight opens.made apart opens.starts within place keeper (keeper_of last.nodes.items last.spare.items place) was (kept place));
+          })
 
 -- WHERE THERE IS NO RUN
 
@@ -299,8 +328,5 @@ module _ {K : Type 0} (keeping : Keeping K) where
       by_place p before after was now (inr more) (inl greater) = ([], subst (Keeps keeping [] before) (sym (is.later.each p before after was now greater)) (not_called keeping before))
       by_place p before after was now (inr more) (inr least) = (false ∷ [], (is.failed.each p before after was now (omega (arith, more, least))).answered)
 
-module _ (data_type : DataType Kind Op Shown) (byte_of : Kind → ℕ) (history_spelled : Kind → History Op → List ℕ) {K : Type 0} (keeping : Keeping K) where
-  pub not_cleared : (script : Script) (old : List K) (new keepers : Vec K Global) (at place : ℕ) → new ≡ keepers → at ≡ place → IsNotCleared keeping place old keepers.items → IsPlayed data_type byte_of history_spelled keeping script old new.items (NotCleared at)
-  not_cleared script old new keepers at place same there is =
-      subst (λ (ks : Vec K Global). IsPlayed data_type byte_of history_spelled keeping script old ks.items (NotCleared at)) (sym same)
-      (subst (λ p. IsPlayed data_type byte_of history_spelled keeping script old keepers.items (NotCleared p)) (sym there) (record { ends = is; kept = not_cleared_kept keeping place old keepers.items is }))
+  pub not_cleared : (script : Script) (old new : List K) (place : ℕ) → IsNotCleared keeping place old new → IsUnplayed keeping script old new (NotCleared place)
+  not_cleared script old new place is = record { ends = is; kept = not_cleared_kept place old new is }

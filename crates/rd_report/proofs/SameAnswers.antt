@@ -1,16 +1,16 @@
 -- The steps of a script leave the keepers' answers as they are.
 use Rattle.std.proofs.Common.{◌≡◌, ℕ, ◌+◌, List, [], ◌∷◌, map, refl, Bool, true, false, Option, Some, None}
-use Rattle.std.specs.Prelude.{if◌then◌else◌, nat_lt, length, is_some, not, slice_get}
+use Rattle.std.specs.Prelude.{if◌then◌else◌, nat_lt, length, is_some, not, ◌==◌, slice_get, fold, filter}
 use Rattle.std.specs.List.{range_with_len}
 use Rattle.rd_history.specs.Table.{identity_limit}
-use Rattle.rd_model.specs.View.{View, is_member, is_taken, place_of}
+use Rattle.rd_model.specs.View.{View, is_member, is_taken, place_of, leader, identities_of}
 use Rattle.rd_model.specs.DataType.{Replication}
 use Rattle.rd_model.specs.Message.{Message}
 use Rattle.rd_model.specs.Node.{Fate, Input}
 use Rattle.rd_model.specs.Node.Fate.{NoStore, Stored, StoreFailed}
 use Rattle.rd_model.specs.Step.{is_full}
 use Rattle.rd_model.specs.World.{Event, Turn, turn_of, output_of, message_at, stores, views_of}
-use Rattle.rd_model.specs.Script.{KeeperAnswers, Playing, Head, Answer, Due, did, told, with_call, next_answer, output_lines, take_turn, given, deliver, deliver_due, due_now, round_of, lose, remove, called, join, restart, install, played, played_all}
+use Rattle.rd_model.specs.Script.{KeeperAnswers, Playing, Head, Answer, Due, did, told, with_call, next_answer, output_lines, take_turn, given, deliver, deliver_due, due_now, round_of, lose, remove, called, join, restart, install, last_number, has_met_full, posted, unless_full, deliver_last, exchange, sweep, tick, is_older, install_last, settle, played, played_all}
 use Rattle.rd_runs.proofs.Keeping.{if_holds, fold_all}
 use Rattle.rd_kinds.specs.declared.operation.Op.{Op}
 use Rattle.rd_quorum.specs.Levels.{level_meant}
@@ -76,6 +76,49 @@ module _ {Kind Shown : Type 0} (D : Replication Kind Op Shown) (answers : Keeper
       by_view None = has
       by_view (Some view) = given_has p (Head.InstallHead i number) (Event.InputAt i (Input.Install view)) has
 
+  -- SETTLING
+
+  unless_full_has : (f : Playing Kind Op Shown → Playing Kind Op Shown) (p : Playing Kind Op Shown) → Has p → Has (f p) → Has (unless_full D f p)
+  unless_full_has f p has next = if_holds Has (has_met_full p) p (f p) has next
+
+  last_has : (before from to : ℕ) (p : Playing Kind Op Shown) → Has p → Has (deliver_last D before from to p)
+  last_has before from to p has =
+      let delivers = λ (q : Playing Kind Op Shown). deliver D q from to (last_number q from to) in
+      if_holds Has (before == posted p) p (unless_full D delivers p) has (unless_full_has delivers p has (deliver_has p from to (last_number p from to) has))
+
+  exchange_has : (lead : ℕ) (p : Playing Kind Op Shown) (i : ℕ) → Has p → Has (exchange D lead p i)
+  exchange_has lead p i has =
+      let gossips = λ (q : Playing Kind Op Shown). given D q (Head.GossipHead i lead) (Event.InputAt i (Input.GossipTo lead)) in
+      let first = unless_full D gossips p in
+      let second = deliver_last D (posted p) i lead first in
+      let third = deliver_last D (posted first) lead i second in
+      let has_first = unless_full_has gossips p has (given_has p (Head.GossipHead i lead) (Event.InputAt i (Input.GossipTo lead)) has) in
+      last_has (posted second) i lead third (last_has (posted first) lead i second (last_has (posted p) i lead first has_first))
+
+  sweep_has : (p : Playing Kind Op Shown) → Has p → Has (sweep D p)
+  sweep_has p has = fold_all Has (exchange D (leader p.world.view)) (exchange_has (leader p.world.view)) (filter (λ i. not (i == leader p.world.view)) (identities_of p.world.view)) p has
+
+  tick_has : (p : Playing Kind Op Shown) → Has p → Has (tick D p)
+  tick_has p has =
+      let lead = leader p.world.view in
+      unless_full_has (λ q. given D q (Head.TickHead (leader q.world.view)) (Event.InputAt (leader q.world.view) Input.PruneTick)) p has (given_has p (Head.TickHead lead) (Event.InputAt lead Input.PruneTick) has)
+
+  install_last_has : (p : Playing Kind Op Shown) (i : ℕ) → Has p → Has (install_last D p i)
+  install_last_has p i has =
+      let view = p.world.view in
+      let installs = λ (q : Playing Kind Op Shown). given D q (Head.InstallHead i view.number) (Event.InputAt i (Input.Install view)) in
+      if_holds Has (is_older D view (p.world.nodes i)) (unless_full D installs p) p (unless_full_has installs p has (given_has p (Head.InstallHead i view.number) (Event.InputAt i (Input.Install view)) has)) has
+
+  settle_has : (p : Playing Kind Op Shown) → Has p → Has (settle D p)
+  settle_has p has =
+      let installed = fold (install_last D) (record p { lines = [] }) (identities_of p.world.view) in
+      let twice = sweep D (sweep D installed) in
+      let pruned = tick D twice in
+      let swept = sweep D pruned in
+      let has_installed : Has installed = fold_all Has (install_last D) install_last_has (identities_of p.world.view) (record p { lines = [] }) has in
+      let has_pruned = tick_has twice (sweep_has (sweep D installed) (sweep_has installed has_installed)) in
+      sweep_has (tick D swept) (tick_has swept (sweep_has pruned has_pruned))
+
   step_has : (p : Playing Kind Op Shown) (step : Step) → Has p → Has (played D p (step_of step))
   step_has p (form.Update at key op level) has = given_has p (Head.UpdateHead at key) (Event.InputAt at (Input.Update key op (level_meant level))) has
   step_has p (form.Get at key level) has = given_has p (Head.GetHead at key) (Event.InputAt at (Input.Get key (level_meant level))) has
@@ -91,6 +134,7 @@ module _ {Kind Shown : Type 0} (D : Replication Kind Op Shown) (answers : Keeper
   step_has p (form.Join place) has = join_has p place has
   step_has p (form.Restart id) has = restart_has p id has
   step_has p (form.Install at view) has = install_has p at view has
+  step_has p form.Settle has = settle_has p has
 
   all_have : (p : Playing Kind Op Shown) (steps : List Step) → Has p → Has (played_all D p (map step_of steps))
   all_have p [] has = has

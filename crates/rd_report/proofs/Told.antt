@@ -75,6 +75,8 @@ answer_told answer.TooManyIdentities told is = sym (ap (report.answer_text shown
 answer_told answer.ClearFailed told is = sym (ap (report.answer_text shown_text) is)
 answer_told answer.LoadFailed told is = sym (ap (report.answer_text shown_text) is)
 answer_told (answer.Damaged key) told is = absurd is
+answer_told (answer.Settled messages blocked) told is = sym (ap (report.answer_text shown_text) is)
+answer_told answer.Stopped told is = sym (ap (report.answer_text shown_text) is)
 
 module _ {Op : Type 0} where
   sketch_told : (message : model.Message Op) → sketch_text (sketched message) ≡ message_text message
@@ -107,6 +109,7 @@ module _ {Op : Type 0} where
   head_told (head.Join place) told is = sym (ap report.head_words is)
   head_told (head.Restart id) told is = sym (ap report.head_words is)
   head_told (head.Install at view) told is = sym (ap report.head_words is)
+  head_told head.Settle told is = sym (ap report.head_words is)
 
   post_told : (post : model.Post Op) → post_text (sketched_post post) ≡ spaced (report.post_text post)
   post_told post = ap (λ t. 32 ∷ (decimal post.to ++ codes ":" ++ t)) (sketch_told post.message)

@@ -1,10 +1,19 @@
--- What a report tells of a key at the end.
-use Rattle.std.specs.Prelude.{ℕ, [], ◌∷◌, ◌++◌, codes, decimal}
+-- What a report tells at the end: of a key, and of all members.
+use Rattle.std.specs.Prelude.{◌≡◌, ℕ, List, [], ◌∷◌, ◌++◌, codes, decimal}
 use Rattle.rd_history.specs.Texts.{Text}
+use Rattle.rd_history.specs.History.{History}
 use Rattle.rd_model.specs.Entry.{Entry}
 use Rattle.rd_model.specs.DataType.{DataType}
-use Rattle.rd_model.specs.Report.{words, line_of}
+use Rattle.rd_model.specs.World as model
+use Rattle.rd_model.specs.Report.{words, line_of, final_block}
+use Rattle.rd_kinds.specs.ShownText.{shown_text}
 use Rattle.rd_kinds.specs.declared.shown.Shown.{Shown}
+use Rattle.rd_lattice.specs.declared.replica.Replica.{Ghosts}
+use Rattle.rd_lattice.specs.declared.spelled.SpelledData.{Ghosts as Spelling}
+use Rattle.rd_keeper.specs.declared.keeper.Keeper.{Ghosts as Keeping}
+use Rattle.rd_node.specs.Members.{delta_groups}
+use Rattle.rd_world.specs.declared.world.World.{World}
+use Rattle.rd_world.specs.Standing.{StandsForWorld}
 use Rattle.rd_texts.specs.Entries.{value_text, known_text, marks_text}
 
 -- the line of a key with its entry
@@ -18,3 +27,9 @@ member_line id place view = line_of (words (codes "member" ∷ decimal id ∷ co
 -- the line of the last view
 abbrev pub view_line : ℕ → Text
 view_line view = line_of (codes "final view " ++ decimal view)
+
+-- the final block of the world that this one stands for
+abbrev pub IsBlockOf : {T K Kind Op Delta : Type 0} {ghosts : Ghosts T Kind Op Delta} {keeping : Keeping K} → Spelling T Kind Op Delta → World T K Kind Op Delta ghosts keeping → List ℕ → Type 0
+IsBlockOf {Kind} {Op} {ghosts} spelling world text =
+    (digest : Kind → Entry Op → List ℕ) (kinds : Text → Kind) (logs : Text → History Op) (end : model.World Kind Op Shown) → StandsForWorld spelling kinds logs world end
+    → text ≡ final_block (delta_groups ghosts.data_type digest) shown_text end

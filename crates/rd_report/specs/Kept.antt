@@ -1,5 +1,6 @@
 -- A script's run over keepers: what their answers do to it, and what it does to them.
---     IsRunOver        the text is the report of the run, tied to the keepers place by place
+--     IsRunOver        the text tells of the run, tied to the keepers place by place
+--     IsReportOver, IsSummaryOver        it is the report of the run, or its final block alone
 --     IsPlayed        how a run ended, and what every end leaves of the keepers
 use Rattle.std.specs.Prelude.{◌≡◌, ℕ, ◌<◌, ◌≤◌, List, [], length, get_or, true, Option, Some, IsSome, find, option_map, All, Any, ◌⊎◌, string_bytes}
 use Rattle.std.specs.Str.{bytes_eq}
@@ -21,7 +22,7 @@ use Rattle.rd_script.specs.declared.script.Script.{Script}
 use Rattle.rd_script.specs.declared.script.ScriptKey.{ScriptKey}
 use Rattle.rd_report.specs.declared.playing.Ending.{Ending}
 use Rattle.rd_report.specs.declared.playing.Ending.TheVariants.{Told, NotCleared, Memory}
-use Rattle.rd_report.specs.Run.{HasNoRestart, ending, IsReport, GetsIncludeUpdates, BeginsReport}
+use Rattle.rd_report.specs.Run.{HasNoRestart, ending, IsReport, IsSummary, GetsIncludeUpdates, SettlesAreAsTold, BeginsReport}
 
 -- THE KEEPERS OF THE PLACES
 
@@ -49,30 +50,45 @@ module _ {K : Type 0} (keeping : Keeping K) where
   NoneRose old new = AtEachPlace (λ place before after. Rose (keeping.faults before) (keeping.faults after) → ⊥) old new
 
 module _ (data_type : DataType Kind Op Shown) (byte_of : Kind → ℕ) (history_spelled : Kind → History Op → List ℕ) {K : Type 0} (keeping : Keeping K) where
-  -- The report is that of the run with these answers, the keepers were called as often as in the run, and each told table holds its place's store at the run's end
-  pub record IsWholeRun (given : Given) (script : Script) (old new : List K) (text : List ℕ) : Type 0 where
-    pub reported : IsReport data_type byte_of history_spelled (answers_by given) script text
+  -- The text tells of the run with these answers, the keepers were called as often as in the run, and each told table holds its place's store at the run's end
+  pub record IsWholeRun (tells : KeeperAnswers → Script → List ℕ → Type 0) (given : Given) (script : Script) (old new : List K) (text : List ℕ) : Type 0 where
+    pub reported : tells (answers_by given) script text
     pub called : (place : ℕ) → place < 8 → length (given place) ≡ (ending data_type byte_of history_spelled (answers_by given) script).calls place
     pub stored : AtEachPlace (λ place before after. (table : Table) → keeping.table after ≡ Some table → HoldsStore byte_of history_spelled script.keys table ((ending data_type byte_of history_spelled (answers_by given) script).world.stores place)) old new
     -- majority gets include the majority updates before them
     pub majorities : GetsIncludeUpdates data_type byte_of history_spelled (answers_by given) script
+    -- and what its settles tell is so
+    pub settles : SettlesAreAsTold data_type byte_of history_spelled (answers_by given) script
     -- where no call failed it is a function of the script
-    pub unfailing : NoneRose keeping old new → IsReport data_type byte_of history_spelled none_fails script text
+    pub unfailing : NoneRose keeping old new → tells none_fails script text
 
-  -- The keepers gave these answers, and the text begins with the lines of that run before its first restart. It is the whole report, if the keepers load what they took
-  pub record IsRunOver (script : Script) (old new : List K) (text : List ℕ) : Type 0 where
+  -- The keepers gave these answers, and the text begins so. It tells of the whole run, if the keepers load what they took
+  pub record IsRunOver (begins tells : KeeperAnswers → Script → List ℕ → Type 0) (script : Script) (old new : List K) (text : List ℕ) : Type 0 where
     pub given : Given
     pub kept : AtEachPlace (λ place. Keeps keeping (given place)) old new
     pub others : (place : ℕ) → length old ≤ place → given place ≡ []
-    pub begun : BeginsReport data_type byte_of history_spelled (answers_by given) script text
-    pub whole : LoadWhatTheyTook keeping script old → IsWholeRun given script old new text
+    pub begun : begins (answers_by given) script text
+    pub whole : LoadWhatTheyTook keeping script old → IsWholeRun tells given script old new text
 
-  -- how a script's run ended
+  -- the report of a run, which begins with the lines before its first restart
+  abbrev pub IsReportOver : Script → List K → List K → List ℕ → Type 0
+  IsReportOver = IsRunOver (BeginsReport data_type byte_of history_spelled) (IsReport data_type byte_of history_spelled)
+
+  -- the final block of a run alone, of which nothing is told before the run's end
+  abbrev pub IsSummaryOver : Script → List K → List K → List ℕ → Type 0
+  IsSummaryOver = IsRunOver (λ answers script text. Unit {0}) (IsSummary data_type byte_of history_spelled)
+
+module _ {K : Type 0} (keeping : Keeping K) (IsOver : Script → List K → List K → List ℕ → Type 0) where
+  -- how a script's run ended, where this is said of its text
   abbrev pub EndsSo : Ending → Script → List K → List K → Type 0
-  EndsSo (Told text) script old new = IsRunOver script old new (string_bytes text)
+  EndsSo (Told text) script old new = IsOver script old new (string_bytes text)
   EndsSo (NotCleared place) script old new = IsNotCleared keeping place old new
   EndsSo Memory script old new = Unit {0}
 
   pub record IsPlayed (script : Script) (old new : List K) (end : Ending) : Type 0 where
     pub ends : EndsSo end script old new
     pub kept : AreKept keeping old new
+
+-- it ended before its first step
+abbrev pub IsUnplayed : {K : Type 0} → Keeping K → Script → List K → List K → Ending → Type 0
+IsUnplayed keeping = IsPlayed keeping (λ script old new text. ⊥)

@@ -51,6 +51,7 @@ head_words (head.Remove id) = codes "remove" ∷ decimal id ∷ []
 head_words (head.Join place) = codes "join" ∷ decimal place ∷ []
 head_words (head.Restart id) = codes "restart" ∷ decimal id ∷ []
 head_words (head.Install at view) = codes "install" ∷ decimal at ∷ codes "view" ∷ decimal view ∷ []
+head_words head.Settle = codes "settle" ∷ []
 
 -- an outcome of a tick, after a space
 abbrev pub outcome_text : KeyOutcome → Text
@@ -72,6 +73,8 @@ answer_text answer.TooManyIdentities = codes "too many identities"
 answer_text answer.ClearFailed = codes "clear failed"
 answer_text answer.LoadFailed = codes "load failed"
 answer_text (answer.Damaged key) = codes "damaged " ++ key
+answer_text (answer.Settled messages blocked) = words (codes "done messages" ∷ decimal messages ∷ codes "blocked" ∷ decimal blocked ∷ [])
+answer_text answer.Stopped = codes "stopped"
 
 -- a receiver and the message that it was sent, after a space
 abbrev pub post_text : SentTo → Text

@@ -5,12 +5,14 @@ use Rattle.rd_history.specs.History.{History}
 use Rattle.rd_model.specs.DataType.{DataType}
 use Rattle.rd_model.specs.Node.{KeyDecl}
 use Rattle.rd_model.specs.Script.{KeeperAnswers, Playing, opening, played_all, lines_of}
-use Rattle.rd_model.specs.Report.{report, steps_text}
+use Rattle.rd_model.specs.Report.{report, steps_text, final_block}
 use Rattle.rd_kinds.specs.ShownText.{shown_text}
 use Rattle.rd_kinds.specs.declared.kind.Kind.{Kind}
 use Rattle.rd_kinds.specs.declared.operation.Op.{Op}
 use Rattle.rd_kinds.specs.declared.shown.Shown.{Shown}
 use Rattle.rd_operations.specs.Scripts.{GetsInclude}
+use Rattle.rd_settling.specs.Settling.{BlockedStays}
+use Rattle.rd_settling_digests.specs.Digests.{SettlesAgreeByDigests}
 use Rattle.rd_node.specs.Members.{spelled_groups}
 use Rattle.rd_script.specs.declared.script.Script.{Script}
 use Rattle.rd_script.specs.declared.script.ScriptKey.{ScriptKey}
@@ -68,9 +70,19 @@ module _ (data_type : DataType Kind Op Shown) (byte_of : Kind → ℕ) (history_
   IsReport answers script text =
       text ≡ report (spelled_groups data_type byte_of history_spelled) shown_text answers script.members (map decl_of (in_order script.keys)) (map step_of script.steps)
 
+  -- the final block of the run alone
+  abbrev pub IsSummary : KeeperAnswers → Script → List ℕ → Type 0
+  IsSummary answers script text = text ≡ final_block (spelled_groups data_type byte_of history_spelled) shown_text (ending answers script).world
+
   -- while membership stays unchanged, each majority get whose answer is told includes every majority update of its key whose success was told before
   abbrev pub GetsIncludeUpdates : KeeperAnswers → Script → Type 0
   GetsIncludeUpdates answers script = GetsInclude (spelled_groups data_type byte_of history_spelled) answers script.members (map decl_of (in_order script.keys)) (map step_of script.steps)
+
+  -- What settles tell is so, and those that are done leave settled worlds, where digests are distinct until then. For this, what blocks a prune has to go on blocking it
+  abbrev pub SettlesAreAsTold : KeeperAnswers → Script → Type 0
+  SettlesAreAsTold answers script =
+      BlockedStays (spelled_groups data_type byte_of history_spelled)
+      → SettlesAgreeByDigests (spelled_groups data_type byte_of history_spelled) byte_of history_spelled answers script.members (map decl_of (in_order script.keys)) (map step_of script.steps)
 
   -- the lines of the steps before the first restart
   abbrev pub first_lines : KeeperAnswers → Script → List ℕ

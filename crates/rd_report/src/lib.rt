@@ -1,4 +1,4 @@
-//! The report of a script's run: the lines of its steps, and what each member holds at the end.
+//! The report of a script's run: the lines of its steps, and what each member holds at the end; and this end alone.
 #![tactic(auto)]
 
 mod laws;
@@ -8,4 +8,4 @@ mod order;
 mod playing;
 
 pub use laws::keys_rise;
-pub use playing::{Ending, Played, report};
+pub use playing::{Ending, Played, report, summary};

@@ -62,6 +62,7 @@ fn push_head(text: &mut String, head: &Head) -> Result<(), Memory>
         Head::Join { place } => write!(text, "join {place}")?,
         Head::Restart { id } => write!(text, "restart {}", id.number())?,
         Head::Install { at, view } => write!(text, "install {} view {view}", at.number())?,
+        Head::Settle => text.push_str("settle")?,
     }
     Ok(())
 }
@@ -155,6 +156,10 @@ fn push_answer(alloc: Global, text: &mut String, answer: &Answer) -> Result<(), 
         Answer::ClearFailed => text.push_str("clear failed")?,
         Answer::LoadFailed => text.push_str("load failed")?,
         Answer::Damaged(key) => write!(text, "damaged {}", key.as_str())?,
+        Answer::Settled { messages, blocked } => {
+            write!(text, "done messages {messages} blocked {blocked}")?;
+        }
+        Answer::Stopped => text.push_str("stopped")?,
     }
     Ok(())
 }

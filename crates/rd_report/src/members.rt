@@ -1,15 +1,15 @@
-ghost use Rattle.std.specs.Prelude.{◌≡◌, ℕ, List, ◌++◌, string_bytes, OnOk};
+ghost use Rattle.std.specs.Prelude.{◌≡◌, ℕ, List, ◌++◌, string_bytes, OnOk, IfOk};
 ghost use Rattle.rd_history.specs.Texts.{Text as Name};
 ghost use Rattle.rd_history.specs.History.{History};
 ghost use Rattle.rd_model.specs.Entry.{Entry};
 ghost use Rattle.rd_model.specs.Node.{Node as Member};
 ghost use Rattle.rd_model.specs.World.{World as Modelled};
-ghost use Rattle.rd_model.specs.Report.{node_text, member_text, final_block};
+ghost use Rattle.rd_model.specs.Report.{node_text, member_text};
 ghost use Rattle.rd_kinds.specs.ShownText.{shown_text};
 ghost use Rattle.rd_kinds.specs.declared.shown.Shown.{Shown};
 ghost use Rattle.rd_node.specs.Members.{delta_groups, StandsForKey, StandsForNode};
 ghost use Rattle.rd_world.specs.Standing.{StandsForWorld};
-ghost use Rattle.rd_report.specs.Finals.{key_line, member_line, view_line};
+ghost use Rattle.rd_report.specs.Finals.{key_line, member_line, view_line, IsBlockOf};
 
 use rd_bytes::Memory;
 use rd_keeper::Keeper;
@@ -89,20 +89,18 @@ fn push_seat<T: SpelledData, K: Keeper + Drop>(
     }
 }
 
-/// Adds what the members of the last view hold.
-pub(crate) fn push_final_block<T: SpelledData, K: Keeper + Drop>(
+/// What the members of the last view hold.
+pub(crate) fn final_block<T: SpelledData, K: Keeper + Drop>(
     alloc: Global,
-    text: &mut String,
     world: &World<T, K>,
-) -> Result<(), Memory>
-    ensures { (digest : T.Kind → Entry T.Op → List ℕ) (kinds : Name → T.Kind) (logs : Name → History T.Op) (end : Modelled T.Kind T.Op Shown)
-        → StandsForWorld T.SpelledData.own kinds logs world.now end
-        → OnOk result (string_bytes text.new ≡ string_bytes text.old ++ final_block (delta_groups T.data_type digest) shown_text end) }
+) -> Result<String, Memory>
+    ensures { IfOk result (λ text. IsBlockOf T.SpelledData.own world.now (string_bytes text)) }
 {
     let view = world.views().last();
-    push_view_line(text, view.number())?;
+    let mut text = String::new(alloc);
+    push_view_line(&mut text, view.number())?;
     for member in view.members() {
-        push_seat(alloc, text, world, member.id, member.place)?;
+        push_seat(alloc, &mut text, world, member.id, member.place)?;
     }
-    Ok(())
+    Ok(text)
 }

@@ -1,13 +1,12 @@
-ghost use Rattle.std.specs.Prelude.{◌≡◌, ℕ, length, string_bytes, All, MatchResult};
+ghost use Rattle.std.specs.Prelude.{◌≡◌, length, string_bytes, All, MatchResult};
 ghost use Rattle.rd_script.specs.WellFormed.{IsStep, IsWellFormed};
-ghost use Rattle.rd_world.specs.Places.{keeper_of};
-ghost use Rattle.rd_world.specs.Keeping.{IsKept};
-ghost use Rattle.rd_report.specs.Kept.{IsPlayed};
-ghost use Rattle.rd_report.specs.Telling.{TellsAll};
+ghost use Rattle.rd_world.specs.Places.{keepers_of};
+ghost use Rattle.rd_report.specs.Kept.{IsPlayed, IsUnplayed, IsReportOver, IsSummaryOver};
+ghost use Rattle.rd_report.specs.Telling.{AreAllKept, Opens, TellsAll, TellsEnd};
 ghost use Rattle.rd_report.specs.declared.playing.Ending.TheVariants as end;
 
 use crate::lines::push_lines;
-use crate::members::push_final_block;
+use crate::members::final_block;
 use crate::order::in_order;
 use rd_bytes::Memory;
 use rd_keeper::Keeper;
@@ -20,7 +19,7 @@ use std::alloc::Global;
 /// How a script's run ended.
 #[derive(Drop)]
 pub enum Ending {
-    /// With its report.
+    /// With this text.
     Told(String),
     /// Before its first step: the keeper of this place failed to forget what it kept.
     NotCleared(u8),
@@ -35,6 +34,35 @@ pub struct Played<K> {
     pub keepers: Vec<K>,
 }
 
+/// The first world of a script over these keepers, which are cleared, or how its run ended before its first step.
+fn first_world<T: SpelledData<Kind = Kind, Op = Op>, K: Keeper + Drop>(
+    alloc: Global,
+    script: &Script,
+    keepers: Vec<K>,
+) -> Result<World<T, K>, Played<K>>
+    requires script { IsWellFormed script.now }
+    requires keepers { length keepers.items ≡ 8 }
+    ensures { MatchResult result (λ world. Opens T.SpelledData.own script.now keepers.items world) (λ played. IsUnplayed K.Keeper.own script.now keepers.items played.keepers.items played.ending) }
+{
+    let Ok(keys) = in_order::<T>(alloc, script.keys.as_slice()) else {
+        return Err(Played {
+            ending: Ending::Memory,
+            keepers,
+        });
+    };
+    match World::start(alloc, script.members, keys, keepers) {
+        Ok(world) => Ok(world),
+        Err(StartError::ClearFailed { keepers, place }) => Err(Played {
+            ending: Ending::NotCleared(place),
+            keepers,
+        }),
+        Err(StartError::Memory { keepers }) => Err(Played {
+            ending: Ending::Memory,
+            keepers,
+        }),
+    }
+}
+
 /// Plays the steps of a script, and tells their lines and what each member holds then.
 fn told<T: SpelledData<Kind = Kind, Op = Op>, K: Keeper + Drop>(
     alloc: Global,
@@ -42,28 +70,47 @@ fn told<T: SpelledData<Kind = Kind, Op = Op>, K: Keeper + Drop>(
     steps: &[Step],
 ) -> Result<String, Memory>
     requires { All IsStep steps.now }
-    ensures { MatchResult result (λ text. TellsAll T.SpelledData.own steps.now world.old world.new (string_bytes text))
-        (λ _. (place : ℕ) → IsKept K.Keeper.own (keeper_of world.old.nodes.items world.old.spare.items place) (keeper_of world.new.nodes.items world.new.spare.items place)) }
+    ensures { MatchResult result (λ text. TellsAll T.SpelledData.own steps.now world.old world.new (string_bytes text)) (λ _. AreAllKept world.old world.new) }
 {
     let mut text = String::new(alloc);
     for (i, step) in steps.iter().enumerate() {
         let events = world.step(step)?;
         push_lines(alloc, &mut text, i + 1, events.as_slice())?;
     }
-    let mut block = String::new(alloc);
-    push_final_block(alloc, &mut block, world)?;
+    let block = final_block(alloc, world)?;
     text.push_str(block.as_str())?;
     Ok(text)
 }
 
-/// How a run ended that was told so.
-fn ended(told: Result<String, Memory>) -> Ending
-    ensures { MatchResult told (λ text. result ≡ end.Told text) (λ _. result ≡ end.Memory) }
+/// Plays the steps of a script, and tells what each member holds then.
+fn end_told<T: SpelledData<Kind = Kind, Op = Op>, K: Keeper + Drop>(
+    alloc: Global,
+    world: &mut World<T, K>,
+    steps: &[Step],
+) -> Result<String, Memory>
+    requires { All IsStep steps.now }
+    ensures { MatchResult result (λ text. TellsEnd T.SpelledData.own steps.now world.old world.new (string_bytes text)) (λ _. AreAllKept world.old world.new) }
 {
-    match told {
+    for step in steps {
+        world.step(step)?;
+    }
+    final_block(alloc, world)
+}
+
+/// How a run ended that was told so, and its keepers.
+fn ended<T: SpelledData<Kind = Kind, Op = Op>, K: Keeper + Drop>(
+    told: Result<String, Memory>,
+    world: World<T, K>,
+) -> Played<K>
+    ensures ending { MatchResult told (λ text. result.ending ≡ end.Told text) (λ _. result.ending ≡ end.Memory) }
+    ensures keepers { result.keepers.items ≡ keepers_of world.nodes.items world.spare.items }
+{
+    let ending = match told {
         Ok(text) => Ending::Told(text),
         Err(_) => Ending::Memory,
-    }
+    };
+    let keepers = world.into_keepers();
+    Played { ending, keepers }
 }
 
 /// Plays a script over values of the data type `T` and over a keeper for each place, and tells its report.
@@ -77,30 +124,31 @@ pub fn report<T: SpelledData<Kind = Kind, Op = Op>, K: Keeper + Drop>(
 ) -> Played<K>
     requires script { IsWellFormed script.now }
     requires keepers { length keepers.items ≡ 8 }
-    ensures { IsPlayed T.data_type T.byte_of T.history_spelled K.Keeper.own script.now keepers.items result.keepers.items result.ending }
+    ensures { IsPlayed K.Keeper.own (IsReportOver T.data_type T.byte_of T.history_spelled K.Keeper.own) script.now keepers.items result.keepers.items result.ending }
 {
-    let Ok(keys) = in_order::<T>(alloc, script.keys.as_slice()) else {
-        return Played {
-            ending: Ending::Memory,
-            keepers,
-        };
-    };
-    let mut world = match World::start(alloc, script.members, keys, keepers) {
+    let mut world = match first_world::<T, K>(alloc, script, keepers) {
         Ok(world) => world,
-        Err(StartError::ClearFailed { keepers, place }) => {
-            return Played {
-                ending: Ending::NotCleared(place),
-                keepers,
-            };
-        }
-        Err(StartError::Memory { keepers }) => {
-            return Played {
-                ending: Ending::Memory,
-                keepers,
-            };
-        }
+        Err(played) => return played,
     };
-    let ending = ended(told(alloc, &mut world, script.steps.as_slice()));
-    let keepers = world.into_keepers();
-    Played { ending, keepers }
+    let text = told(alloc, &mut world, script.steps.as_slice());
+    ended(text, world)
+}
+
+/// Plays a script as `report` does, and tells the end of the report alone: for each member the block with what it holds of each
+/// key.
+pub fn summary<T: SpelledData<Kind = Kind, Op = Op>, K: Keeper + Drop>(
+    alloc: Global,
+    script: &Script,
+    keepers: Vec<K>,
+) -> Played<K>
+    requires script { IsWellFormed script.now }
+    requires keepers { length keepers.items ≡ 8 }
+    ensures { IsPlayed K.Keeper.own (IsSummaryOver T.data_type T.byte_of T.history_spelled K.Keeper.own) script.now keepers.items result.keepers.items result.ending }
+{
+    let mut world = match first_world::<T, K>(alloc, script, keepers) {
+        Ok(world) => world,
+        Err(played) => return played,
+    };
+    let text = end_told(alloc, &mut world, script.steps.as_slice());
+    ended(text, world)
 }

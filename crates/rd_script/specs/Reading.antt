@@ -11,7 +11,7 @@ use Rattle.rd_script.specs.declared.fault.Rule.{Rule}
 use Rattle.rd_script.specs.declared.script.Script.{Script}
 use Rattle.rd_script.specs.declared.script.ScriptKey.{ScriptKey}
 use Rattle.rd_script.specs.declared.script.Step.{Step}
-use Rattle.rd_script.specs.declared.script.Step.TheVariants.{Update, Get, Flush, Gossip, Deliver, Lose, Round, Tick, Timeout, Remove, Join, Restart, Install}
+use Rattle.rd_script.specs.declared.script.Step.TheVariants.{Update, Get, Flush, Gossip, Deliver, Lose, Round, Tick, Timeout, Remove, Join, Restart, Install, Settle}
 use Rattle.rd_script.specs.Fields.{rule, ◌>>=◌, guard, required, are_objects, has_names, names_of, identity_of, place_of, number_of, if_given, flag_of, whole_of, text_of, list_of, key_of}
 use Rattle.rd_script.specs.Levels.{level_of}
 use Rattle.rd_script.specs.Operations.{op_named, update_names, op_of}
@@ -109,6 +109,11 @@ install_of step d = do
   view ← number_of step (get (codes "view") d)
   Ok (Install at view)
 
+unfoldable pub settle_of : ℕ → Data → Result Step Rule
+settle_of step d = do
+  names ← names_of step (codes "do" ∷ []) [] d
+  Ok Settle
+
 -- a step, by its name
 abbrev pub step_by : ℕ → Data → List ℕ → Result Step Rule
 step_by step d name =
@@ -124,8 +129,9 @@ step_by step d name =
     if bytes_eq name (codes "remove") then remove_of step d else (
     if bytes_eq name (codes "join") then join_of step d else (
     if bytes_eq name (codes "restart") then restart_of step d else (
-    if bytes_eq name (codes "install") then install_of step d else
-    Err (rule step 5)))))))))))))
+    if bytes_eq name (codes "install") then install_of step d else (
+    if bytes_eq name (codes "settle") then settle_of step d else
+    Err (rule step 5))))))))))))))
 
 unfoldable pub step_of : ℕ → Data → Result Step Rule
 step_of step d = text_of (rule step 5) (get (codes "do") d) >>= step_by step d

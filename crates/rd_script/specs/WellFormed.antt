@@ -6,7 +6,7 @@ use Rattle.rd_quorum.specs.declared.level.Level.{Level}
 use Rattle.rd_quorum.specs.declared.level.Level.TheVariants as level
 use Rattle.rd_script.specs.declared.script.Script.{Script}
 use Rattle.rd_script.specs.declared.script.Step.{Step}
-use Rattle.rd_script.specs.declared.script.Step.TheVariants.{Update, Get, Flush, Gossip, Deliver, Lose, Round, Tick, Timeout, Remove, Join, Restart, Install}
+use Rattle.rd_script.specs.declared.script.Step.TheVariants.{Update, Get, Flush, Gossip, Deliver, Lose, Round, Tick, Timeout, Remove, Join, Restart, Install, Settle}
 
 -- what a counter takes at once
 abbrev pub IsAmount : ℕ → Type 0
@@ -61,6 +61,7 @@ IsStep (Remove id) = IsIdentity id
 IsStep (Join place) = IsPlace place
 IsStep (Restart id) = IsIdentity id
 IsStep (Install at view) = IsIdentity at
+IsStep Settle = ⊤
 
 -- members and keys within their bounds, names that differ, and steps within their bounds
 pub record IsWellFormed (script : Script) : Type 0 where

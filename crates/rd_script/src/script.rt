@@ -78,6 +78,9 @@ pub enum Step {
         at: Id,
         view: u32,
     },
+    /// All members are to take up the last view and to tell each other what they have, and the leader is to prune what is left of
+    /// members that left.
+    Settle,
 }
 
 /// A script: how many members there are at the start, the declared keys, and the steps in their order.

@@ -1,7 +1,7 @@
 ghost use Rattle.std.specs.Prelude.{◌≡◌, ◌+◌, ◌≤◌, [], length, All, IfOk};
 ghost use Rattle.serde_json.specs.View.{view, items_view};
 ghost use Rattle.rd_script.specs.Fields.{Gives};
-ghost use Rattle.rd_script.specs.Reading.{update_of, get_of, flush_of, gossip_of, deliver_of, lose_of, round_of, tick_of, timeout_of, remove_of, join_of, restart_of, install_of, step_of, steps_after};
+ghost use Rattle.rd_script.specs.Reading.{update_of, get_of, flush_of, gossip_of, deliver_of, lose_of, round_of, tick_of, timeout_of, remove_of, join_of, restart_of, install_of, settle_of, step_of, steps_after};
 ghost use Rattle.rd_script.specs.WellFormed.{IsStep};
 
 use crate::fault::{Fault, Rule};
@@ -160,6 +160,15 @@ fn install(step: u32, value: &Value) -> Result<Step, Rule>
     Ok(Step::Install { at, view })
 }
 
+#[tactic(auto, unfolding(crate::specs::Reading::settle_of))]
+fn settle(step: u32, value: &Value) -> Result<Step, Rule>
+    ensures value { result ≡ settle_of step (view value.now) }
+    ensures bounds { IfOk result IsStep }
+{
+    step_names(value, &["do"], &[], step)?;
+    Ok(Step::Settle)
+}
+
 #[tactic(auto, unfolding(crate::specs::Reading::step_of))]
 fn one_step(alloc: Global, step: u32, value: &Value) -> Result<Step, Fault>
     ensures value { Gives (λ s. s) result (step_of step (view value.now)) }
@@ -179,6 +188,7 @@ fn one_step(alloc: Global, step: u32, value: &Value) -> Result<Step, Fault>
         "join" => Ok(join(step, value)?),
         "restart" => Ok(restart(step, value)?),
         "install" => Ok(install(step, value)?),
+        "settle" => Ok(settle(step, value)?),
         _ => Err(Fault::Breaks(Rule { step, number: 5 })),
     }
 }

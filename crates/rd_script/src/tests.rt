@@ -33,7 +33,7 @@ step 0 rule 4: {"members":1,"keys":[{"key":"a","kind":"gcounter"}],"steps":[{},7
 // What is said of a script with these steps, before the steps.
 const STEPS: &str = r#"step 1 rule 5: {}
 step 1 rule 5: {"do":7}
-step 1 rule 5: {"do":"settle"}
+step 1 rule 5: {"do":"settled"}
 step 1 rule 5: {"do":"update","at":64}
 step 1 rule 5: {"do":"update","op":"set"}
 step 1 rule 5: {"do":"update","op":["add"],"element":7}
@@ -53,6 +53,7 @@ step 1 rule 6: {"do":"remove","at":0}
 step 1 rule 6: {"do":"join","place":8,"id":0}
 step 1 rule 6: {"do":"restart","place":0}
 step 1 rule 6: {"do":"install","at":64}
+step 1 rule 6: {"do":"settle","at":0}
 step 1 rule 6: {"do":"update","op":"enable","at":0,"key":"n","by":1}
 step 1 rule 6: {"do":"update","op":"decrement","at":0,"key":"n","element":"a"}
 step 1 rule 6: {"do":"update","op":"assign","at":64,"key":"n","text":7}
@@ -159,7 +160,8 @@ timeout 0 4294967295: {"at":0,"do":"timeout","op":4294967295}
 remove 63: {"do":"remove","id":63}
 join 7: {"do":"join","place":7}
 restart 0: {"do":"restart","id":0}
-install 1 4294967295: {"at":1,"do":"install","view":4294967295}"#;
+install 1 4294967295: {"at":1,"do":"install","view":4294967295}
+settle: {"do":"settle"}"#;
 
 // Keys as they are declared, and which of them are durable.
 const KEYS: &str = r#"false: {"key":"a","kind":"gcounter"}
@@ -245,6 +247,7 @@ fn line(alloc: Global, step: &Step) -> Result<String, Fail> {
         Step::Join { place } => format!(in alloc; "join {place}")?,
         Step::Restart { id } => format!(in alloc; "restart {}", id.number())?,
         Step::Install { at, view } => format!(in alloc; "install {} {view}", at.number())?,
+        Step::Settle => format!(in alloc; "settle")?,
     };
     Ok(line)
 }

@@ -9,3 +9,4 @@ pub mod Installs
 pub mod SettleTheorem
 pub mod Settled
 pub mod SharesGrow
+pub mod SettlesOfScripts

@@ -1,6 +1,6 @@
 -- A tick of the leader: what it marks, and that it performs or is blocked where all have seen its mark.
 use Rattle.std.proofs.Common.{◌≡◌, ◌≢◌, ℕ, zero, suc, ◌+◌, ◌<◌, List, [], ◌∷◌, ◌++◌, length, refl, sym, ap, subst, ◌∙◌, arith, Bool, true, false, Option, Some, None, ◌⊎◌, inl, inr}
-use Rattle.std.specs.Prelude.{if◌then◌else◌, slice_get, fold, filter, nat_lt, ◌==◌, ◌||◌, not, IsSome, is_some, option_map}
+use Rattle.std.specs.Prelude.{if◌then◌else◌, slice_get, fold, nat_lt, ◌==◌, ◌||◌, not, IsSome, is_some, option_map}
 use Rattle.std.specs.List.{range_with_len}
 use Rattle.std.proofs.lemmas.Bool.Decides.{eqb_tells, nat_tests}
 use Rattle.std.proofs.lemmas.Bool.{ltb-true, eq-eqb}

@@ -1,8 +1,11 @@
 ghost use Rattle.std.specs.Prelude.{◌≡◌, ℕ, ◌≤◌, ◌*◌, ◌-◌, List, length};
+ghost use Rattle.std.specs.List.{AllByRecursion};
+ghost use Rattle.rd_history.specs.Table.{identity_limit};
 ghost use Rattle.rd_model.specs.DataType.{Replication};
 ghost use Rattle.rd_model.specs.Node.{KeyDecl};
-ghost use Rattle.rd_model.specs.Script.{Playing, Head, Answer, told, settle};
+ghost use Rattle.rd_model.specs.Script.{Playing, Head, Answer, KeeperAnswers, ScriptStep, IsStep, told, settle};
 ghost use Rattle.rd_model.specs.World.{IsRun, start};
+ghost use Rattle.rd_settling.specs.Scripts.{SettlesAgree, DigestsTellUntil};
 ghost use Rattle.rd_settling.specs.Settling.{DigestsTellFrom, BlockedStays, IsSettled, HasBlocked, swept_last, settle_answer};
 
 /// A settle of a script whose events so far are a run answers in one line what its sweeps and ticks came to.
@@ -23,4 +26,12 @@ pub fn settle_theorem<Kind, Operation, Shown>()
         → (messages blocked : ℕ) → settle_answer D p ≡ Answer.Settled messages blocked → messages ≤ 12 * (length p.world.view.members - 1) }
     ensures second_number { (D : Replication Kind Operation Shown) (members : ℕ) (keys : List (KeyDecl Kind)) (p : Playing Kind Operation Shown) → IsRun D members keys p.events p.world
         → (messages blocked : ℕ) → settle_answer D p ≡ Answer.Settled messages blocked → HasBlocked D p blocked }
+{}
+
+/// The same of a script, by what its lines tell: a settle that tells that it is done sent at most 12 messages for each
+/// member of the last view but the leader, its second number is how many outcomes of its second tick are `Blocked`, and it
+/// leaves a settled world, where digests tell entries apart until it is done and what blocks a prune goes on blocking it.
+pub fn settle_theorem_of_scripts<Kind, Operation, Shown>()
+    ensures { (D : Replication Kind Operation Shown) (answers : KeeperAnswers) (members : ℕ) (keys : List (KeyDecl Kind)) (steps : List (ScriptStep Operation))
+        → 1 ≤ members → members ≤ identity_limit → AllByRecursion IsStep steps → SettlesAgree D answers members keys steps (λ n. BlockedStays D × DigestsTellUntil D answers members keys steps n) }
 {}

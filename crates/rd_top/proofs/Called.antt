@@ -2,7 +2,6 @@
 use Rattle.std.proofs.Common.{◌≡◌, ℕ, zero, suc, ◌+◌, ◌<◌, ◌≤◌, ◌⊎◌, inl, inr, List, [], ◌∷◌, ◌++◌, length, length-append, append-nil, String, Global, string_bytes, arith, refl, sym, ap, subst, ◌∙◌, None, Some, Ok, Err, MatchResult}
 use Rattle.std.specs.Prelude.{slice_get}
 use Rattle.std.proofs.lemmas.Option.{none-some, same_Some}
-use Rattle.std.specs.Option.{unwrap_or}
 use Rattle.std.specs.Io.KnownBytes.{Appends, Consumes}
 use Rattle.std.specs.declared.option.Option.{Option}
 use Rattle.rd_outside.specs.Causes.{Rose}
@@ -12,10 +11,14 @@ use Rattle.rd_script.specs.declared.script.Script.{Script}
 use Rattle.rd_script.specs.declared.fault.Rule.{Rule}
 use Rattle.rd_script.specs.Reading.{Spells, Breaks, HasNoReading}
 use Rattle.rd_top.specs.Status.{code_of}
-use Rattle.rd_top.specs.Answers.{IsPlain, IsReported, CannotClear, SomeRose, CallsFor, IsUnlessRefused, limit, done, not_json, not_a_script, too_long}
-use Rattle.rd_top.specs.Due.{IsDue, status_due, text_due}
+use Rattle.rd_top.specs.Answers.{Fulfils, IsReported, CannotClear, SomeRose, CallsFor, IsUnlessRefused, limit, done, not_json, not_a_script, too_long}
+use Rattle.rd_top.specs.Asking.{IsAsked, AskNothing}
+use Rattle.rd_top.specs.Due.{IsScriptDue, IsDueFor, IsDue, status_due, text_due}
 use Rattle.rd_top.specs.declared.due.Due.{Due}
-use Rattle.rd_top.specs.declared.due.Due.TheVariants.{Report, NotCleared, BadWords, NotJson, NotAScript, ReadFailed, TooLong, Memory}
+use Rattle.rd_top.specs.declared.due.Due.TheVariants.{Fulfilled, NotCleared, BadWords, NotJson, NotAScript, ReadFailed, TooLong, Memory}
+use Rattle.rd_top.specs.declared.words.Asked.{Asked}
+use Rattle.rd_top.specs.declared.words.Asked.TheVariants.{Plain, Generate, Summarize}
+use Rattle.rd_top.proofs.OneAsked.{one_asked, are_plain}
 use Rattle.rd_top.specs.declared.status.Status.{Status}
 use Rattle.rd_top.specs.declared.status.Status.TheVariants as status
 
@@ -77,8 +80,8 @@ there (x ∷ xs) (suc n) h = there xs n (omega (arith, h))
 
 module _ {K : Type 0} (keeping : Keeping K) where
   -- a keeper that failed to be cleared counts a fault more
-  clearing_rose : (old new : Option (List ℕ)) (before after : List K) (text : List ℕ) → length before ≡ 8 → CannotClear keeping old new before after text → SomeRose keeping before after
-  clearing_rose old new before after text eight h =
+  clearing_rose : (asked : Asked) (old new : Option (List ℕ)) (before after : List K) (text : List ℕ) → length before ≡ 8 → CannotClear keeping asked old new before after text → SomeRose keeping before after
+  clearing_rose asked old new before after text eight h =
       let was = there before h.place h.failed.within in
       let is = there after h.place (rw h.failed.failed.count h.failed.within) in
       record {
@@ -90,29 +93,114 @@ module _ {K : Type 0} (keeping : Keeping K) where
         rose = (h.failed.failed.each h.place was.0 is.0 was.1 is.1 refl).answered.counted;
       }
 
-  -- the status that is due for the words, and the bytes of a source that tells them
-  abbrev pub IsCalled : List ℕ → ℕ → ℕ → List K → List K → Due → Status → Type 0
-  IsCalled bytes faults now before after due wanted =
-      (status_due due ≡ wanted) ⊎ (((status_due due ≡ status.ReadFailed) × Rose faults now) ⊎ (((status_due due ≡ status.ClearFailed) × SomeRose keeping before after) ⊎ (status_due due ≡ status.Memory)))
+  -- the status that is due, unless a read or a clear failed or memory was refused
+  abbrev pub IsCalled : Type 0 → Type 0 → Due → Status → Type 0
+  IsCalled read_rose keeper_rose due wanted =
+      (status_due due ≡ wanted) ⊎ (((status_due due ≡ status.ReadFailed) × read_rose) ⊎ (((status_due due ≡ status.ClearFailed) × keeper_rose) ⊎ (status_due due ≡ status.Memory)))
 
-  pub status_called : (words : List (String Global)) (bytes : List ℕ) (new : Option (List ℕ)) (faults now : ℕ) (before after : List K) (due : Due) (wanted : Status)
-      → length before ≡ 8 → IsDue keeping words (Some bytes) new faults now before after due → IsPlain words → CallsFor bytes wanted → IsCalled bytes faults now before after due wanted
-  status_called words bytes new faults now before after (Report text) wanted eight h plain calls =
-      let all = all_read bytes h.1.read.bytes new h.1.read.read.whole in
-      inl (script_runs bytes h.1.script wanted (rw (← all) h.1.read.read.within) (rw (← all) h.1.read.spelled) calls)
-  status_called words bytes new faults now before after (NotCleared text) wanted eight h plain calls =
-      inr (inr (inl (refl, clearing_rose (Some bytes) new before after (string_bytes text) eight h.1)))
-  status_called words bytes new faults now before after BadWords wanted eight h plain calls = absurd (h.0 plain)
-  status_called words bytes new faults now before after NotJson wanted eight h plain calls =
+  -- for the report of the script on a source that tells its bytes
+  pub report_called : (bytes : List ℕ) (new : Option (List ℕ)) (faults now : ℕ) (before after : List K) (due : Due) (wanted : Status)
+      → length before ≡ 8 → IsDueFor keeping Plain (Some bytes) new faults now before after due → CallsFor bytes wanted → IsCalled (Rose faults now) (SomeRose keeping before after) due wanted
+  report_called bytes new faults now before after (Fulfilled text) wanted eight h calls =
+      let all = all_read bytes h.read.bytes new h.read.read.whole in
+      inl (script_runs bytes h.script wanted (rw (← all) h.read.read.within) (rw (← all) h.read.spelled) calls)
+  report_called bytes new faults now before after (NotCleared text) wanted eight h calls =
+      inr (inr (inl (refl, clearing_rose Plain (Some bytes) new before after (string_bytes text) eight h)))
+  report_called bytes new faults now before after BadWords wanted eight h calls = absurd h
+  report_called bytes new faults now before after NotJson wanted eight h calls =
       let all = all_read bytes h.1.0 new h.1.1.whole in
       inl (json_called bytes wanted (rw (← all) h.1.1.within) (rw (← all) h.1.2) calls)
-  status_called words bytes new faults now before after NotAScript wanted eight h plain calls =
-      let all = all_read bytes h.1.0 new h.1.2.whole in
-      inl (script_called bytes h.1.1 wanted (rw (← all) h.1.2.within) (rw (← all) h.1.3) calls)
-  status_called words bytes new faults now before after ReadFailed wanted eight h plain calls = inr (inl (refl, h.1))
-  status_called words bytes new faults now before after TooLong wanted eight h plain calls =
+  report_called bytes new faults now before after (NotAScript text) wanted eight h calls =
+      let all = all_read bytes h.1.1.0 new h.1.1.1.whole in
+      inl (script_called bytes h.1.0 wanted (rw (← all) h.1.1.1.within) (rw (← all) h.1.1.2) calls)
+  report_called bytes new faults now before after ReadFailed wanted eight h calls = inr (inl (refl, h.1))
+  report_called bytes new faults now before after TooLong wanted eight h calls =
       inl (length_called bytes wanted (more_read bytes h.1.0 new h.1.2 h.1.1) calls)
-  status_called words bytes new faults now before after Memory wanted eight h plain calls = inr (inr (inr refl))
+  report_called bytes new faults now before after Memory wanted eight h calls = inr (inr (inr refl))
+
+  -- for a generated script
+  pub script_called_for : (n : ℕ) (old new : Option (List ℕ)) (faults now : ℕ) (before after : List K) (due : Due)
+      → IsDueFor keeping (Generate n) old new faults now before after due → IsCalled ⊥ ⊥ due status.Done
+  script_called_for n old new faults now before after (Fulfilled text) h = inl refl
+  script_called_for n old new faults now before after (NotCleared text) h = absurd h.run
+  script_called_for n old new faults now before after BadWords h = absurd h
+  script_called_for n old new faults now before after NotJson h = absurd (let e = h.0 in cc)
+  script_called_for n old new faults now before after (NotAScript text) h = absurd (let e = h.0 in cc)
+  script_called_for n old new faults now before after ReadFailed h = absurd (let e = h.0 in cc)
+  script_called_for n old new faults now before after TooLong h = absurd (let e = h.0 in cc)
+  script_called_for n old new faults now before after Memory h = inr (inr (inr refl))
+
+  -- for the end of its run
+  pub summary_called : (n : ℕ) (old new : Option (List ℕ)) (faults now : ℕ) (before after : List K) (due : Due) → length before ≡ 8
+      → IsDueFor keeping (Summarize n) old new faults now before after due → IsCalled ⊥ (SomeRose keeping before after) due status.Done
+  summary_called n old new faults now before after (Fulfilled text) eight h = inl refl
+  summary_called n old new faults now before after (NotCleared text) eight h = inr (inr (inl (refl, clearing_rose (Summarize n) old new before after (string_bytes text) eight h)))
+  summary_called n old new faults now before after BadWords eight h = absurd h
+  summary_called n old new faults now before after NotJson eight h = absurd (let e = h.0 in cc)
+  summary_called n old new faults now before after (NotAScript text) eight h = absurd (let e = h.0 in cc)
+  summary_called n old new faults now before after ReadFailed eight h = absurd (let e = h.0 in cc)
+  summary_called n old new faults now before after TooLong eight h = absurd (let e = h.0 in cc)
+  summary_called n old new faults now before after Memory eight h = inr (inr (inr refl))
+
+  -- what is due for what words ask for is due for them
+  pub due_by : (words : List (String Global)) (old new : Option (List ℕ)) (faults now : ℕ) (before after : List K) (due : Due) (given : Asked)
+      → IsAsked given words → IsDueFor keeping given old new faults now before after due → IsDue keeping words old new faults now before after due
+  due_by words old new faults now before after (Fulfilled text) given k h = (given, k, h)
+  due_by words old new faults now before after (NotCleared text) given k h = (given, k, h)
+  due_by words old new faults now before after BadWords given k h = absurd h
+  due_by words old new faults now before after NotJson given k h = (are_plain words given h.0 k, h.1, h.2)
+  due_by words old new faults now before after (NotAScript text) given k h = (are_plain words given h.0 k, h.1, h.2)
+  due_by words old new faults now before after ReadFailed given k h = (are_plain words given h.0 k, h.1, h.2, h.3)
+  due_by words old new faults now before after TooLong given k h = (are_plain words given h.0 k, h.1, h.2)
+  due_by words old new faults now before after Memory given k h = (given, k)
+
+  -- a generated script, over keepers that stay
+  pub script_due_by : (words : List (String Global)) (n : ℕ) (old new : Option (List ℕ)) (faults now : ℕ) (keepers : List K) (due : Due)
+      → IsAsked (Generate n) words → IsScriptDue n due → IsDue keeping words old new faults now keepers keepers due
+  script_due_by words n old new faults now keepers (Fulfilled text) k h = (Generate n, k, (h, refl))
+  script_due_by words n old new faults now keepers (NotCleared text) k h = absurd h
+  script_due_by words n old new faults now keepers BadWords k h = absurd h
+  script_due_by words n old new faults now keepers NotJson k h = absurd h
+  script_due_by words n old new faults now keepers (NotAScript text) k h = absurd h
+  script_due_by words n old new faults now keepers ReadFailed k h = absurd h
+  script_due_by words n old new faults now keepers TooLong k h = absurd h
+  script_due_by words n old new faults now keepers Memory k h = (Generate n, k)
+
+  -- and the other way round
+  pub due_for : (words : List (String Global)) (old new : Option (List ℕ)) (faults now : ℕ) (before after : List K) (due : Due) (given : Asked)
+      → IsAsked given words → IsDue keeping words old new faults now before after due → IsDueFor keeping given old new faults now before after due
+  due_for words old new faults now before after (Fulfilled text) given k h = subst (λ a. Fulfils keeping a old new before after (string_bytes text)) (one_asked words h.0 given h.1 k) h.2
+  due_for words old new faults now before after (NotCleared text) given k h = subst (λ a. CannotClear keeping a old new before after (string_bytes text)) (one_asked words h.0 given h.1 k) h.2
+  due_for words old new faults now before after BadWords given k h = absurd (h.0 given k)
+  due_for words old new faults now before after NotJson given k h = (one_asked words given Plain k h.0, h.1, h.2)
+  due_for words old new faults now before after (NotAScript text) given k h = (one_asked words given Plain k h.0, h.1, h.2)
+  due_for words old new faults now before after ReadFailed given k h = (one_asked words given Plain k h.0, h.1, h.2, h.3)
+  due_for words old new faults now before after TooLong given k h = (one_asked words given Plain k h.0, h.1, h.2)
+  due_for words old new faults now before after Memory given k h = tt
+
+  -- words that ask for nothing are refused
+  pub is_refused : (words : List (String Global)) (old new : Option (List ℕ)) (faults now : ℕ) (before after : List K) (due : Due)
+      → AskNothing words → IsDue keeping words old new faults now before after due → status_due due ≡ status.Usage
+  is_refused words old new faults now before after (Fulfilled text) none h = absurd (none h.0 h.1)
+  is_refused words old new faults now before after (NotCleared text) none h = absurd (none h.0 h.1)
+  is_refused words old new faults now before after BadWords none h = refl
+  is_refused words old new faults now before after NotJson none h = absurd (none Plain h.0)
+  is_refused words old new faults now before after (NotAScript text) none h = absurd (none Plain h.0)
+  is_refused words old new faults now before after ReadFailed none h = absurd (none Plain h.0)
+  is_refused words old new faults now before after TooLong none h = absurd (none Plain h.0)
+  is_refused words old new faults now before after Memory none h = absurd (none h.0 h.1)
+
+  -- with status 0 what was asked for is done
+  pub is_fulfilled : (given : Asked) (old new : Option (List ℕ)) (faults now : ℕ) (before after : List K) (due : Due)
+      → IsDueFor keeping given old new faults now before after due → code_of (status_due due) ≡ 0 → Fulfils keeping given old new before after (text_due due)
+  is_fulfilled given old new faults now before after (Fulfilled text) h none = h
+  is_fulfilled given old new faults now before after (NotCleared text) h none = absurd (omega arith)
+  is_fulfilled given old new faults now before after BadWords h none = absurd h
+  is_fulfilled given old new faults now before after NotJson h none = absurd (omega arith)
+  is_fulfilled given old new faults now before after (NotAScript text) h none = absurd (omega arith)
+  is_fulfilled given old new faults now before after ReadFailed h none = absurd (omega arith)
+  is_fulfilled given old new faults now before after TooLong h none = absurd (omega arith)
+  is_fulfilled given old new faults now before after Memory h none = absurd (omega arith)
 
 -- the number that is answered, where all that was due was written
 pub answered : (read_rose write_rose keeper_rose : Type 0) (given wanted : Status) (result : ℕ) → result ≡ code_of given
@@ -133,22 +221,22 @@ grown before text (Some all) h = ap Some h
 
 module _ {K : Type 0} (keeping : Keeping K) where
   -- what status 0 says of told bytes
-  pub is_reported : (words : List (String Global)) (bytes earlier : List ℕ) (left written : Option (List ℕ)) (faults now : ℕ) (before after : List K) (due : Due)
-      → IsDue keeping words (Some bytes) left faults now before after due → code_of (status_due due) ≡ 0 → Appends (Some earlier) written (text_due due) → IsReported keeping bytes earlier left written before after
-  is_reported words bytes earlier left written faults now before after (Report text) h none w =
-      let all = all_read bytes h.1.read.bytes left h.1.read.read.whole in
+  pub is_reported : (bytes earlier : List ℕ) (left written : Option (List ℕ)) (faults now : ℕ) (before after : List K) (due : Due)
+      → IsDueFor keeping Plain (Some bytes) left faults now before after due → code_of (status_due due) ≡ 0 → Appends (Some earlier) written (text_due due) → IsReported keeping bytes earlier left written before after
+  is_reported bytes earlier left written faults now before after (Fulfilled text) h none w =
+      let all = all_read bytes h.read.bytes left h.read.read.whole in
       record {
-        script = h.1.script;
+        script = h.script;
         text = string_bytes text;
-        spelled = rw (← all) h.1.read.spelled;
-        reported = h.1.reported;
-        all_read = none_left bytes h.1.read.bytes left h.1.read.read.whole;
+        spelled = rw (← all) h.read.spelled;
+        reported = h.reported;
+        all_read = none_left bytes h.read.bytes left h.read.read.whole;
         all_written = grown earlier (string_bytes text) written w;
       }
-  is_reported words bytes earlier left written faults now before after (NotCleared text) h none w = absurd (omega arith)
-  is_reported words bytes earlier left written faults now before after BadWords h none w = absurd (omega arith)
-  is_reported words bytes earlier left written faults now before after NotJson h none w = absurd (omega arith)
-  is_reported words bytes earlier left written faults now before after NotAScript h none w = absurd (omega arith)
-  is_reported words bytes earlier left written faults now before after ReadFailed h none w = absurd (omega arith)
-  is_reported words bytes earlier left written faults now before after TooLong h none w = absurd (omega arith)
-  is_reported words bytes earlier left written faults now before after Memory h none w = absurd (omega arith)
+  is_reported bytes earlier left written faults now before after (NotCleared text) h none w = absurd (omega arith)
+  is_reported bytes earlier left written faults now before after BadWords h none w = absurd h
+  is_reported bytes earlier left written faults now before after NotJson h none w = absurd (omega arith)
+  is_reported bytes earlier left written faults now before after (NotAScript text) h none w = absurd (omega arith)
+  is_reported bytes earlier left written faults now before after ReadFailed h none w = absurd (omega arith)
+  is_reported bytes earlier left written faults now before after TooLong h none w = absurd (omega arith)
+  is_reported bytes earlier left written faults now before after Memory h none w = absurd (omega arith)

@@ -1,3 +1,6 @@
 pub mod Called
-pub mod OneWord
+pub mod Counts
+pub mod OneAsked
+pub mod Settles
 pub mod TextDue
+pub mod WordLists

@@ -2,18 +2,18 @@
 use Rattle.std.proofs.Common.{ℕ, ◌<◌, List, length, String, Global, string_bytes, arith}
 use Rattle.std.specs.declared.option.Option.{Option}
 use Rattle.rd_keeper.specs.declared.keeper.Keeper.{Ghosts as Keeping}
-use Rattle.rd_top.specs.Answers.{IsTextDue, report, not_cleared, bad_words, not_json, not_a_script, too_long}
+use Rattle.rd_top.specs.Answers.{IsTextDue, fulfilled, not_cleared, bad_words, not_json, not_a_script, too_long}
 use Rattle.rd_top.specs.Due.{IsDue, text_due}
 use Rattle.rd_top.specs.declared.due.Due.{Due}
-use Rattle.rd_top.specs.declared.due.Due.TheVariants.{Report, NotCleared, BadWords, NotJson, NotAScript, ReadFailed, TooLong, Memory}
+use Rattle.rd_top.specs.declared.due.Due.TheVariants.{Fulfilled, NotCleared, BadWords, NotJson, NotAScript, ReadFailed, TooLong, Memory}
 
 pub is_text_due : {K : Type 0} (keeping : Keeping K) (words : List (String Global)) (old new : Option (List ℕ)) (faults now : ℕ) (before after : List K) (due : Due)
     → 0 < length (text_due due) → IsDue keeping words old new faults now before after due → IsTextDue keeping words old new before after (text_due due)
-is_text_due keeping words old new faults now before after (Report text) some h = report (string_bytes text) h.0 h.1
-is_text_due keeping words old new faults now before after (NotCleared text) some h = not_cleared (string_bytes text) h.0 h.1
+is_text_due keeping words old new faults now before after (Fulfilled text) some h = fulfilled h.0 (string_bytes text) h.1 h.2
+is_text_due keeping words old new faults now before after (NotCleared text) some h = not_cleared h.0 (string_bytes text) h.1 h.2
 is_text_due keeping words old new faults now before after BadWords some h = bad_words h.0 h.1
 is_text_due keeping words old new faults now before after NotJson some h = not_json h.0 h.1 h.2
-is_text_due keeping words old new faults now before after NotAScript some h = not_a_script h.0 h.1 h.2
+is_text_due keeping words old new faults now before after (NotAScript text) some h = not_a_script (string_bytes text) h.0 h.1 h.2
 is_text_due keeping words old new faults now before after ReadFailed some h = absurd (omega arith)
 is_text_due keeping words old new faults now before after TooLong some h = too_long h.0 h.1 h.2
 is_text_due keeping words old new faults now before after Memory some h = absurd (omega arith)

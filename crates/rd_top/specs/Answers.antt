@@ -1,5 +1,5 @@
 -- What is due for the words, the bytes of the source and the keepers.
-use Rattle.std.specs.Prelude.{◌≡◌, ℕ, ◌+◌, ◌<◌, ◌≤◌, List, [], ◌∷◌, ◌++◌, length, map, codes, decimal, String, string_bytes, slice_get, Option, Some, ◌⊎◌}
+use Rattle.std.specs.Prelude.{◌≡◌, ℕ, ◌+◌, ◌<◌, ◌≤◌, List, [], ◌++◌, length, map, codes, decimal, Bool, String, slice_get, Option, Some, ◌⊎◌}
 use Rattle.std.specs.declared.alloc.Global.{Global}
 use Rattle.rd_kinds.specs.SixKinds.{six_kinds}
 use Rattle.rd_outside.specs.Causes.{Rose}
@@ -9,7 +9,16 @@ use Rattle.rd_script.specs.declared.script.Script.{Script}
 use Rattle.rd_script.specs.declared.fault.Rule.{Rule}
 use Rattle.rd_script.specs.Reading.{Spells, Breaks, HasNoReading}
 use Rattle.rd_value.specs.Spelled.{byte_of, history_spelled}
-use Rattle.rd_report.specs.Kept.{IsRunOver, IsNotCleared}
+use Rattle.rd_generate.specs.Generated.{generated_script}
+use Rattle.rd_generate.specs.Texts.{generated_text}
+use Rattle.rd_report.specs.Kept as kept
+use Rattle.rd_report.specs.Kept.{LoadWhatTheyTook, IsNotCleared, answers_by}
+use Rattle.rd_report.specs.Run.{decl_of, in_order, step_of}
+use Rattle.rd_node.specs.Members.{spelled_groups}
+use Rattle.rd_settling_digests.specs.Digests.{SettlesAgreeByDigests}
+use Rattle.rd_top.specs.Asking.{IsAsked, IsPlain, AskNothing}
+use Rattle.rd_top.specs.declared.words.Asked.{Asked}
+use Rattle.rd_top.specs.declared.words.Asked.TheVariants.{Plain, Generate, Summarize}
 use Rattle.rd_top.specs.declared.status.Status.{Status}
 use Rattle.rd_top.specs.declared.status.Status.TheVariants.{Done, NotJson, NotAScript, ReadFailed, WriteFailed, TooLong, Memory, ClearFailed}
 use Rattle.rd_top.specs.Status.{code_of}
@@ -17,10 +26,6 @@ use Rattle.rd_top.specs.Status.{code_of}
 -- the most bytes of a script
 abbrev pub limit : ℕ
 limit = 8388608
-
--- the one word
-abbrev pub IsPlain : List (String Global) → Type 0
-IsPlain words = map string_bytes words ≡ codes "plain" ∷ []
 
 -- ---- what was read
 
@@ -39,9 +44,17 @@ pub record HasScript (old new : Option (List ℕ)) (script : Script) : Type 0 wh
 abbrev pub HasNoJson : Option (List ℕ) → Option (List ℕ) → Type 0
 HasNoJson old new = (bytes : List ℕ) × ReadsScript old new bytes × HasNoReading bytes
 
--- Its bytes are a JSON text that breaks a rule of scripts.
-abbrev pub HasNoScript : Option (List ℕ) → Option (List ℕ) → Type 0
-HasNoScript old new = (bytes : List ℕ) × (broken : Rule) × ReadsScript old new bytes × Breaks bytes broken
+-- Its bytes are a JSON text that breaks this rule of scripts, and none before it.
+abbrev pub HasNoScript : Option (List ℕ) → Option (List ℕ) → Rule → Type 0
+HasNoScript old new broken = (bytes : List ℕ) × ReadsScript old new bytes × Breaks bytes broken
+
+-- which rule is broken, and at which step
+abbrev pub not_a_script_text : Rule → List ℕ
+not_a_script_text broken = codes "not a script: step " ++ decimal broken.step ++ codes " rule " ++ decimal broken.number ++ codes "\n"
+
+-- Its bytes break a rule of scripts, and this text tells the first such rule.
+abbrev pub TellsRule : Option (List ℕ) → Option (List ℕ) → List ℕ → Type 0
+TellsRule old new text = (broken : Rule) × HasNoScript old new broken × (text ≡ not_a_script_text broken)
 
 -- One byte more was read than a script may have.
 abbrev pub IsTooLong : Option (List ℕ) → Option (List ℕ) → Type 0
@@ -53,10 +66,27 @@ IsTooLong old new = ReadsCount old new (limit + 1)
 abbrev pub not_cleared_text : ℕ → List ℕ
 not_cleared_text place = codes "store failed at " ++ decimal place ++ codes "\n"
 
+-- What is asked for is a script's run: of the one that was read, or of a generated one.
+abbrev pub IsRun : Asked → Option (List ℕ) → Option (List ℕ) → Type 0
+IsRun Plain old new = (script : Script) × HasScript old new script
+IsRun (Generate n) old new = ⊥
+IsRun (Summarize n) old new = Unit {0}
+
 module _ {K : Type 0} (keeping : Keeping K) where
+  -- What the settles of a script's run tell is so, and they leave settled worlds, where digests tell apart what members have. The keepers gave these answers.
+  abbrev pub SettlesAgree : Script → List K → (ℕ → List Bool) → Type 0
+  SettlesAgree script before given = LoadWhatTheyTook keeping script before
+      → SettlesAgreeByDigests (spelled_groups six_kinds byte_of history_spelled) byte_of history_spelled (answers_by given) script.members (map decl_of (in_order script.keys)) (map step_of script.steps)
+
   -- the text is the report of a script's run over the keepers
-  abbrev pub IsReportOver : Script → List K → List K → List ℕ → Type 0
-  IsReportOver script before after text = IsRunOver six_kinds byte_of history_spelled keeping script before after text
+  pub record IsReportOver (script : Script) (before after : List K) (text : List ℕ) : Type 0 where
+    pub run : kept.IsReportOver six_kinds byte_of history_spelled keeping script before after text
+    pub settles : SettlesAgree script before run.given
+
+  -- the text is the final block of a script's run over the keepers
+  pub record IsSummaryOver (script : Script) (before after : List K) (text : List ℕ) : Type 0 where
+    pub run : kept.IsSummaryOver six_kinds byte_of history_spelled keeping script before after text
+    pub settles : SettlesAgree script before run.given
 
   -- The source was read to its end, its bytes spell a script, and this is the report of the script's run over the keepers.
   pub record Reports (old new : Option (List ℕ)) (before after : List K) (text : List ℕ) : Type 0 where
@@ -73,11 +103,16 @@ module _ {K : Type 0} (keeping : Keeping K) where
     pub all_read : left ≡ Some []
     pub all_written : written ≡ Some (written_before ++ text)
 
-  -- The source was read to its end, its bytes spell a script, and the keeper of a place failed to be cleared; this text says so.
-  pub record CannotClear (old new : Option (List ℕ)) (before after : List K) (text : List ℕ) : Type 0 where
-    pub script : Script
+  -- The text is what was asked for. To generate a script leaves the keepers as they are.
+  abbrev pub Fulfils : Asked → (old new : Option (List ℕ)) → (before after : List K) → List ℕ → Type 0
+  Fulfils Plain old new before after text = Reports old new before after text
+  Fulfils (Generate n) old new before after text = (text ≡ generated_text n) × (after ≡ before)
+  Fulfils (Summarize n) old new before after text = IsSummaryOver (generated_script n) before after text
+
+  -- A script's run was asked for, and the keeper of a place failed to be cleared for it; this text says so.
+  pub record CannotClear (asked : Asked) (old new : Option (List ℕ)) (before after : List K) (text : List ℕ) : Type 0 where
     pub place : ℕ
-    pub read : HasScript old new script
+    pub run : IsRun asked old new
     pub failed : IsNotCleared keeping place before after
     pub told : text ≡ not_cleared_text place
 
@@ -92,11 +127,11 @@ module _ {K : Type 0} (keeping : Keeping K) where
 
   -- The texts that are due, each with its cause. Where no script is run, the keepers stay.
   pub data IsTextDue (words : List (String Global)) (old new : Option (List ℕ)) (before after : List K) : List ℕ → Type 0 where
-    report : (text : List ℕ) → IsPlain words → Reports old new before after text → IsTextDue words old new before after text
-    not_cleared : (text : List ℕ) → IsPlain words → CannotClear old new before after text → IsTextDue words old new before after text
-    bad_words : (IsPlain words → ⊥) → after ≡ before → IsTextDue words old new before after (codes "bad words\n")
+    fulfilled : (asked : Asked) (text : List ℕ) → IsAsked asked words → Fulfils asked old new before after text → IsTextDue words old new before after text
+    not_cleared : (asked : Asked) (text : List ℕ) → IsAsked asked words → CannotClear asked old new before after text → IsTextDue words old new before after text
+    bad_words : AskNothing words → after ≡ before → IsTextDue words old new before after (codes "bad words\n")
     not_json : IsPlain words → HasNoJson old new → after ≡ before → IsTextDue words old new before after (codes "not json\n")
-    not_a_script : IsPlain words → HasNoScript old new → after ≡ before → IsTextDue words old new before after (codes "not a script\n")
+    not_a_script : (text : List ℕ) → IsPlain words → TellsRule old new text → after ≡ before → IsTextDue words old new before after text
     too_long : IsPlain words → IsTooLong old new → after ≡ before → IsTextDue words old new before after (codes "too long\n")
 
 -- ---- what bytes call for

@@ -1,14 +1,17 @@
-ghost use Rattle.std.specs.Prelude.{◌≡◌, ◌≤◌, length, IfOk, IfErr};
+ghost use Rattle.std.specs.Prelude.{◌≡◌, ℕ, ◌≤◌, List, Option, length, IfOk, IfErr};
 ghost use Rattle.rd_script.specs.WellFormed.{IsWellFormed};
-ghost use Rattle.rd_report.specs.Kept.{AreKept};
-ghost use Rattle.rd_top.specs.Answers.{IsPlain, HasScript};
-ghost use Rattle.rd_top.specs.Due.{IsRefusal, IsToldBy, IsDue};
+ghost use Rattle.rd_report.specs.Kept.{AreKept, IsPlayed};
+ghost use Rattle.rd_top.specs.Answers.{HasScript, IsReportOver, IsSummaryOver};
+ghost use Rattle.rd_top.specs.Asking.{IsAsked, IsPlain, most_steps};
+ghost use Rattle.rd_top.specs.Due.{IsRefusal, IsToldBy, IsScriptDue, IsDueFor, IsDue};
+ghost use Rattle.rd_top.specs.declared.words.Asked.TheVariants as asked;
 
 use crate::due::Due;
-use crate::words::is_plain;
+use crate::words::{Asked, asked_by};
+use rd_generate::{generated, generated_text};
 use rd_keeper::Keeper;
 use rd_outside::{ReadAllError, Source, read_all};
-use rd_report::{Ending, Played, report};
+use rd_report::{Ending, Played, report, summary};
 use rd_script::{Script, ScriptError, read_script};
 use rd_value::Data;
 use std::alloc::Global;
@@ -23,18 +26,13 @@ pub struct Answer<K> {
     pub keepers: Vec<K>,
 }
 
-/// The script on the source, or what is due in its place. For other words nothing is read.
-fn script<S: Source>(alloc: Global, words: &[String], source: &mut S) -> Result<Script, Due>
-    ensures plain { IfOk result (λ _script. IsPlain words.now) }
+/// The script on the source, or what is due in its place.
+fn script<S: Source>(alloc: Global, source: &mut S) -> Result<Script, Due>
     ensures script { IfOk result (HasScript (S.left source.old) (S.left source.new)) }
     ensures bounds { IfOk result IsWellFormed }
-    ensures refused { IfErr result (IsRefusal words.now (S.left source.old) (S.left source.new) (S.faults source.old) (S.faults source.new)) }
-    ensures unread { (IsPlain words.now → ⊥) → source.new ≡ source.old }
+    ensures refused { IfErr result (IsRefusal (S.left source.old) (S.left source.new) (S.faults source.old) (S.faults source.new)) }
     ensures later { S.faults source.old ≤ S.faults source.new }
 {
-    if !is_plain(words) {
-        return Err(Due::BadWords);
-    }
     let bytes = match read_all(alloc, source, LIMIT) {
         Ok(bytes) => bytes,
         Err(ReadAllError::ReadFailed) => return Err(Due::ReadFailed),
@@ -44,7 +42,12 @@ fn script<S: Source>(alloc: Global, words: &[String], source: &mut S) -> Result<
     match read_script(alloc, &bytes) {
         Ok(script) => Ok(script),
         Err(ScriptError::NotJson) => Err(Due::NotJson),
-        Err(ScriptError::NotAScript { step: _, rule: _ }) => Err(Due::NotAScript),
+        Err(ScriptError::NotAScript { step, rule }) => {
+            match format!(in alloc; "not a script: step {step} rule {rule}\n") {
+                Ok(text) => Err(Due::NotAScript(text)),
+                Err(_) => Err(Due::Memory),
+            }
+        }
         Err(ScriptError::Memory) => Err(Due::Memory),
     }
 }
@@ -54,12 +57,88 @@ fn told(alloc: Global, ending: Ending) -> Due
     ensures { IsToldBy ending result }
 {
     match ending {
-        Ending::Told(text) => Due::Report(text),
+        Ending::Told(text) => Due::Fulfilled(text),
         Ending::NotCleared(place) => match format!(in alloc; "store failed at {place}\n") {
             Ok(text) => Due::NotCleared(text),
             Err(_) => Due::Memory,
         },
         Ending::Memory => Due::Memory,
+    }
+}
+
+/// Plays a script over values of the six kinds, and tells its report.
+fn play<K: Keeper + Drop>(alloc: Global, script: &Script, keepers: Vec<K>) -> Played<K>
+    requires script { IsWellFormed script.now }
+    requires keepers { length keepers.items ≡ 8 }
+    ensures { IsPlayed K.Keeper.own (IsReportOver K.Keeper.own) script.now keepers.items result.keepers.items result.ending }
+{
+    report::<Data, K>(alloc, script, keepers)
+}
+
+/// Plays a script over values of the six kinds, and tells the end of its report.
+fn play_to_the_end<K: Keeper + Drop>(alloc: Global, script: &Script, keepers: Vec<K>) -> Played<K>
+    requires script { IsWellFormed script.now }
+    requires keepers { length keepers.items ≡ 8 }
+    ensures { IsPlayed K.Keeper.own (IsSummaryOver K.Keeper.own) script.now keepers.items result.keepers.items result.ending }
+{
+    summary::<Data, K>(alloc, script, keepers)
+}
+
+/// What is due where the report of the script on the source is asked for.
+fn report_due<S: Source, K: Keeper + Drop>(
+    alloc: Global,
+    source: &mut S,
+    keepers: Vec<K>,
+) -> Answer<K>
+    requires { length keepers.items ≡ 8 }
+    ensures due { IsDueFor K.Keeper.own asked.Plain (S.left source.old) (S.left source.new) (S.faults source.old) (S.faults source.new) keepers.items result.keepers.items result.due }
+    ensures kept { AreKept K.Keeper.own keepers.items result.keepers.items }
+    ensures later { S.faults source.old ≤ S.faults source.new }
+{
+    match script(alloc, source) {
+        Ok(script) => {
+            let Played { ending, keepers } = play(alloc, &script, keepers);
+            Answer {
+                due: told(alloc, ending),
+                keepers,
+            }
+        }
+        Err(due) => Answer { due, keepers },
+    }
+}
+
+/// What is due where a generated script is asked for.
+fn script_due(alloc: Global, n: u32) -> Due
+    requires low { 1 ≤ n }
+    requires high { n ≤ most_steps }
+    ensures { IsScriptDue n result }
+{
+    match generated_text(alloc, n) {
+        Ok(text) => Due::Fulfilled(text),
+        Err(_) => Due::Memory,
+    }
+}
+
+/// What is due where the end of a generated script's run is asked for.
+fn summary_due<K: Keeper + Drop>(alloc: Global, n: u32, keepers: Vec<K>) -> Answer<K>
+    requires low { 1 ≤ n }
+    requires high { n ≤ most_steps }
+    requires keepers { length keepers.items ≡ 8 }
+    ensures due { (old new : Option (List ℕ)) (faults now : ℕ) → IsDueFor K.Keeper.own (asked.Summarize n) old new faults now keepers.items result.keepers.items result.due }
+    ensures kept { AreKept K.Keeper.own keepers.items result.keepers.items }
+{
+    match generated(alloc, n) {
+        Ok(script) => {
+            let Played { ending, keepers } = play_to_the_end(alloc, &script, keepers);
+            Answer {
+                due: told(alloc, ending),
+                keepers,
+            }
+        }
+        Err(_) => Answer {
+            due: Due::Memory,
+            keepers,
+        },
     }
 }
 
@@ -74,16 +153,19 @@ pub fn due<S: Source, K: Keeper + Drop>(
     ensures due { IsDue K.Keeper.own words.now (S.left source.old) (S.left source.new) (S.faults source.old) (S.faults source.new) keepers.items result.keepers.items result.due }
     ensures kept { AreKept K.Keeper.own keepers.items result.keepers.items }
     ensures unread { (IsPlain words.now → ⊥) → source.new ≡ source.old }
+    ensures unrun { (n : ℕ) → IsAsked (asked.Generate n) words.now → result.keepers.items ≡ keepers.items }
     ensures later { S.faults source.old ≤ S.faults source.new }
 {
-    match script(alloc, words, source) {
-        Ok(script) => {
-            let Played { ending, keepers } = report::<Data, K>(alloc, &script, keepers);
-            Answer {
-                due: told(alloc, ending),
-                keepers,
-            }
-        }
-        Err(due) => Answer { due, keepers },
+    match asked_by(words) {
+        Some(Asked::Plain) => report_due(alloc, source, keepers),
+        Some(Asked::Generate(n)) => Answer {
+            due: script_due(alloc, n),
+            keepers,
+        },
+        Some(Asked::Summarize(n)) => summary_due(alloc, n, keepers),
+        None => Answer {
+            due: Due::BadWords,
+            keepers,
+        },
     }
 }

@@ -3,11 +3,14 @@ use crate::status::Status;
 /// What is to be written, and why.
 #[derive(Drop)]
 pub enum Due {
-    Report(String),
+    /// What was asked for: a report, a script, or the end of a run.
+    Fulfilled(String),
+    /// The keeper of a place failed to forget what it kept.
     NotCleared(String),
     BadWords,
     NotJson,
-    NotAScript,
+    /// A rule of scripts is broken.
+    NotAScript(String),
     ReadFailed,
     TooLong,
     Memory,
@@ -22,10 +25,9 @@ impl Due {
         ensures { result.now ≡ text_due self.now }
     {
         match self {
-            Due::Report(text) | Due::NotCleared(text) => text.as_str(),
+            Due::Fulfilled(text) | Due::NotCleared(text) | Due::NotAScript(text) => text.as_str(),
             Due::BadWords => "bad words\n",
             Due::NotJson => "not json\n",
-            Due::NotAScript => "not a script\n",
             Due::TooLong => "too long\n",
             Due::ReadFailed | Due::Memory => "",
         }
@@ -36,11 +38,11 @@ impl Due {
         ensures { result ≡ status_due self.now }
     {
         match self {
-            Due::Report(_) => Status::Done,
+            Due::Fulfilled(_) => Status::Done,
             Due::NotCleared(_) => Status::ClearFailed,
             Due::BadWords => Status::Usage,
             Due::NotJson => Status::NotJson,
-            Due::NotAScript => Status::NotAScript,
+            Due::NotAScript(_) => Status::NotAScript,
             Due::ReadFailed => Status::ReadFailed,
             Due::TooLong => Status::TooLong,
             Due::Memory => Status::Memory,

@@ -1,5 +1,9 @@
+//! Each call of a source, of a sink and of a keeper fails.
+
 use crate::Status;
-use crate::membership_tests::{keepers, printed};
+use crate::prune_tests::{A_PRUNE, A_PRUNE_REPORT};
+use crate::rows::{keepers, printed, sink, source, status};
+use crate::settle_tests::{A_RESTART, CARTS};
 use std::test::Fail;
 
 // The keeper of place 1 is called six times: a clear at the start, stores at steps 1 and 2, a load at 3, a store at 5, a load at 6.
@@ -115,6 +119,71 @@ fn each_call_of_a_keeper_fails(rt: HostRuntime) -> Result<(), Fail> {
         let (code, sink) = printed(alloc, SCRIPT, keepers(alloc, 1, &[call])?)?;
         assert_eq!(rt; code, u8::from(status), "call {call}");
         assert_eq!(rt; sink.bytes(), report.as_bytes(), "call {call}");
+    }
+    Ok(())
+}
+
+// The source gives seven bytes a call, and its last call gives none.
+#[test]
+fn each_call_of_the_source_fails(rt: HostRuntime) -> Result<(), Fail> {
+    let alloc = rt.alloc();
+    let calls = CARTS.len().div_ceil(7) as u64 + 1;
+    for part in 0..200u64 {
+        let call = part * calls / 200;
+        let mut source = source(alloc, CARTS.as_bytes(), &[call])?;
+        let mut sink = sink(alloc, &[])?;
+        let code = status(
+            alloc,
+            "plain",
+            &mut source,
+            &mut sink,
+            keepers(alloc, 0, &[])?,
+        )?;
+        assert_eq!(rt; code, u8::from(Status::ReadFailed), "call {call}");
+        assert!(rt; sink.bytes().is_empty(), "call {call}");
+    }
+    Ok(())
+}
+
+// The sink takes sixteen bytes a call.
+#[test]
+fn each_call_of_the_sink_fails(rt: HostRuntime) -> Result<(), Fail> {
+    let alloc = rt.alloc();
+    let report = A_PRUNE_REPORT.as_bytes();
+    let mut written = Vec::new(alloc);
+    let mut call: u64 = 0;
+    for piece in report.chunks(16) {
+        let mut source = source(alloc, A_PRUNE.as_bytes(), &[])?;
+        let mut sink = sink(alloc, &[call])?;
+        let code = status(
+            alloc,
+            "plain",
+            &mut source,
+            &mut sink,
+            keepers(alloc, 0, &[])?,
+        )?;
+        assert_eq!(rt; code, u8::from(Status::WriteFailed), "call {call}");
+        assert_eq!(rt; sink.bytes(), written.as_slice(), "call {call}");
+        written.extend_from_slice(piece)?;
+        call = call.saturating_add(1);
+    }
+    Ok(())
+}
+
+#[test]
+fn a_failing_keeper_ends_no_settle(rt: HostRuntime) -> Result<(), Fail> {
+    let alloc = rt.alloc();
+    for call in 0..10u64 {
+        let (code, sink) = printed(alloc, A_RESTART, keepers(alloc, 1, &[call])?)?;
+        let (again, other) = printed(alloc, A_RESTART, keepers(alloc, 1, &[call])?)?;
+        let status = if call == 0 {
+            Status::ClearFailed
+        } else {
+            Status::Done
+        };
+        assert_eq!(rt; code, u8::from(status), "call {call}");
+        assert_eq!(rt; again, code, "call {call}");
+        assert_eq!(rt; sink.bytes(), other.bytes(), "call {call}");
     }
     Ok(())
 }

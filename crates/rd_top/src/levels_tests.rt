@@ -1,8 +1,6 @@
 //! Updates and gets with levels, and timeouts.
 
-use crate::Status;
-use crate::membership_tests::{keepers, printed};
-use std::alloc::Global;
+use crate::rows::{MANY, Section, compare, compare_built};
 use std::test::Fail;
 
 const A_MAJORITY_WRITE_AND_READ: &str =
@@ -134,7 +132,6 @@ d 3 known 0:1 1:1 marks -
 fn operations_wait_for_as_many_members_as_their_level_needs(rt: HostRuntime) -> Result<(), Fail> {
     let alloc = rt.alloc();
     let none: &[u64] = &[];
-    let first_two: &[u64] = &[1, 2];
     let rows = [
         (
             A_MAJORITY_WRITE_AND_READ,
@@ -143,149 +140,438 @@ fn operations_wait_for_as_many_members_as_their_level_needs(rt: HostRuntime) -> 
         ),
         (A_TIMEOUT, none, A_TIMEOUT_REPORT),
         (LEVELS, none, LEVELS_REPORT),
-        (A_FAILING_STORE, first_two, A_FAILING_STORE_REPORT),
+        (A_FAILING_STORE, &[1, 2], A_FAILING_STORE_REPORT),
     ];
-    for (script, failing, report) in rows {
-        let (code, sink) = printed(alloc, script, keepers(alloc, 1, failing)?)?;
-        assert_eq!(rt; code, u8::from(Status::Done), "at {script}");
-        assert_eq!(rt; sink.bytes(), report.as_bytes(), "at {script}");
-    }
-    Ok(())
+    compare(&rt, alloc, 1, &rows)
 }
 
-const MEMBERS: u64 = 8;
-
-/// The members take turns, each with a majority write and then a majority read; so many of these pairs are 4,000 operations.
-const PAIRS: u64 = 2000;
-
-/// How many requests went from a member to another, before its first answer.
-const ASKED: u64 = 500;
-
-/// The script: the operations, a round that brings them to all, and one that brings the answers back.
-fn many_operations(alloc: Global) -> Result<String, Fail> {
-    let mut script = String::from_str(
-        alloc,
+/// Eight members take turns, each with a majority write and then a majority read: 4,000 operations, a round that brings them to all, and one that brings the answers back.
+const OPERATIONS: [Section; 3] = [
+    (
+        1,
         r#"{"members":8,"keys":[{"key":"n","kind":"gcounter"}],"steps":["#,
-    )?;
-    for pair in 0..PAIRS {
-        let at = pair % MEMBERS;
-        write!(
-            script,
-            r#"{{"do":"update","at":{at},"key":"n","op":"increment","by":1,"level":"majority"}},{{"do":"get","at":{at},"key":"n","level":"majority"}},"#
-        )?;
-    }
-    script.push_str(r#"{"do":"round"},{"do":"round"}]}"#)?;
-    Ok(script)
-}
+        &[],
+    ),
+    (
+        2000,
+        r#"{"do":"update","at":#,"key":"n","op":"increment","by":1,"level":"majority"},{"do":"get","at":#,"key":"n","level":"majority"},"#,
+        &[(0, 1, 1, 8), (0, 1, 1, 8)],
+    ),
+    (1, r#"{"do":"round"},{"do":"round"}]}"#, &[]),
+];
 
-/// The lines of the operations.
-fn opening_lines(alloc: Global) -> Result<String, Fail> {
-    let mut lines = String::new(alloc);
-    for pair in 0..PAIRS {
-        let at = pair % MEMBERS;
-        let op = pair / MEMBERS * 2;
-        for (step, asked, sent, op) in [
-            (pair * 2 + 1, "update", "write", op),
-            (pair * 2 + 2, "get", "read", op + 1),
-        ] {
-            write!(lines, "{step} {asked} {at} n pending {op} sent")?;
-            for to in 0..MEMBERS {
-                if to != at {
-                    write!(lines, " {to}:{sent}")?;
-                }
-            }
-            lines.push_str("\n")?;
-        }
-    }
-    Ok(lines)
-}
-
-/// The lines of the first round: each member takes what the others ask.
-fn asked_lines(alloc: Global) -> Result<String, Fail> {
-    let mut lines = String::new(alloc);
-    for from in 0..MEMBERS {
-        for to in 0..MEMBERS {
-            if to != from {
-                for turn in 0..PAIRS / MEMBERS {
-                    let write = turn * 2;
-                    let read = turn * 2 + 1;
-                    writeln!(
-                        lines,
-                        "4001 deliver {from}>{to} {write} write taken sent {from}:write-ack"
-                    )?;
-                    writeln!(
-                        lines,
-                        "4001 deliver {from}>{to} {read} read taken sent {from}:read-answer"
-                    )?;
-                }
-            }
-        }
-    }
-    Ok(lines)
-}
-
-/// How many of the others answer before this one.
-fn answers_before(from: u64, to: u64) -> u64 {
-    if from < to {
-        from
-    } else {
-        from.saturating_sub(1)
-    }
-}
-
-/// The lines of the second round: the answers, of which the fourth ends an operation.
-fn answered_lines(alloc: Global) -> Result<String, Fail> {
-    let mut lines = String::new(alloc);
-    for from in 0..MEMBERS {
-        for to in 0..MEMBERS {
-            if to != from {
-                let ends = answers_before(from, to) == 3;
-                for turn in 0..PAIRS / MEMBERS {
-                    let asked = ASKED + turn * 2;
-                    let write = turn * 2;
-                    let read = turn * 2 + 1;
-                    let next = ASKED + turn * 2 + 1;
-                    write!(lines, "4002 deliver {from}>{to} {asked} write-ack taken")?;
-                    if ends {
-                        write!(lines, " finished {write} done")?;
-                    }
-                    write!(
-                        lines,
-                        "\n4002 deliver {from}>{to} {next} read-answer already"
-                    )?;
-                    if ends {
-                        write!(lines, " finished {read} value {PAIRS}")?;
-                    }
-                    lines.push_str("\n")?;
-                }
-            }
-        }
-    }
-    Ok(lines)
-}
-
-/// The report: at the end all members know all.
-fn many_operations_report(alloc: Global) -> Result<String, Fail> {
-    let mut report = opening_lines(alloc)?;
-    report.push_str(&asked_lines(alloc)?)?;
-    report.push_str(&answered_lines(alloc)?)?;
-    report.push_str("final view 0\n")?;
-    for id in 0..MEMBERS {
-        write!(
-            report,
-            "member {id} place {id} view 0\nn {PAIRS} known 0:250 1:250 2:250 3:250 4:250 5:250 6:250 7:250 marks -\n"
-        )?;
-    }
-    Ok(report)
-}
+/// Of the second round the fourth answer ends an operation, and at the end all members know all.
+const OPERATIONS_REPORT: [Section; 31] = [
+    (
+        250,
+        r#"# update 0 n pending # sent 1:write 2:write 3:write 4:write 5:write 6:write 7:write
+# get 0 n pending # sent 1:read 2:read 3:read 4:read 5:read 6:read 7:read
+# update 1 n pending # sent 0:write 2:write 3:write 4:write 5:write 6:write 7:write
+# get 1 n pending # sent 0:read 2:read 3:read 4:read 5:read 6:read 7:read
+# update 2 n pending # sent 0:write 1:write 3:write 4:write 5:write 6:write 7:write
+# get 2 n pending # sent 0:read 1:read 3:read 4:read 5:read 6:read 7:read
+# update 3 n pending # sent 0:write 1:write 2:write 4:write 5:write 6:write 7:write
+# get 3 n pending # sent 0:read 1:read 2:read 4:read 5:read 6:read 7:read
+# update 4 n pending # sent 0:write 1:write 2:write 3:write 5:write 6:write 7:write
+# get 4 n pending # sent 0:read 1:read 2:read 3:read 5:read 6:read 7:read
+# update 5 n pending # sent 0:write 1:write 2:write 3:write 4:write 6:write 7:write
+# get 5 n pending # sent 0:read 1:read 2:read 3:read 4:read 6:read 7:read
+# update 6 n pending # sent 0:write 1:write 2:write 3:write 4:write 5:write 7:write
+# get 6 n pending # sent 0:read 1:read 2:read 3:read 4:read 5:read 7:read
+# update 7 n pending # sent 0:write 1:write 2:write 3:write 4:write 5:write 6:write
+# get 7 n pending # sent 0:read 1:read 2:read 3:read 4:read 5:read 6:read
+"#,
+        &[
+            (1, 16, 1, MANY),
+            (0, 2, 1, MANY),
+            (2, 16, 1, MANY),
+            (1, 2, 1, MANY),
+            (3, 16, 1, MANY),
+            (0, 2, 1, MANY),
+            (4, 16, 1, MANY),
+            (1, 2, 1, MANY),
+            (5, 16, 1, MANY),
+            (0, 2, 1, MANY),
+            (6, 16, 1, MANY),
+            (1, 2, 1, MANY),
+            (7, 16, 1, MANY),
+            (0, 2, 1, MANY),
+            (8, 16, 1, MANY),
+            (1, 2, 1, MANY),
+            (9, 16, 1, MANY),
+            (0, 2, 1, MANY),
+            (10, 16, 1, MANY),
+            (1, 2, 1, MANY),
+            (11, 16, 1, MANY),
+            (0, 2, 1, MANY),
+            (12, 16, 1, MANY),
+            (1, 2, 1, MANY),
+            (13, 16, 1, MANY),
+            (0, 2, 1, MANY),
+            (14, 16, 1, MANY),
+            (1, 2, 1, MANY),
+            (15, 16, 1, MANY),
+            (0, 2, 1, MANY),
+            (16, 16, 1, MANY),
+            (1, 2, 1, MANY),
+        ],
+    ),
+    (
+        1750,
+        r#"4001 deliver 0># # write taken sent 0:write-ack
+4001 deliver 0># # read taken sent 0:read-answer
+"#,
+        &[
+            (1, 1, 250, MANY),
+            (0, 2, 1, 250),
+            (1, 1, 250, MANY),
+            (1, 2, 1, 250),
+        ],
+    ),
+    (
+        250,
+        r#"4001 deliver 1># # write taken sent 1:write-ack
+4001 deliver 1># # read taken sent 1:read-answer
+"#,
+        &[
+            (0, 1, 250, MANY),
+            (0, 2, 1, 250),
+            (0, 1, 250, MANY),
+            (1, 2, 1, 250),
+        ],
+    ),
+    (
+        1500,
+        r#"4001 deliver 1># # write taken sent 1:write-ack
+4001 deliver 1># # read taken sent 1:read-answer
+"#,
+        &[
+            (2, 1, 250, MANY),
+            (0, 2, 1, 250),
+            (2, 1, 250, MANY),
+            (1, 2, 1, 250),
+        ],
+    ),
+    (
+        500,
+        r#"4001 deliver 2># # write taken sent 2:write-ack
+4001 deliver 2># # read taken sent 2:read-answer
+"#,
+        &[
+            (0, 1, 250, MANY),
+            (0, 2, 1, 250),
+            (0, 1, 250, MANY),
+            (1, 2, 1, 250),
+        ],
+    ),
+    (
+        1250,
+        r#"4001 deliver 2># # write taken sent 2:write-ack
+4001 deliver 2># # read taken sent 2:read-answer
+"#,
+        &[
+            (3, 1, 250, MANY),
+            (0, 2, 1, 250),
+            (3, 1, 250, MANY),
+            (1, 2, 1, 250),
+        ],
+    ),
+    (
+        750,
+        r#"4001 deliver 3># # write taken sent 3:write-ack
+4001 deliver 3># # read taken sent 3:read-answer
+"#,
+        &[
+            (0, 1, 250, MANY),
+            (0, 2, 1, 250),
+            (0, 1, 250, MANY),
+            (1, 2, 1, 250),
+        ],
+    ),
+    (
+        1000,
+        r#"4001 deliver 3># # write taken sent 3:write-ack
+4001 deliver 3># # read taken sent 3:read-answer
+"#,
+        &[
+            (4, 1, 250, MANY),
+            (0, 2, 1, 250),
+            (4, 1, 250, MANY),
+            (1, 2, 1, 250),
+        ],
+    ),
+    (
+        1000,
+        r#"4001 deliver 4># # write taken sent 4:write-ack
+4001 deliver 4># # read taken sent 4:read-answer
+"#,
+        &[
+            (0, 1, 250, MANY),
+            (0, 2, 1, 250),
+            (0, 1, 250, MANY),
+            (1, 2, 1, 250),
+        ],
+    ),
+    (
+        750,
+        r#"4001 deliver 4># # write taken sent 4:write-ack
+4001 deliver 4># # read taken sent 4:read-answer
+"#,
+        &[
+            (5, 1, 250, MANY),
+            (0, 2, 1, 250),
+            (5, 1, 250, MANY),
+            (1, 2, 1, 250),
+        ],
+    ),
+    (
+        1250,
+        r#"4001 deliver 5># # write taken sent 5:write-ack
+4001 deliver 5># # read taken sent 5:read-answer
+"#,
+        &[
+            (0, 1, 250, MANY),
+            (0, 2, 1, 250),
+            (0, 1, 250, MANY),
+            (1, 2, 1, 250),
+        ],
+    ),
+    (
+        500,
+        r#"4001 deliver 5># # write taken sent 5:write-ack
+4001 deliver 5># # read taken sent 5:read-answer
+"#,
+        &[
+            (6, 1, 250, MANY),
+            (0, 2, 1, 250),
+            (6, 1, 250, MANY),
+            (1, 2, 1, 250),
+        ],
+    ),
+    (
+        1500,
+        r#"4001 deliver 6># # write taken sent 6:write-ack
+4001 deliver 6># # read taken sent 6:read-answer
+"#,
+        &[
+            (0, 1, 250, MANY),
+            (0, 2, 1, 250),
+            (0, 1, 250, MANY),
+            (1, 2, 1, 250),
+        ],
+    ),
+    (
+        250,
+        r#"4001 deliver 6># # write taken sent 6:write-ack
+4001 deliver 6># # read taken sent 6:read-answer
+"#,
+        &[
+            (7, 1, 250, MANY),
+            (0, 2, 1, 250),
+            (7, 1, 250, MANY),
+            (1, 2, 1, 250),
+        ],
+    ),
+    (
+        1750,
+        r#"4001 deliver 7># # write taken sent 7:write-ack
+4001 deliver 7># # read taken sent 7:read-answer
+"#,
+        &[
+            (0, 1, 250, MANY),
+            (0, 2, 1, 250),
+            (0, 1, 250, MANY),
+            (1, 2, 1, 250),
+        ],
+    ),
+    (
+        1750,
+        r#"4002 deliver 0># # write-ack taken
+4002 deliver 0># # read-answer already
+"#,
+        &[
+            (1, 1, 250, MANY),
+            (500, 2, 1, 250),
+            (1, 1, 250, MANY),
+            (501, 2, 1, 250),
+        ],
+    ),
+    (
+        250,
+        r#"4002 deliver 1># # write-ack taken
+4002 deliver 1># # read-answer already
+"#,
+        &[
+            (0, 1, 250, MANY),
+            (500, 2, 1, 250),
+            (0, 1, 250, MANY),
+            (501, 2, 1, 250),
+        ],
+    ),
+    (
+        1500,
+        r#"4002 deliver 1># # write-ack taken
+4002 deliver 1># # read-answer already
+"#,
+        &[
+            (2, 1, 250, MANY),
+            (500, 2, 1, 250),
+            (2, 1, 250, MANY),
+            (501, 2, 1, 250),
+        ],
+    ),
+    (
+        500,
+        r#"4002 deliver 2># # write-ack taken
+4002 deliver 2># # read-answer already
+"#,
+        &[
+            (0, 1, 250, MANY),
+            (500, 2, 1, 250),
+            (0, 1, 250, MANY),
+            (501, 2, 1, 250),
+        ],
+    ),
+    (
+        1250,
+        r#"4002 deliver 2># # write-ack taken
+4002 deliver 2># # read-answer already
+"#,
+        &[
+            (3, 1, 250, MANY),
+            (500, 2, 1, 250),
+            (3, 1, 250, MANY),
+            (501, 2, 1, 250),
+        ],
+    ),
+    (
+        750,
+        r#"4002 deliver 3># # write-ack taken
+4002 deliver 3># # read-answer already
+"#,
+        &[
+            (0, 1, 250, MANY),
+            (500, 2, 1, 250),
+            (0, 1, 250, MANY),
+            (501, 2, 1, 250),
+        ],
+    ),
+    (
+        1000,
+        r#"4002 deliver 3># # write-ack taken finished # done
+4002 deliver 3># # read-answer already finished # value 2000
+"#,
+        &[
+            (4, 1, 250, MANY),
+            (500, 2, 1, 250),
+            (0, 2, 1, 250),
+            (4, 1, 250, MANY),
+            (501, 2, 1, 250),
+            (1, 2, 1, 250),
+        ],
+    ),
+    (
+        1000,
+        r#"4002 deliver 4># # write-ack taken finished # done
+4002 deliver 4># # read-answer already finished # value 2000
+"#,
+        &[
+            (0, 1, 250, MANY),
+            (500, 2, 1, 250),
+            (0, 2, 1, 250),
+            (0, 1, 250, MANY),
+            (501, 2, 1, 250),
+            (1, 2, 1, 250),
+        ],
+    ),
+    (
+        750,
+        r#"4002 deliver 4># # write-ack taken
+4002 deliver 4># # read-answer already
+"#,
+        &[
+            (5, 1, 250, MANY),
+            (500, 2, 1, 250),
+            (5, 1, 250, MANY),
+            (501, 2, 1, 250),
+        ],
+    ),
+    (
+        1250,
+        r#"4002 deliver 5># # write-ack taken
+4002 deliver 5># # read-answer already
+"#,
+        &[
+            (0, 1, 250, MANY),
+            (500, 2, 1, 250),
+            (0, 1, 250, MANY),
+            (501, 2, 1, 250),
+        ],
+    ),
+    (
+        500,
+        r#"4002 deliver 5># # write-ack taken
+4002 deliver 5># # read-answer already
+"#,
+        &[
+            (6, 1, 250, MANY),
+            (500, 2, 1, 250),
+            (6, 1, 250, MANY),
+            (501, 2, 1, 250),
+        ],
+    ),
+    (
+        1500,
+        r#"4002 deliver 6># # write-ack taken
+4002 deliver 6># # read-answer already
+"#,
+        &[
+            (0, 1, 250, MANY),
+            (500, 2, 1, 250),
+            (0, 1, 250, MANY),
+            (501, 2, 1, 250),
+        ],
+    ),
+    (
+        250,
+        r#"4002 deliver 6># # write-ack taken
+4002 deliver 6># # read-answer already
+"#,
+        &[
+            (7, 1, 250, MANY),
+            (500, 2, 1, 250),
+            (7, 1, 250, MANY),
+            (501, 2, 1, 250),
+        ],
+    ),
+    (
+        1750,
+        r#"4002 deliver 7># # write-ack taken
+4002 deliver 7># # read-answer already
+"#,
+        &[
+            (0, 1, 250, MANY),
+            (500, 2, 1, 250),
+            (0, 1, 250, MANY),
+            (501, 2, 1, 250),
+        ],
+    ),
+    (
+        1,
+        r#"final view 0
+"#,
+        &[],
+    ),
+    (
+        8,
+        r#"member # place # view 0
+n 2000 known 0:250 1:250 2:250 3:250 4:250 5:250 6:250 7:250 marks -
+"#,
+        &[(0, 1, 1, MANY), (0, 1, 1, MANY)],
+    ),
+];
 
 #[test]
 fn runs_4_000_operations_at_the_most_members(rt: HostRuntime) -> Result<(), Fail> {
-    let alloc = rt.alloc();
-    let script = many_operations(alloc)?;
-    let report = many_operations_report(alloc)?;
-    let (code, sink) = printed(alloc, &script, keepers(alloc, 0, &[])?)?;
-    assert_eq!(rt; code, u8::from(Status::Done));
-    assert!(rt; sink.bytes() == report.as_bytes());
-    Ok(())
+    compare_built(&rt, rt.alloc(), &OPERATIONS, &OPERATIONS_REPORT)
 }

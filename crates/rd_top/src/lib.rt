@@ -1,4 +1,4 @@
-//! The top call: from the bytes of a script on a source to the bytes of its report on a sink.
+//! The top call: from the words of the command line, and the bytes of a script on a source, to the bytes of a report on a sink.
 #![tactic(auto)]
 
 mod answer;
@@ -17,11 +17,20 @@ mod membership_tests;
 mod printing_tests;
 #[cfg(test)]
 mod prune_tests;
+#[cfg(test)]
+mod refusal_tests;
+#[cfg(test)]
+mod rows;
+#[cfg(test)]
+mod settle_tests;
 mod status;
 #[cfg(test)]
 mod tests;
 mod top;
 mod words;
+#[cfg(test)]
+mod words_tests;
 
 pub use status::Status;
 pub use top::{Outcome, replicate_plain};
+pub use words::Asked;

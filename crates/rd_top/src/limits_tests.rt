@@ -1,8 +1,6 @@
 //! Scripts that are refused at each turn, and one that goes up to the limits of a set, of a level and of identities.
 
-use crate::Status;
-use crate::membership_tests::{keepers, printed};
-use std::alloc::Global;
+use crate::rows::{MANY, Section, compare, compare_built};
 use std::test::Fail;
 
 const REFUSALS: &str =
@@ -50,66 +48,83 @@ n - known - marks -
 #[test]
 fn refuses_what_cannot_be_done(rt: HostRuntime) -> Result<(), Fail> {
     let alloc = rt.alloc();
-    let (code, sink) = printed(alloc, REFUSALS, keepers(alloc, 0, &[])?)?;
-    assert_eq!(rt; code, u8::from(Status::Done));
-    assert_eq!(rt; sink.bytes(), REFUSALS_REPORT.as_bytes());
-    Ok(())
+    let none: &[u64] = &[];
+    compare(&rt, alloc, 0, &[(REFUSALS, none, REFUSALS_REPORT)])
 }
 
 /// Adds up to a full set and beyond, an add that needs a member too many, and restarts until no identity is left.
-fn up_to_the_limits(alloc: Global) -> Result<String, Fail> {
-    let mut script = String::from_str(
-        alloc,
+const LIMITS: [Section; 5] = [
+    (
+        1,
         r#"{"members":3,"keys":[{"key":"s","kind":"gset"}],"steps":["#,
-    )?;
-    for element in 0..257u32 {
-        write!(
-            script,
-            r#"{{"do":"update","at":0,"key":"s","op":"add","element":"e{element:03}"}},"#
-        )?;
-    }
-    script.push_str(r#"{"do":"update","at":0,"key":"s","op":"add","element":"e000"},"#)?;
-    script.push_str(
-        r#"{"do":"update","at":0,"key":"s","op":"add","element":"e000","level":{"to":4}}"#,
-    )?;
-    for id in 2..64u32 {
-        write!(script, r#",{{"do":"restart","id":{id}}}"#)?;
-    }
-    script.push_str("]}")?;
-    Ok(script)
-}
+        &[],
+    ),
+    (
+        257,
+        r#"{"do":"update","at":0,"key":"s","op":"add","element":"e###"},"#,
+        &[(0, 1, 100, 10), (0, 1, 10, 10), (0, 1, 1, 10)],
+    ),
+    (
+        1,
+        r#"{"do":"update","at":0,"key":"s","op":"add","element":"e000"},{"do":"update","at":0,"key":"s","op":"add","element":"e000","level":{"to":4}}"#,
+        &[],
+    ),
+    (62, r#",{"do":"restart","id":#}"#, &[(2, 1, 1, MANY)]),
+    (1, r#"]}"#, &[]),
+];
 
-fn limits_report(alloc: Global) -> Result<String, Fail> {
-    let mut report = String::new(alloc);
-    for step in 1..257u32 {
-        write!(report, "{step} update 0 s done\n")?;
-    }
-    report.push_str("257 update 0 s set full\n258 update 0 s done\n259 update 0 s too few\n")?;
-    for view in 1..62u32 {
-        let step = 259 + view;
-        let old = view + 1;
-        let new = view + 2;
-        write!(report, "{step} restart {old} id {new} view {view}\n")?;
-    }
-    report.push_str(
-        "321 restart 63 too many identities\nfinal view 61\nmember 0 place 0 view 0\ns {",
-    )?;
-    for element in 0..256u32 {
-        let comma = if element == 0 { "" } else { "," };
-        write!(report, "{comma}\"e{element:03}\"")?;
-    }
-    report.push_str("} known 0:257 marks -\nmember 1 place 1 view 0\ns - known - marks -\n")?;
-    report.push_str("member 63 place 2 view 61\ns - known - marks -\n")?;
-    Ok(report)
-}
+const LIMITS_REPORT: [Section; 6] = [
+    (
+        256,
+        r#"# update 0 s done
+"#,
+        &[(1, 1, 1, MANY)],
+    ),
+    (
+        1,
+        r#"257 update 0 s set full
+258 update 0 s done
+259 update 0 s too few
+"#,
+        &[],
+    ),
+    (
+        61,
+        r#"# restart # id # view #
+"#,
+        &[
+            (260, 1, 1, MANY),
+            (2, 1, 1, MANY),
+            (3, 1, 1, MANY),
+            (1, 1, 1, MANY),
+        ],
+    ),
+    (
+        1,
+        r#"321 restart 63 too many identities
+final view 61
+member 0 place 0 view 0
+s {"#,
+        &[],
+    ),
+    (
+        255,
+        r#""e###","#,
+        &[(0, 1, 100, 10), (0, 1, 10, 10), (0, 1, 1, 10)],
+    ),
+    (
+        1,
+        r#""e255"} known 0:257 marks -
+member 1 place 1 view 0
+s - known - marks -
+member 63 place 2 view 61
+s - known - marks -
+"#,
+        &[],
+    ),
+];
 
 #[test]
 fn stops_at_the_limits(rt: HostRuntime) -> Result<(), Fail> {
-    let alloc = rt.alloc();
-    let script = up_to_the_limits(alloc)?;
-    let report = limits_report(alloc)?;
-    let (code, sink) = printed(alloc, &script, keepers(alloc, 0, &[])?)?;
-    assert_eq!(rt; code, u8::from(Status::Done));
-    assert!(rt; sink.bytes() == report.as_bytes());
-    Ok(())
+    compare_built(&rt, rt.alloc(), &LIMITS, &LIMITS_REPORT)
 }

@@ -1,9 +1,9 @@
 ghost use Rattle.std.specs.Prelude.{◌≡◌, length, IfOk};
 
-use crate::{Status, replicate_plain};
+use crate::Status;
+use crate::rows::{MANY, Section, compare, compare_built, keepers, printed};
 use rd_bytes::{Items, Text};
-use rd_keeper::{Keeper, KeeperError, MemoryKeeper, Stored};
-use rd_outside::{MemorySink, MemorySource};
+use rd_keeper::{Keeper, KeeperError, Stored};
 use std::alloc::Global;
 use std::test::Fail;
 
@@ -245,22 +245,6 @@ impl Keeper for LyingKeeper {
     }
 }
 
-// A keeper in memory for each place. The one of this place fails at the calls named.
-pub(crate) fn keepers(
-    alloc: Global,
-    place: usize,
-    failing: &[u64],
-) -> Result<Vec<MemoryKeeper>, Fail>
-    ensures { IfOk result (λ keepers. length keepers.items ≡ 8) }
-{
-    let mut keepers = Vec::new(alloc);
-    for at in 0..8 {
-        let named = if at == place { failing } else { &[] };
-        keepers.push(MemoryKeeper::new(alloc, Vec::from_slice(alloc, named)?))?;
-    }
-    Ok(keepers)
-}
-
 fn lying_keepers(alloc: Global) -> Result<Vec<LyingKeeper>, Fail>
     ensures { IfOk result (λ keepers. length keepers.items ≡ 8) }
 {
@@ -271,30 +255,10 @@ fn lying_keepers(alloc: Global) -> Result<Vec<LyingKeeper>, Fail>
     Ok(keepers)
 }
 
-// What a script prints over these keepers.
-pub(crate) fn printed<D: Keeper + Drop>(
-    alloc: Global,
-    script: &str,
-    keepers: Vec<D>,
-) -> Result<(u8, MemorySink), Fail>
-    requires { length keepers.items ≡ 8 }
-{
-    let mut words = Vec::new(alloc);
-    words.push(String::from_str(alloc, "plain")?)?;
-    let bytes = Vec::from_slice(alloc, script.as_bytes())?;
-    let mut source = MemorySource::new(alloc, bytes, 4096, Vec::new(alloc));
-    let mut sink = MemorySink::new(alloc, 4096, Vec::new(alloc));
-    let outcome = replicate_plain(alloc, &words, &mut source, &mut sink, keepers);
-    Ok((outcome.status, sink))
-}
-
 #[test]
 fn members_leave_join_and_restart(rt: HostRuntime) -> Result<(), Fail> {
     let alloc = rt.alloc();
     let none: &[u64] = &[];
-    let third: &[u64] = &[2];
-    let fourth: &[u64] = &[3];
-    let second: &[u64] = &[1];
     let rows = [
         (
             LATE_MESSAGES_OF_THE_REMOVED,
@@ -304,15 +268,16 @@ fn members_leave_join_and_restart(rt: HostRuntime) -> Result<(), Fail> {
         (RESTART, none, RESTART_REPORT),
         (COMING_BACK, none, COMING_BACK_REPORT),
         (REFUSALS, none, REFUSALS_REPORT),
-        (FAILING_STORE, third, STORE_FAILED_REPORT),
-        (FAILING_STORE, fourth, LOAD_FAILED_REPORT),
-        (FAILING_CLEAR, second, CLEAR_FAILED_REPORT),
+        (FAILING_STORE, &[2], STORE_FAILED_REPORT),
+        (FAILING_STORE, &[3], LOAD_FAILED_REPORT),
+        (FAILING_CLEAR, &[1], CLEAR_FAILED_REPORT),
     ];
-    for (script, failing, report) in rows {
-        let (code, sink) = printed(alloc, script, keepers(alloc, 1, failing)?)?;
-        assert_eq!(rt; code, u8::from(Status::Done), "at {script}");
-        assert_eq!(rt; sink.bytes(), report.as_bytes(), "at {script}");
-    }
+    compare(&rt, alloc, 1, &rows)
+}
+
+#[test]
+fn what_is_loaded_may_be_damaged(rt: HostRuntime) -> Result<(), Fail> {
+    let alloc = rt.alloc();
     let (code, sink) = printed(alloc, FAILING_STORE, lying_keepers(alloc)?)?;
     assert_eq!(rt; code, u8::from(Status::Done));
     assert_eq!(rt; sink.bytes(), DAMAGED_REPORT.as_bytes());
@@ -330,44 +295,50 @@ fn a_place_that_is_not_cleared_ends_the_run(rt: HostRuntime) -> Result<(), Fail>
     Ok(())
 }
 
-// Three members and as many restarts of the last one as there are identities, and what comes then.
-fn restarts(alloc: Global) -> Result<String, Fail> {
-    let mut script = String::from_str(
-        alloc,
+/// Three members and as many restarts of the last one as there are identities, and what comes then.
+const RESTARTS: [Section; 3] = [
+    (
+        1,
         r#"{"members":3,"keys":[{"key":"n","kind":"gcounter"}],"steps":["#,
-    )?;
-    for id in 2..63 {
-        write!(script, "{{\"do\":\"restart\",\"id\":{id}}},")?;
-    }
-    script.push_str(r#"{"do":"restart","id":63},{"do":"join","place":3}]}"#)?;
-    Ok(script)
-}
+        &[],
+    ),
+    (61, r#"{"do":"restart","id":#},"#, &[(2, 1, 1, MANY)]),
+    (
+        1,
+        r#"{"do":"restart","id":63},{"do":"join","place":3}]}"#,
+        &[],
+    ),
+];
 
-fn restarts_report(alloc: Global) -> Result<String, Fail> {
-    let mut report = String::new(alloc);
-    for view in 1..62 {
-        let old = view + 1;
-        let new = view + 2;
-        writeln!(report, "{view} restart {old} id {new} view {view}")?;
-    }
-    report.push_str("62 restart 63 too many identities\n63 join 3 too many identities\n")?;
-    report.push_str("final view 61\n")?;
-    for (id, place, view) in [(0, 0, 0), (1, 1, 0), (63, 2, 61)] {
-        writeln!(
-            report,
-            "member {id} place {place} view {view}\nn - known - marks -"
-        )?;
-    }
-    Ok(report)
-}
+const RESTARTS_REPORT: [Section; 2] = [
+    (
+        61,
+        r#"# restart # id # view #
+"#,
+        &[
+            (1, 1, 1, MANY),
+            (2, 1, 1, MANY),
+            (3, 1, 1, MANY),
+            (1, 1, 1, MANY),
+        ],
+    ),
+    (
+        1,
+        r#"62 restart 63 too many identities
+63 join 3 too many identities
+final view 61
+member 0 place 0 view 0
+n - known - marks -
+member 1 place 1 view 0
+n - known - marks -
+member 63 place 2 view 61
+n - known - marks -
+"#,
+        &[],
+    ),
+];
 
 #[test]
 fn identities_are_given_once(rt: HostRuntime) -> Result<(), Fail> {
-    let alloc = rt.alloc();
-    let script = restarts(alloc)?;
-    let (code, sink) = printed(alloc, &script, keepers(alloc, 0, &[])?)?;
-    let report = restarts_report(alloc)?;
-    assert_eq!(rt; code, u8::from(Status::Done));
-    assert_eq!(rt; sink.bytes(), report.as_bytes());
-    Ok(())
+    compare_built(&rt, rt.alloc(), &RESTARTS, &RESTARTS_REPORT)
 }

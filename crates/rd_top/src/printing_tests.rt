@@ -1,7 +1,6 @@
 //! Elements whose text is escaped, and sums beyond 64 bits.
 
-use crate::Status;
-use crate::membership_tests::{keepers, printed};
+use crate::rows::compare;
 use std::test::Fail;
 
 const ESCAPED: &str = r#"{"members":1,"keys":[{"key":"s","kind":"gset"}],"steps":[
@@ -72,10 +71,7 @@ const SUMS_REPORT: &str = "1 update 0 g done\n\
 #[test]
 fn prints_escapes_and_sums(rt: HostRuntime) -> Result<(), Fail> {
     let alloc = rt.alloc();
-    for (script, report) in [(ESCAPED, ESCAPED_REPORT), (SUMS, SUMS_REPORT)] {
-        let (code, sink) = printed(alloc, script, keepers(alloc, 0, &[])?)?;
-        assert_eq!(rt; code, u8::from(Status::Done), "at {script}");
-        assert_eq!(rt; sink.bytes(), report.as_bytes(), "at {script}");
-    }
-    Ok(())
+    let none: &[u64] = &[];
+    let rows = [(ESCAPED, none, ESCAPED_REPORT), (SUMS, none, SUMS_REPORT)];
+    compare(&rt, alloc, 0, &rows)
 }

@@ -1,8 +1,7 @@
-use crate::Status;
-use crate::membership_tests::{keepers, printed};
+use crate::rows::compare;
 use std::test::Fail;
 
-const A_PRUNE: &str = r#"{"members":3,"keys":[{"key":"n","kind":"gcounter"}],"steps":[
+pub(crate) const A_PRUNE: &str = r#"{"members":3,"keys":[{"key":"n","kind":"gcounter"}],"steps":[
     {"do":"update","at":2,"key":"n","op":"increment","by":10},
     {"do":"flush","at":2},
     {"do":"round"},
@@ -19,7 +18,7 @@ const A_PRUNE: &str = r#"{"members":3,"keys":[{"key":"n","kind":"gcounter"}],"st
     {"do":"get","at":0,"key":"n"},
     {"do":"get","at":1,"key":"n"}]}"#;
 
-const A_PRUNE_REPORT: &str = r#"1 update 2 n done
+pub(crate) const A_PRUNE_REPORT: &str = r#"1 update 2 n done
 2 flush 2 done sent 0:deltas/1/0 1:deltas/1/0
 3 deliver 2>0 0 deltas/1/0 taken
 3 deliver 2>1 0 deltas/1/0 taken
@@ -270,7 +269,6 @@ d 3 known 1:1 2:1 marks 1>2@1
 fn members_prune_what_is_left_of_others(rt: HostRuntime) -> Result<(), Fail> {
     let alloc = rt.alloc();
     let none: &[u64] = &[];
-    let fourth: &[u64] = &[3];
     let rows = [
         (A_PRUNE, none, A_PRUNE_REPORT),
         (A_BLOCKED_PRUNE, none, A_BLOCKED_PRUNE_REPORT),
@@ -279,14 +277,9 @@ fn members_prune_what_is_left_of_others(rt: HostRuntime) -> Result<(), Fail> {
         (A_SECOND_PRUNE, none, A_SECOND_PRUNE_REPORT),
         (
             A_PRUNE_BESIDE_A_FAILING_STORE,
-            fourth,
+            &[3],
             A_PRUNE_BESIDE_A_FAILING_STORE_REPORT,
         ),
     ];
-    for (script, failing, report) in rows {
-        let (code, sink) = printed(alloc, script, keepers(alloc, 0, failing)?)?;
-        assert_eq!(rt; code, u8::from(Status::Done), "at {script}");
-        assert_eq!(rt; sink.bytes(), report.as_bytes(), "at {script}");
-    }
-    Ok(())
+    compare(&rt, alloc, 0, &rows)
 }

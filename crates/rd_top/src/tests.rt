@@ -1,10 +1,10 @@
-use crate::membership_tests::keepers;
-use crate::{Status, replicate_plain};
-use rd_outside::{MemorySink, MemorySource};
-use std::alloc::Global;
+//! Scripts of each kind of values, of delta groups and of gossip.
+
+use crate::rows::{MANY, Section, compare, compare_built};
 use std::test::Fail;
 
-const EMPTY: &str = "{\"members\":1,\"keys\":[{\"key\":\"n\",\"kind\":\"gcounter\"}],\"steps\":[]}";
+pub(crate) const EMPTY: &str =
+    "{\"members\":1,\"keys\":[{\"key\":\"n\",\"kind\":\"gcounter\"}],\"steps\":[]}";
 
 const ONE_MEMBER: &str =
     "{\"members\":1,\"keys\":[{\"key\":\"n\",\"kind\":\"gcounter\"}],\"steps\":[\
@@ -263,159 +263,100 @@ n - known - marks -
 r "d" known 0:1 marks -
 "#;
 
-fn words(alloc: Global, line: &str) -> Result<Vec<String>, Fail> {
-    let mut words = Vec::new(alloc);
-    for word in line.split(' ') {
-        words.push(String::from_str(alloc, word)?)?;
-    }
-    Ok(words)
-}
-
-// What a script gives, read from and written to memory whose calls of these numbers fail.
-fn answer(
-    alloc: Global,
-    line: &str,
-    script: &str,
-    read_failing: &[u64],
-    write_failing: &[u64],
-) -> Result<(u8, MemorySink), Fail> {
-    let words = words(alloc, line)?;
-    let bytes = Vec::from_slice(alloc, script.as_bytes())?;
-    let mut source = MemorySource::new(alloc, bytes, 7, Vec::from_slice(alloc, read_failing)?);
-    let mut sink = MemorySink::new(alloc, 8, Vec::from_slice(alloc, write_failing)?);
-    let keepers = keepers(alloc, 0, &[])?;
-    let outcome = replicate_plain(alloc, &words, &mut source, &mut sink, keepers);
-    Ok((outcome.status, sink))
-}
-
 #[test]
 fn prints_the_report(rt: HostRuntime) -> Result<(), Fail> {
-    let alloc = rt.alloc();
+    let none: &[u64] = &[];
     let rows = [
-        (EMPTY, EMPTY_REPORT),
-        (ONE_MEMBER, ONE_MEMBER_REPORT),
-        (TWO_MEMBERS, TWO_MEMBERS_REPORT),
-        (THREE_MEMBERS, THREE_MEMBERS_REPORT),
-        (OTHER_KINDS, OTHER_KINDS_REPORT),
-        (FLUSHED_REGISTER, FLUSHED_REGISTER_REPORT),
-        (REPEATS, REPEATS_REPORT),
-        (ADD_WINS, ADD_WINS_REPORT),
-        (DELTA_OVERTAKES_ITS_CAUSE, DELTA_OVERTAKES_ITS_CAUSE_REPORT),
-        (GOSSIP, GOSSIP_REPORT),
-        (GOSSIP_TO_NO_PEER, GOSSIP_TO_NO_PEER_REPORT),
-        (REFUSED, REFUSED_REPORT),
+        (EMPTY, none, EMPTY_REPORT),
+        (ONE_MEMBER, none, ONE_MEMBER_REPORT),
+        (TWO_MEMBERS, none, TWO_MEMBERS_REPORT),
+        (THREE_MEMBERS, none, THREE_MEMBERS_REPORT),
+        (OTHER_KINDS, none, OTHER_KINDS_REPORT),
+        (FLUSHED_REGISTER, none, FLUSHED_REGISTER_REPORT),
+        (REPEATS, none, REPEATS_REPORT),
+        (ADD_WINS, none, ADD_WINS_REPORT),
+        (
+            DELTA_OVERTAKES_ITS_CAUSE,
+            none,
+            DELTA_OVERTAKES_ITS_CAUSE_REPORT,
+        ),
+        (GOSSIP, none, GOSSIP_REPORT),
+        (GOSSIP_TO_NO_PEER, none, GOSSIP_TO_NO_PEER_REPORT),
+        (REFUSED, none, REFUSED_REPORT),
     ];
-    for (script, report) in rows {
-        let (code, sink) = answer(alloc, "plain", script, &[], &[])?;
-        assert_eq!(rt; code, u8::from(Status::Done), "at {script}");
-        assert_eq!(rt; sink.bytes(), report.as_bytes(), "at {script}");
-    }
-    Ok(())
+    compare(&rt, rt.alloc(), 0, &rows)
 }
 
-// A script of so many increments and a flush.
-fn increments(alloc: Global, count: u64) -> Result<String, Fail> {
-    let mut script = String::from_str(
-        alloc,
+const FIFTY: [Section; 3] = [
+    (
+        1,
         r#"{"members":2,"keys":[{"key":"n","kind":"gcounter"}],"steps":["#,
-    )?;
-    for _ in 0..count {
-        script.push_str(r#"{"do":"update","at":0,"key":"n","op":"increment","by":1},"#)?;
-    }
-    script.push_str(r#"{"do":"flush","at":0}]}"#)?;
-    Ok(script)
-}
+        &[],
+    ),
+    (
+        50,
+        r#"{"do":"update","at":0,"key":"n","op":"increment","by":1},"#,
+        &[],
+    ),
+    (1, r#"{"do":"flush","at":0}]}"#, &[]),
+];
 
-// What it prints, if the flush sends this.
-fn increments_report(alloc: Global, count: u64, sent: &str) -> Result<String, Fail> {
-    let mut report = String::new(alloc);
-    let mut step: u64 = 1;
-    for _ in 0..count {
-        write!(report, "{step} update 0 n done\n")?;
-        step = step.saturating_add(1);
-    }
-    write!(report, "{step} flush 0 done sent 1:{sent}\nfinal view 0\n")?;
-    write!(
-        report,
-        "member 0 place 0 view 0\nn {count} known 0:{count} marks -\n"
-    )?;
-    report.push_str("member 1 place 1 view 0\nn - known - marks -\n")?;
-    Ok(report)
-}
+const FIFTY_REPORT: [Section; 2] = [
+    (
+        50,
+        r#"# update 0 n done
+"#,
+        &[(1, 1, 1, MANY)],
+    ),
+    (
+        1,
+        r#"51 flush 0 done sent 1:deltas/1/0
+final view 0
+member 0 place 0 view 0
+n 50 known 0:50 marks -
+member 1 place 1 view 0
+n - known - marks -
+"#,
+        &[],
+    ),
+];
+
+const FIFTY_ONE: [Section; 3] = [
+    (
+        1,
+        r#"{"members":2,"keys":[{"key":"n","kind":"gcounter"}],"steps":["#,
+        &[],
+    ),
+    (
+        51,
+        r#"{"do":"update","at":0,"key":"n","op":"increment","by":1},"#,
+        &[],
+    ),
+    (1, r#"{"do":"flush","at":0}]}"#, &[]),
+];
+
+const FIFTY_ONE_REPORT: [Section; 2] = [
+    (
+        51,
+        r#"# update 0 n done
+"#,
+        &[(1, 1, 1, MANY)],
+    ),
+    (
+        1,
+        r#"52 flush 0 done sent 1:deltas/0/1
+final view 0
+member 0 place 0 view 0
+n 51 known 0:51 marks -
+member 1 place 1 view 0
+n - known - marks -
+"#,
+        &[],
+    ),
+];
 
 #[test]
 fn fifty_records_go_as_a_group_and_fifty_one_as_the_entry(rt: HostRuntime) -> Result<(), Fail> {
-    let alloc = rt.alloc();
-    let rows = [(50, "deltas/1/0"), (51, "deltas/0/1")];
-    for (count, sent) in rows {
-        let script = increments(alloc, count)?;
-        let (code, sink) = answer(alloc, "plain", &script, &[], &[])?;
-        let report = increments_report(alloc, count, sent)?;
-        assert_eq!(rt; code, u8::from(Status::Done), "at {count}");
-        assert_eq!(rt; sink.bytes(), report.as_bytes(), "at {count}");
-    }
-    Ok(())
-}
-
-#[test]
-fn answers_by_cause(rt: HostRuntime) -> Result<(), Fail> {
-    let alloc = rt.alloc();
-    let none: &[u64] = &[];
-    let first: &[u64] = &[0];
-    let second: &[u64] = &[1];
-    let rows = [
-        (
-            "plain",
-            "{\"members\":1",
-            none,
-            none,
-            Status::NotJson,
-            "not json\n",
-        ),
-        (
-            "plain",
-            "{\"members\":1}",
-            none,
-            none,
-            Status::NotAScript,
-            "not a script\n",
-        ),
-        (
-            "plain",
-            EMPTY,
-            none,
-            second,
-            Status::WriteFailed,
-            "final vi",
-        ),
-        ("gen 0", EMPTY, none, none, Status::Usage, "bad words\n"),
-        ("", EMPTY, first, none, Status::Usage, "bad words\n"),
-        ("plain", EMPTY, first, none, Status::ReadFailed, ""),
-    ];
-    for (line, script, read_failing, write_failing, status, written) in rows {
-        let (code, sink) = answer(alloc, line, script, read_failing, write_failing)?;
-        assert_eq!(rt; code, u8::from(status), "at {line} {script}");
-        assert_eq!(rt; sink.bytes(), written.as_bytes(), "at {line} {script}");
-    }
-    Ok(())
-}
-
-#[test]
-fn bounds_the_script(rt: HostRuntime) -> Result<(), Fail> {
-    let alloc = rt.alloc();
-    let rows = [
-        (8_388_608, Status::NotJson, "not json\n"),
-        (8_388_609, Status::TooLong, "too long\n"),
-    ];
-    for (length, status, written) in rows {
-        let spaces = vec![in alloc; b' '; length]?;
-        let mut source = MemorySource::new(alloc, spaces, 4096, Vec::new(alloc));
-        let mut sink = MemorySink::new(alloc, 8, Vec::new(alloc));
-        let words = words(alloc, "plain")?;
-        let keepers = keepers(alloc, 0, &[])?;
-        let outcome = replicate_plain(alloc, &words, &mut source, &mut sink, keepers);
-        assert_eq!(rt; outcome.status, u8::from(status));
-        assert_eq!(rt; sink.bytes(), written.as_bytes());
-    }
-    Ok(())
+    compare_built(&rt, rt.alloc(), &FIFTY, &FIFTY_REPORT)?;
+    compare_built(&rt, rt.alloc(), &FIFTY_ONE, &FIFTY_ONE_REPORT)
 }

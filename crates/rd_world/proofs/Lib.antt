@@ -52,4 +52,10 @@ pub mod Sequences
 pub mod RoundSteps
 pub mod DueLists
 pub mod Rounding
+pub mod SettleParts
+pub mod SettleLoops
+pub mod SettleSteps
+pub mod SettleCalls
+pub mod SettleExchanges
+pub mod Settled
 pub mod Lasting

@@ -10,4 +10,5 @@ pub mod Sending
 pub mod Steps
 pub mod Giving
 pub mod Rounds
+pub mod Settling
 pub mod Gone

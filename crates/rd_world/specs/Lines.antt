@@ -48,6 +48,8 @@ IsAnswer answer.TooManyIdentities told = told ≡ script.Answer.TooManyIdentitie
 IsAnswer answer.ClearFailed told = told ≡ script.Answer.ClearFailed
 IsAnswer answer.LoadFailed told = told ≡ script.Answer.LoadFailed
 IsAnswer (answer.Damaged key) told = ⊥
+IsAnswer (answer.Settled messages blocked) told = told ≡ script.Answer.Settled messages blocked
+IsAnswer answer.Stopped told = told ≡ script.Answer.Stopped
 
 abbrev pub is_damage : Answer → Bool
 is_damage (answer.Damaged key) = true
@@ -75,6 +77,7 @@ module _ {Op : Type 0} where
   IsHead (head.Join place) told = told ≡ script.Head.JoinHead place
   IsHead (head.Restart id) told = told ≡ script.Head.RestartHead id
   IsHead (head.Install at view) told = told ≡ script.Head.InstallHead at view
+  IsHead head.Settle told = told ≡ script.Head.SettleHead
 
   -- the event says what the line says
   pub record IsLine (event : Event) (told : Told Op Shown) : Type 0 where

@@ -42,6 +42,7 @@ step_of (form.Remove id) = ScriptStep.Remove id
 step_of (form.Join place) = ScriptStep.Join place
 step_of (form.Restart id) = ScriptStep.Restart id
 step_of (form.Install at view) = ScriptStep.Install at view
+step_of form.Settle = ScriptStep.Settle
 
 -- THE KEEPERS' ANSWERS
 
@@ -110,9 +111,10 @@ module _ {T K Kind Delta : Type 0} {ghosts : Ghosts T Kind Op Delta} {keeping : 
     pub damaged : are_damaged events ≡ true → IsDamaged step old new
     pub does : LoadsWhatItTook step old → IsSound old events × LeadsTo spelling (λ p. played (replication ghosts spelling) p (step_of step)) given old new events
 
-  -- of a round, what was delivered stands; after a join, all but the place's keeper, which may have forgotten all
+  -- of a round and of a settle, what was done stands; after a join, all but the place's keeper, which may have forgotten all
   abbrev pub RemainsSo : Step → World T K Kind Op Delta ghosts keeping → World T K Kind Op Delta ghosts keeping → Type 0
   RemainsSo form.Round old new = Stops spelling (λ p. played (replication ghosts spelling) p ScriptStep.Round) old new
+  RemainsSo form.Settle old new = Stops spelling (λ p. played (replication ghosts spelling) p ScriptStep.Settle) old new
   RemainsSo (form.Join place) old new = IsSameBut place old new
   RemainsSo _ old new = Stays spelling old new
 

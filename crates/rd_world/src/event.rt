@@ -65,6 +65,8 @@ pub enum Head {
         at: Id,
         view: u32,
     },
+    /// All members were to agree.
+    Settle,
 }
 
 /// What came of it.
@@ -100,6 +102,10 @@ pub enum Answer {
     LoadFailed,
     /// What the keeper of the place gave for this key is nothing that a member stored. Nothing changed.
     Damaged(Text),
+    /// So many messages were sent, and so many outcomes of the leader's second tick are blocked.
+    Settled { messages: usize, blocked: usize },
+    /// A member that was to agree has made as many steps as it may.
+    Stopped,
 }
 
 /// A message that was sent: to whom, and what is printed of it.

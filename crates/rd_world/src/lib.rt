@@ -2,12 +2,14 @@
 #![tactic(auto)]
 
 mod event;
+mod exchanges;
 mod laws;
 mod links;
 mod membership;
 mod playing;
 mod rounds;
 mod sending;
+mod settling;
 mod start;
 mod world;
 

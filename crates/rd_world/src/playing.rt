@@ -36,7 +36,7 @@ impl<T: SpelledData<Op = Op>, K: Keeper + Drop> World<T, K> {
     ///
     /// # Errors
     ///
-    /// Memory was refused. Of a round, what was delivered stands; of a join, the keeper of the place may have forgotten all;
+    /// Memory was refused. Of a round and of a settle, what was done stands; of a join, the keeper of the place may have forgotten all;
     /// and all else is as before.
     pub fn step(&mut self, step: &Step) -> Result<Events, Memory>
         requires { IsStep (step_of step.now) }
@@ -71,6 +71,7 @@ impl<T: SpelledData<Op = Op>, K: Keeper + Drop> World<T, K> {
             Step::Join { place } => self.join(*place),
             Step::Restart { id } => self.restart(*id),
             Step::Install { at, view } => self.install(*at, *view),
+            Step::Settle => self.settle(),
         }
     }
 
@@ -107,14 +108,14 @@ impl<T: SpelledData<Op = Op>, K: Keeper + Drop> World<T, K> {
     }
 
     /// A member is to send another the digests of its entries.
-    fn gossip(&mut self, at: Id, to: Id) -> Result<Event, Memory>
+    pub(crate) fn gossip(&mut self, at: Id, to: Id) -> Result<Event, Memory>
         ensures { MakesStep T.SpelledData.own (form.Gossip at to) self.old self.new result }
     {
         self.give(at, Head::Gossip { at, to }, &Input::GossipTo(to))
     }
 
     /// A member is to mark, or to prune, what is left of members that left.
-    fn tick(&mut self, at: Id) -> Result<Event, Memory>
+    pub(crate) fn tick(&mut self, at: Id) -> Result<Event, Memory>
         ensures { MakesStep T.SpelledData.own (form.Tick at) self.old self.new result }
     {
         self.give(at, Head::Tick { at }, &Input::PruneTick)
