@@ -14,6 +14,3 @@ pub use items::Items;
 pub use memory::Memory;
 pub use spelled::{Spelled, placed};
 pub use text::{MOST_BYTES, Text, TextError};
-
-#[cfg(test)]
-mod tests;

@@ -5,8 +5,6 @@ mod combining;
 mod delta_log;
 mod grouped;
 mod recent;
-#[cfg(test)]
-mod tests;
 
 pub use delta_log::{DeltaLog, NextRecord, OwnRecord};
 pub use grouped::Grouped;

@@ -8,6 +8,3 @@ mod text;
 pub use laws::reads_back;
 pub use script::generated;
 pub use text::generated_text;
-
-#[cfg(test)]
-mod tests;

@@ -7,8 +7,6 @@ mod memory;
 mod search;
 mod stored;
 mod table;
-#[cfg(test)]
-mod tests;
 
 pub use keeper::{Keeper, KeeperError};
 pub use memory::MemoryKeeper;

@@ -7,8 +7,6 @@ mod elements;
 mod laws;
 mod record;
 mod switches;
-#[cfg(test)]
-mod tests;
 mod timestamps;
 mod touches;
 

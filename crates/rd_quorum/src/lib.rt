@@ -3,8 +3,6 @@
 
 mod level;
 mod tally;
-#[cfg(test)]
-mod tests;
 
 pub use level::{Level, TooFew, needed};
 pub use tally::{Progress, Tally};

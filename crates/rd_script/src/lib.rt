@@ -18,6 +18,3 @@ pub use fault::Rule;
 pub use laws::rules_in_order;
 pub use read::{ScriptError, read_script};
 pub use script::{Script, ScriptKey, Step};
-
-#[cfg(test)]
-mod tests;

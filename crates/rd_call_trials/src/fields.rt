@@ -1,4 +1,6 @@
-use crate::{Items, ReadError, Spelled, Text, TextError};
+//! Single fields as bytes, texts and lists.
+
+use rd_bytes::{Items, ReadError, Spelled, Text, TextError};
 use std::test::Fail;
 
 #[test]

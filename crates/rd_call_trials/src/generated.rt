@@ -1,4 +1,6 @@
-use crate::{generated, generated_text};
+//! Generated scripts and their text.
+
+use rd_generate::{generated, generated_text};
 use rd_script::Step;
 use std::test::Fail;
 

@@ -1,7 +1,9 @@
+//! What a delta log answers.
+
 ghost use Rattle.std.specs.Prelude.{◌≡◌, ◌≤◌, IfSome};
 
-use crate::{DeltaLog, Grouped};
 use rd_counters::{Amount, GCounter, Share};
+use rd_deltalog::{DeltaLog, Grouped};
 use rd_vectors::{Id, Memory, Seq, VersionVector};
 use std::alloc::Global;
 use std::test::Fail;

@@ -1,6 +1,8 @@
-use crate::{Action, Record, meaning};
+//! Meanings of lists of records.
+
 use rd_bytes::Text;
 use rd_kinds::{Kind, Moment, Op, Shown};
+use rd_meaning::{Action, Record, meaning};
 use rd_vectors::{Id, VersionVector};
 use std::alloc::Global;
 use std::test::Fail;

@@ -1,4 +1,6 @@
-use crate::{Level, Progress, Tally, TooFew, needed};
+//! Levels and tallies.
+
+use rd_quorum::{Level, Progress, Tally, TooFew, needed};
 use rd_vectors::Id;
 use std::test::Fail;
 

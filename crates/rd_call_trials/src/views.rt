@@ -1,5 +1,7 @@
-use crate::{View, ViewError, ViewList};
+//! Lists of views.
+
 use rd_vectors::Id;
+use rd_views::{View, ViewError, ViewList};
 use std::alloc::Global;
 use std::test::Fail;
 

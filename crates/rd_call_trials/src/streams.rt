@@ -1,4 +1,6 @@
-use crate::{
+//! Sources and sinks.
+
+use rd_outside::{
     MemorySink, MemorySource, ReadAllError, StdSink, StdSource, WriteFailed, read_all, write_all_of,
 };
 use std::test::Fail;

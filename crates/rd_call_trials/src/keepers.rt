@@ -1,7 +1,9 @@
+//! The keeper in memory.
+
 ghost use Rattle.rd_keeper.specs.Calls.{IsCaused};
 
-use crate::{Keeper, KeeperError, MemoryKeeper, Stored};
 use rd_bytes::{Items, Text};
+use rd_keeper::{Keeper, KeeperError, MemoryKeeper, Stored};
 use std::alloc::Global;
 use std::mem;
 use std::test::Fail;

@@ -1,6 +1,8 @@
-use crate::{ScriptError, Step, read_script};
+//! What is read in scripts, and which rule is told first.
+
 use rd_kinds::Op;
 use rd_quorum::Level;
+use rd_script::{ScriptError, Step, read_script};
 use rd_vectors::Id;
 use std::alloc::Global;
 use std::test::Fail;
