@@ -1,6 +1,5 @@
 pub mod Laws
 pub mod Views
-pub mod Joins
 pub mod Sets
 pub mod Walks
 pub mod Seqs

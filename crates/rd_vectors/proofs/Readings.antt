@@ -128,6 +128,16 @@ pub pairs_all : (number : ℕ → ℕ) (n : ℕ) → n ≡ identity_limit → pa
 unfolding pairs_of
 pairs_all number n e = ap (pairs_below number) e
 
+pairs_on_above : (number : ℕ → ℕ) (n more : ℕ) → ((i : ℕ) → n ≤ i → number i ≡ 0) → pairs_below number (n + more) ≡ pairs_below number n
+pairs_on_above number n zero none = let e : n + 0 ≡ n = omega arith in ap (pairs_below number) e
+pairs_on_above number n (suc more) none = let e : n + suc more ≡ n + more + 1 = omega arith in
+    ap (pairs_below number) e ∙ pairs_zero number (n + more) (none (n + more) (omega arith)) ∙ pairs_on_above number n more none
+
+-- there is no number from the end on
+pub pairs_end : (number : ℕ → ℕ) (n : ℕ) → n ≤ identity_limit → ((i : ℕ) → n ≤ i → number i ≡ 0) → pairs_below number n ≡ pairs_of number
+pairs_end number n few none = let e : n + (identity_limit - n) ≡ identity_limit = omega arith in
+    sym (pairs_on_above number n (identity_limit - n) none) ∙ pairs_all number (n + (identity_limit - n)) e
+
 -- the members among the first identities
 abbrev pub members_below : IdentitySet → ℕ → List ℕ
 members_below set n = filter set (range_with_len 0 n)

@@ -1,4 +1,5 @@
 pub mod Vectors
+pub mod Words
 pub mod Kept
 pub mod IdSets
 pub mod Orders

@@ -7,6 +7,7 @@ mod id_set;
 mod numbers;
 mod reading;
 mod vector;
+mod words;
 
 pub use fields::{read_identity, read_positive};
 pub use id::{Dot, IDENTITIES, Id, Seq};

@@ -1,24 +1,25 @@
-ghost use Rattle.std.specs.Prelude.{◌≡◌, ℕ, ◌≤◌, ◌++◌, length, OnOk, OnErr, IfOk};
+ghost use Rattle.std.specs.Prelude.{◌≡◌, ℕ, ◌≤◌, ◌++◌, length, OnOk, OnErr, IfOk, IfSome, IfNone};
 ghost use Rattle.std.specs.List.{flat_map};
 ghost use Rattle.std.specs.FinMap as map;
 ghost use Rattle.rd_bytes.specs.Fields.{Gives};
 ghost use Rattle.rd_vectors.specs.IdSets.{members_in};
-ghost use Rattle.rd_vectors.specs.Vectors.{IsNormal, number_at, raised, joined, removed};
+ghost use Rattle.rd_history.specs.Table.{identity_limit};
+ghost use Rattle.rd_history.specs.Vector.{Covers};
+ghost use Rattle.rd_vectors.specs.Vectors.{IsNormal, number_at, raised, joined, removed, IsFirstLacking};
 ghost use Rattle.rd_vectors.specs.Spelling.{pairs_of, pair_spelled, numbers_spelled, numbers_in, AreSpellable};
 
-use crate::id::{IDENTITIES, Id};
+use crate::id::Id;
 use crate::id_set::IdSet;
 use crate::reading::read_numbers;
+use crate::words::{first_below, lengthen, raise_each};
 use rd_bytes::{FieldError, Memory};
 use std::alloc::Global;
-use std::collections::BTreeMap;
 use std::marker::Model;
 
 /// A number per identity, 0 where none was set.
 #[derive(Drop)]
 pub struct Numbers {
-    alloc: Global,
-    numbers: BTreeMap<u8, u64>,
+    words: Vec<u64>,
 }
 
 impl Model for Numbers {
@@ -31,11 +32,13 @@ impl Model for Numbers {
 
     ghost coded = { map.code coded_ℕ coded_ℕ };
 
-    ghost use Rattle.rd_vectors.specs.Kept.{AreNumbers};
+    ghost use Rattle.std.specs.Prelude.{◌≤◌, length};
+    ghost use Rattle.rd_history.specs.Table.{identity_limit};
+    ghost use Rattle.rd_vectors.specs.Words.{of_words};
 
-    ghost view = { λ numbers. map.from_entries numbers.numbers.entries };
+    ghost view = { λ numbers. of_words numbers.words.items };
 
-    ghost invariant = { λ numbers. AreNumbers numbers.numbers.entries };
+    ghost invariant = { λ numbers. length numbers.words.items ≤ identity_limit };
 }
 
 impl Numbers {
@@ -44,8 +47,7 @@ impl Numbers {
         ensures { result ≡ map.empty }
     {
         Numbers {
-            alloc,
-            numbers: BTreeMap::new(alloc),
+            words: Vec::new(alloc),
         }
     }
 
@@ -54,7 +56,20 @@ impl Numbers {
         ensures value { result ≡ number_at self.now id }
         ensures normal { IsNormal self.now }
     {
-        self.numbers.get(&id.number()).copied().unwrap_or(0)
+        let index = usize::from(id.number());
+        if index < self.words.len() {
+            self.words[index]
+        } else {
+            0
+        }
+    }
+
+    /// Every identity from this on has no number.
+    pub fn limit(&self) -> u8
+        ensures above { (i : ℕ) → result ≤ i → number_at self.now i ≡ 0 }
+        ensures range { result ≤ identity_limit }
+    {
+        self.words.len() as u8
     }
 
     /// Keeps the greater number.
@@ -63,18 +78,20 @@ impl Numbers {
         ensures ok { OnOk result (self.new ≡ raised self.old id to) }
         ensures err { OnErr result (self.new ≡ self.old) }
     {
-        let number = self.at(id).max(to);
-        match self.numbers.insert(id.number(), number) {
-            Ok(_) => Ok(()),
-            Err(_) => Err(Memory),
-        }
+        let index = usize::from(id.number());
+        lengthen(&mut self.words, index + 1)?;
+        self.words[index] = self.words[index].max(to);
+        Ok(())
     }
 
     /// Drops the number at an identity.
     pub fn without(&mut self, id: Id)
         ensures { self.new ≡ removed self.old id }
     {
-        self.numbers.remove(&id.number());
+        let index = usize::from(id.number());
+        if index < self.words.len() {
+            self.words[index] = 0;
+        }
     }
 
     /// Keeps the greater number at each identity.
@@ -82,17 +99,18 @@ impl Numbers {
         ensures ok { OnOk result (self.new ≡ joined self.old other.now) }
         ensures err { OnErr result (self.new ≡ self.old) }
     {
-        let mut joined = self.copy(self.alloc)?;
-        for number in 0..IDENTITIES {
-            if let Some(id) = Id::new(number) {
-                let seq = other.at(id);
-                if seq > 0 {
-                    joined.raise(id, seq)?;
-                }
-            }
-        }
-        *self = joined;
+        lengthen(&mut self.words, other.words.len())?;
+        raise_each(self.words.as_mut_slice(), other.words.as_slice());
         Ok(())
+    }
+
+    /// The least identity at which there is a lower number than is needed.
+    pub(crate) fn first_lacking(&self, needs: &Numbers) -> Option<Id>
+        ensures none { IfNone result (Covers (number_at self.now) (number_at needs.now)) }
+        ensures some { IfSome result (IsFirstLacking self.now needs.now) }
+    {
+        let index = first_below(self.words.as_slice(), needs.words.as_slice())?;
+        Id::new(index as u8)
     }
 
     /// Equal numbers.
@@ -100,10 +118,8 @@ impl Numbers {
         ensures same { IfOk result (λ copy. copy ≡ self.now) }
         ensures normal { IsNormal self.now }
     {
-        match self.numbers.clone() {
-            Ok(numbers) => Ok(Numbers { alloc, numbers }),
-            Err(_) => Err(Memory),
-        }
+        let words = Vec::from_slice(alloc, self.words.as_slice())?;
+        Ok(Numbers { words })
     }
 
     /// How many identities have a number.
@@ -111,11 +127,9 @@ impl Numbers {
         ensures { result ≡ length (pairs_of (number_at self.now)) }
     {
         let mut count = 0;
-        for number in 0..IDENTITIES {
-            if let Some(id) = Id::new(number) {
-                if self.at(id) > 0 {
-                    count += 1;
-                }
+        for word in self.words.iter() {
+            if *word > 0 {
+                count += 1;
             }
         }
         count
@@ -125,13 +139,10 @@ impl Numbers {
     fn spell_pairs(&self, into: &mut Vec<u8>) -> Result<(), Memory>
         ensures ok { OnOk result (into.new.items ≡ into.old.items ++ flat_map pair_spelled (pairs_of (number_at self.now))) }
     {
-        for number in 0..IDENTITIES {
-            if let Some(id) = Id::new(number) {
-                let value = self.at(id);
-                if value > 0 {
-                    into.push(number)?;
-                    into.extend_from_slice(&value.to_be_bytes())?;
-                }
+        for (index, word) in self.words.iter().enumerate() {
+            if *word > 0 {
+                into.push(index as u8)?;
+                into.extend_from_slice(&word.to_be_bytes())?;
             }
         }
         Ok(())

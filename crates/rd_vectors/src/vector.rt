@@ -1,5 +1,6 @@
 ghost use Rattle.std.specs.Prelude.{◌≡◌, ℕ, ◌<◌, ◌≤◌, ◌^◌, ◌++◌, ◌↔◌, IsTrue, IsSome, IfSome, IfNone, OnOk, OnErr, IfOk};
 ghost use Rattle.std.specs.FinMap as map;
+ghost use Rattle.rd_history.specs.Table.{identity_limit};
 ghost use Rattle.rd_history.specs.Vector.{Covers};
 ghost use Rattle.rd_vectors.specs.Vectors.{IsNormal, number_at, raised, joined, removed, IsFirstLacking};
 ghost use Rattle.rd_vectors.specs.Orders.{reaches, is_reached};
@@ -7,7 +8,7 @@ ghost use Rattle.rd_bytes.specs.Fields.{Gives};
 ghost use Rattle.rd_vectors.specs.IdSets.{members_in};
 ghost use Rattle.rd_vectors.specs.Spelling.{numbers_spelled, numbers_in, AreSpellable};
 
-use crate::id::{Dot, IDENTITIES, Id, Seq};
+use crate::id::{Dot, Id, Seq};
 use crate::id_set::IdSet;
 use crate::numbers::Numbers;
 use rd_bytes::{FieldError, Memory};
@@ -67,6 +68,14 @@ impl VersionVector {
         ensures normal { IsNormal self.now }
     {
         self.numbers.at(id)
+    }
+
+    /// Every identity from this on has no record.
+    pub fn limit(&self) -> u8
+        ensures above { (i : ℕ) → result ≤ i → number_at self.now i ≡ 0 }
+        ensures range { result ≤ identity_limit }
+    {
+        self.numbers.limit()
     }
 
     /// Keeps the greater number.
@@ -130,15 +139,7 @@ impl VersionVector {
         ensures none { IfNone result (Covers (number_at self.now) (number_at needs.now)) }
         ensures some { IfSome result (IsFirstLacking self.now needs.now) }
     {
-        let _few = &needs.numbers;
-        for number in 0..IDENTITIES {
-            if let Some(id) = Id::new(number) {
-                if self.at(id) < needs.at(id) {
-                    return Some(id);
-                }
-            }
-        }
-        None
+        self.numbers.first_lacking(&needs.numbers)
     }
 
     /// An equal vector.
