@@ -1,3 +1,4 @@
 pub mod MarkTexts
+pub mod Quoted
 pub mod Ranges
 pub mod Records

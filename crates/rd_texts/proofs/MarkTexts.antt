@@ -1,11 +1,10 @@
 -- The marks of an envelope are told as those of the entry that it stands for.
-use Rattle.std.proofs.Common.{◌≡◌, ℕ, List, [], ◌∷◌, ◌++◌, false, Option, Some, None, refl, sym, ap, ◌∙◌}
+use Rattle.std.proofs.Common.{◌≡◌, ℕ, List, [], ◌∷◌, false, Option, Some, None, refl, sym, ap, ◌∙◌}
 use Rattle.std.specs.Prelude.{filter_map, option_map}
 use Rattle.rd_history.specs.Table.{identities}
 use Rattle.rd_history.specs.Vector.{VersionVector, IdentitySet}
 use Rattle.rd_history.specs.History.{History, Stamped, prune_of}
 use Rattle.rd_model.specs.Entry.{Entry}
-use Rattle.std.specs.Prelude.{codes, decimal}
 use Rattle.std.specs.List.{cons_option}
 use Rattle.rd_model.specs.Report.{mark_text, initialized_text, marks_text, words_or_dash}
 use Rattle.rd_markers.specs.declared.marker.Marker.{Marker}

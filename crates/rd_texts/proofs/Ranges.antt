@@ -1,5 +1,5 @@
 -- Ranges that grow at their end, and words of them.
-use Rattle.std.proofs.Common.{◌≡◌, ℕ, zero, suc, ◌+◌, ◌<◌, List, [], ◌∷◌, ◌++◌, length, take, get_or, map, filter, Bool, true, false, cond, not, ◌==◌, decimal, codes, ◌≤◌, String, Global, string_bytes, refl, sym, ap, ◌∙◌, arith, add-one, append_assoc}
+use Rattle.std.proofs.Common.{◌≡◌, ℕ, zero, suc, ◌+◌, ◌<◌, List, [], ◌∷◌, ◌++◌, length, take, get_or, map, filter, Bool, true, false, cond, not, ◌==◌, decimal, codes, ◌≤◌, String, Global, string_bytes, refl, sym, ap, ◌∙◌, arith, append_assoc}
 use Rattle.std.specs.List.{range_with_len, join_with_byte, cons_option}
 use Rattle.std.specs.Prelude.{filter_map, Option, Some, None}
 use Rattle.std.proofs.lemmas.List.{take_more, map-append, append-nil, length-map, length-take}
@@ -35,16 +35,17 @@ join_more c [] x l = absurd (omega arith)
 join_more c (y ∷ []) x l = refl
 join_more c (y ∷ z ∷ ys) x l = ap (λ v. y ++ (c ∷ v)) (join_more c (z ∷ ys) x (omega arith)) ∙ sym (append_assoc y (c ∷ join_with_byte c (z ∷ ys)) (c ∷ x))
 
-pub first_word : (c i : ℕ) (ws : List (String Global)) (w : String Global) → i ≡ 0 → i < length ws → w ≡ get_or ws i w → join_with_byte c (map string_bytes (take (i + 1) ws)) ≡ string_bytes w
-first_word c i ws w none h is =
-    rw (take_more ws i w h, none) (let e : w ≡ get_or ws 0 w = (rw none at is) in ap string_bytes (sym e))
+-- the words so far, where a word is what an item is told as
+module _ {X : Type 0} (f : X → List ℕ) (c i : ℕ) (ws : List X) (w : X) where
+  pub first_word : i ≡ 0 → i < length ws → w ≡ get_or ws i w → join_with_byte c (map f (take (i + 1) ws)) ≡ f w
+  first_word none h is =
+      rw (take_more ws i w h, none) (let e : w ≡ get_or ws 0 w = (rw none at is) in ap f (sym e))
 
-pub next_word : (c i : ℕ) (ws : List (String Global)) (w : String Global) → 0 < i → i < length ws → w ≡ get_or ws i w
-    → join_with_byte c (map string_bytes (take (i + 1) ws)) ≡ join_with_byte c (map string_bytes (take i ws)) ++ (c ∷ string_bytes w)
-next_word c i ws w some h is =
-    ap (λ xs. join_with_byte c (map string_bytes xs)) (take_more ws i w h) ∙ ap (join_with_byte c) (map-append string_bytes (take i ws) (get_or ws i w ∷ []))
-    ∙ join_more c (map string_bytes (take i ws)) (string_bytes (get_or ws i w)) (simp (length-map, length-take) (omega arith))
-    ∙ ap (λ x. join_with_byte c (map string_bytes (take i ws)) ++ (c ∷ string_bytes x)) (sym is)
+  pub next_word : 0 < i → i < length ws → w ≡ get_or ws i w → join_with_byte c (map f (take (i + 1) ws)) ≡ join_with_byte c (map f (take i ws)) ++ (c ∷ f w)
+  next_word some h is =
+      ap (λ xs. join_with_byte c (map f xs)) (take_more ws i w h) ∙ ap (join_with_byte c) (map-append f (take i ws) (get_or ws i w ∷ []))
+      ∙ join_more c (map f (take i ws)) (f (get_or ws i w)) (simp (length-map, length-take) (omega arith))
+      ∙ ap (λ x. join_with_byte c (map f (take i ws)) ++ (c ∷ f x)) (sym is)
 
 pub grown_word : (start before then_ after separator joined word : List ℕ) (byte : ℕ) → before ≡ start ++ joined → then_ ≡ before ++ separator → separator ≡ byte ∷ [] → after ≡ then_ ++ word → after ≡ start ++ (joined ++ (byte ∷ word))
 grown_word start before then_ after separator joined word byte e f g h =
@@ -54,8 +55,8 @@ pub some_words : (ws : List (String Global)) → false ≡ (length ws == 0) → 
 some_words [] e = absurd (cc e)
 some_words (w ∷ ws) e = refl
 
-pub first_before : (start text : List ℕ) (c i : ℕ) (ws : List (String Global)) → i ≡ 0 → text ≡ start ++ join_with_byte c (map string_bytes (take i ws)) → text ≡ start
-first_before start text c i ws none e = (rw none at e) ∙ append-nil start
+pub first_before : {X : Type 0} (f : X → List ℕ) (start text : List ℕ) (c i : ℕ) (ws : List X) → i ≡ 0 → text ≡ start ++ join_with_byte c (map f (take i ws)) → text ≡ start
+first_before f start text c i ws none e = (rw none at e) ∙ append-nil start
 
 pub range_end : (count : ℕ) → count ≡ identity_limit → range_with_len 0 count ≡ identities
 range_end count e = ap (range_with_len 0) e

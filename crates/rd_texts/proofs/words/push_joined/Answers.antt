@@ -16,9 +16,9 @@ loop-i-preserved c = λ byte is.
       | then-i-gt0+in_ok-push_str w ↦
           grown_word start (string_bytes c.loop-i.text) (string_bytes c.if-i-gt0.text) _ c.args.separator.now (join_with_byte byte (map string_bytes (take i ws))) (string_bytes word) byte (c.loop-i.invariant byte is)
           (ap string_bytes w.text-is ∙ w.in_ok-push_str.ensures.bytes) is (c.in_ok-push_str-2.ensures.bytes ∙ word_is)
-          ∙ ap (λ t. start ++ t) (sym (next_word byte i ws word w.if-i-gt0.true here c.index-words-i.is))
+          ∙ ap (λ t. start ++ t) (sym (next_word string_bytes byte i ws word w.if-i-gt0.true here c.index-words-i.is))
       | else-i-gt0 w ↦
           let none : i ≡ 0 = omega (arith, w.if-i-gt0.false) in
-          c.in_ok-push_str-2.ensures.bytes ∙ word_is ∙ ap (λ t. t ++ string_bytes word) (ap string_bytes w.text-is ∙ first_before start (string_bytes c.loop-i.text) byte i ws none (c.loop-i.invariant byte is))
-          ∙ ap (λ t. start ++ t) (sym (first_word byte i ws word none here c.index-words-i.is))
+          c.in_ok-push_str-2.ensures.bytes ∙ word_is ∙ ap (λ t. t ++ string_bytes word) (ap string_bytes w.text-is ∙ first_before string_bytes start (string_bytes c.loop-i.text) byte i ws none (c.loop-i.invariant byte is))
+          ∙ ap (λ t. start ++ t) (sym (first_word string_bytes byte i ws word none here c.index-words-i.is))
     ]
