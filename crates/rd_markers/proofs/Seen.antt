@@ -3,8 +3,8 @@ use Rattle.rd_history.specs.Table.{identity_limit}
 use Rattle.std.proofs.Common.{◌≡◌, ◌≢◌, ℕ, ◌+◌, ◌≤◌, ◌<◌, Bool, true, false, ◌||◌, None, arith, refl, ap, sym, ◌∙◌, subst, ⊎_elim}
 use Rattle.std.specs.List.{list_any, range_with_len}
 use Rattle.std.proofs.lemmas.Bool.{cases_eq, cases_lt}
-use Rattle.rd_vectors.proofs.Walks.{any_more}
-use Rattle.rd_markers.specs.Marks.{Marks, mark_of, marker_seen_by, is_unseen_by}
+use Rattle.rd_vectors.proofs.Walks.{any_more, any_end}
+use Rattle.rd_markers.specs.Marks.{Marks, mark_of, marker_seen_by, is_unseen_by, has_unseen_by}
 
 pub record IsSeenBelow (id view : ℕ) (start marks : Marks) (changed : Bool) (count : ℕ) : Type 0 where
   pub below : (r : ℕ) → r < count → mark_of marks r ≡ marker_seen_by id view (mark_of start r)
@@ -36,7 +36,11 @@ pub or_false : (b c : Bool) → c ≡ false → b ≡ (b || c)
 or_false true c e = refl
 or_false false c e = sym e
 
-pub seen_all : (id view : ℕ) (start marks : Marks) (changed : Bool) (count : ℕ) → identity_limit ≤ count → ((r : ℕ) → identity_limit ≤ r → mark_of start r ≡ None) → IsSeenBelow id view start marks changed count
+pub seen_all : (id view : ℕ) (start marks : Marks) (changed : Bool) (count : ℕ) → ((r : ℕ) → count ≤ r → mark_of start r ≡ None) → IsSeenBelow id view start marks changed count
     → (r : ℕ) → mark_of marks r ≡ marker_seen_by id view (mark_of start r)
-seen_all id view start marks changed count l none h r = ⊎_elim (λ (b : r < count). h.below r b)
-    (λ (a : count ≤ r). h.above r a ∙ none r (omega arith) ∙ sym (ap (marker_seen_by id view) (none r (omega arith)))) (cases_lt r count)
+seen_all id view start marks changed count none h r = ⊎_elim (λ (b : r < count). h.below r b)
+    (λ (a : count ≤ r). h.above r a ∙ none r a ∙ sym (ap (marker_seen_by id view) (none r a))) (cases_lt r count)
+
+pub seen_any : (id view : ℕ) (start marks : Marks) (changed : Bool) (count : ℕ) → count ≤ identity_limit → ((r : ℕ) → count ≤ r → mark_of start r ≡ None) → IsSeenBelow id view start marks changed count → changed ≡ has_unseen_by id view start
+unfolding has_unseen_by
+seen_any id view start marks changed count few none h = h.any ∙ any_end (λ r. is_unseen_by id view (mark_of start r)) count few (λ r l. ap (is_unseen_by id view) (none r l))

@@ -15,7 +15,7 @@ use Rattle.rd_bytes.specs.Fields.{◌>>=◌, Fails, Gives}
 use Rattle.rd_bytes.specs.Spelling.{AreBytes}
 use Rattle.rd_vectors.specs.IdSets.{members_in, member_count}
 use Rattle.rd_vectors.specs.Spelling.{IsSomeSet}
-use Rattle.rd_vectors.proofs.Walks.{range_more}
+use Rattle.rd_vectors.proofs.Walks.{range_more, filter_map_end}
 use Rattle.rd_vectors.proofs.Sets.{members_in-zero, same_members}
 use Rattle.rd_markers.specs.declared.marker.Marker.{Marker}
 use Rattle.rd_markers.specs.declared.marker.Marker.TheVariants.{Initialized, Performed}
@@ -63,9 +63,9 @@ marks_done least count i marks bytes total le so_far =
 abbrev pub pieces_in : Marks → ℕ → List (List ℕ)
 pieces_in marks limit = filter_map (piece_of marks) (range_with_len 0 limit)
 
-pub pieces_all : (marks : Marks) (n : ℕ) → n ≡ identity_limit → pieces_in marks n ≡ all_pieces marks
+pub pieces_all : (marks : Marks) (n : ℕ) → n ≤ identity_limit → ((q : ℕ) → n ≤ q → mark_of marks q ≡ None) → pieces_in marks n ≡ all_pieces marks
 unfolding all_pieces
-pieces_all marks n e = ap (pieces_in marks) e
+pieces_all marks n few none = filter_map_end (piece_of marks) n few (λ q l. ap (option_map (mark_spelled q)) (none q l))
 
 pub spelled_pieces : (marks : Marks) → marks_spelled marks ≡ length (all_pieces marks) ∷ flat_map (λ (bytes : List ℕ). bytes) (all_pieces marks)
 unfolding all_pieces marks_spelled
@@ -119,13 +119,13 @@ each_same marks n none each q x lt e = ⊎_elim
 
 -- THE PRUNED IDENTITIES
 
-pub ids_are : (marks : Marks) (ids n : ℕ) → n ≡ identity_limit → ((q : ℕ) → identity_limit ≤ q → mark_of marks q ≡ None) → ((i : ℕ) → members_in ids i ≡ (nat_lt i n && performed_in marks i)) → members_in ids ≡ performed_in marks
-ids_are marks ids n all few each = λ j i. each_is i j
+pub ids_are : (marks : Marks) (ids n : ℕ) → ((q : ℕ) → n ≤ q → mark_of marks q ≡ None) → ((i : ℕ) → members_in ids i ≡ (nat_lt i n && performed_in marks i)) → members_in ids ≡ performed_in marks
+ids_are marks ids n few each = λ j i. each_is i j
   where
     each_is : (i : ℕ) → members_in ids i ≡ performed_in marks i
     each_is i = ⊎_elim
-        (λ (l : i < identity_limit). each i ∙ ap (λ (b : Bool). b && performed_in marks i) (lt-ltb i n (omega arith)))
-        (λ (l : identity_limit ≤ i). each i ∙ ap (λ (b : Bool). b && performed_in marks i) (le-ltb i n (omega arith)) ∙ sym (ap is_performed (few i l))) (cases_lt i identity_limit)
+        (λ (l : i < n). each i ∙ ap (λ (b : Bool). b && performed_in marks i) (lt-ltb i n l))
+        (λ (l : n ≤ i). each i ∙ ap (λ (b : Bool). b && performed_in marks i) (le-ltb i n l) ∙ sym (ap is_performed (few i l))) (cases_lt i n)
 
 -- one more identity looked at
 below_more : (i n : ℕ) → i ≢ n → nat_lt i (n + 1) ≡ nat_lt i n
@@ -182,12 +182,12 @@ on_ok (Ok x) p = p
 on_ok (Err e) p = tt
 
 -- identities alone have marks, and each mark can be spelled
-pub all_spellable : (marks : Marks) (n : ℕ) → n ≡ identity_limit → ((q : ℕ) → identity_limit ≤ q → mark_of marks q ≡ None) → ((q : ℕ) (m : Marker) → q < n → mark_of marks q ≡ Some m → IsSpellable m) → AreSpellable marks
-all_spellable marks n all few each = record {
-  few = few;
+pub all_spellable : (marks : Marks) (n : ℕ) → n ≤ identity_limit → ((q : ℕ) → n ≤ q → mark_of marks q ≡ None) → ((q : ℕ) (m : Marker) → q < n → mark_of marks q ≡ Some m → IsSpellable m) → AreSpellable marks
+all_spellable marks n small none each = record {
+  few = λ q l. none q (omega arith);
   each = λ q m e. ⊎_elim
-      (λ (l : q < identity_limit). each q m (omega arith) e)
-      (λ (l : identity_limit ≤ q). absurd (let no : None ≡ Some m = sym (few q l) ∙ e in cc no)) (cases_lt q identity_limit);
+      (λ (l : q < n). each q m l e)
+      (λ (l : n ≤ q). absurd (let no : None ≡ Some m = sym (none q l) ∙ e in cc no)) (cases_lt q n);
 }
 
 -- how many they are, and each of them

@@ -1,4 +1,4 @@
-ghost use Rattle.std.specs.Prelude.{◌≡◌, ℕ, is_some, IsSome, IfSome, IfNone, Some, IfOk, OnOk, OnErr, ◌≤◌};
+ghost use Rattle.std.specs.Prelude.{◌≡◌, ◌↔◌, ℕ, false, IsTrue, is_some, IsSome, IfSome, IfNone, Some, IfOk, OnOk, OnErr, ◌≤◌};
 ghost use Rattle.std.specs.FinMap as map;
 ghost use Rattle.rd_history.specs.Table.{identity_limit};
 ghost use Rattle.rd_model.specs.Entry.{Mark, is_same_mark, unseen};
@@ -6,7 +6,7 @@ ghost use Rattle.rd_markers.specs.Kept.{IsMark};
 ghost use Rattle.rd_markers.specs.Marks.{mark_of, merged_option, performed_in, begun, marker_seen_by, is_unseen_by, has_unseen_by, MergesTo};
 
 use crate::marker::Marker;
-use rd_vectors::{IDENTITIES, Id, Memory};
+use rd_vectors::{Id, Memory};
 use std::alloc::Global;
 use std::collections::BTreeMap;
 use std::marker::Model;
@@ -57,6 +57,24 @@ impl Markers {
         self.marks.get(&removed.number()).copied()
     }
 
+    /// Whether no identity has a mark.
+    pub fn is_empty(&self) -> bool
+        ensures { IsTrue result ↔ (self.now ≡ map.empty) }
+    {
+        self.marks.is_empty()
+    }
+
+    /// No identity from this on has a mark.
+    pub fn limit(&self) -> u8
+        ensures above { (id : ℕ) → result ≤ id → mark_of self.now id ≡ None }
+        ensures range { result ≤ identity_limit }
+    {
+        match self.marks.last_key_value() {
+            Some((last, _)) => *last + 1,
+            None => 0,
+        }
+    }
+
     /// Whether the identity was pruned.
     pub fn performed(&self, removed: Id) -> bool
         ensures value { result ≡ performed_in self.now removed }
@@ -66,6 +84,34 @@ impl Markers {
             Some(Marker::Performed { .. }) => true,
             _ => false,
         }
+    }
+
+    /// Whether the same identities were pruned.
+    pub fn same_performed(&self, other: &Markers) -> bool
+        ensures { IsTrue result ↔ ((id : ℕ) → performed_in self.now id ≡ performed_in other.now id) }
+    {
+        for number in 0..self.limit().max(other.limit()) {
+            if let Some(id) = Id::new(number) {
+                if self.performed(id) != other.performed(id) {
+                    return false;
+                }
+            }
+        }
+        true
+    }
+
+    /// Whether a mark was begun, and not performed.
+    pub fn has_begun(&self) -> bool
+        ensures { (result ≡ false) ↔ ((id : ℕ) → begun (mark_of self.now id) ≡ None) }
+    {
+        for number in 0..self.limit() {
+            if let Some(id) = Id::new(number) {
+                if is_begun(self.get(id)) {
+                    return true;
+                }
+            }
+        }
+        false
     }
 
     /// Sets the mark of an identity.
@@ -96,9 +142,8 @@ impl Markers {
         ensures marks { (r : ℕ) → mark_of self.new r ≡ marker_seen_by id view (mark_of self.old r) }
         ensures changed { result ≡ has_unseen_by id view self.old }
     {
-        let _few = &self.marks;
         let mut changed = false;
-        for number in 0..IDENTITIES {
+        for number in 0..self.limit() {
             if let Some(removed) = Id::new(number) {
                 if self.add_seen_at(removed, id, view) {
                     changed = true;
@@ -154,9 +199,11 @@ impl Markers {
         ensures ok { OnOk result (MergesTo self.old other.now self.new) }
         ensures err { OnErr result (self.new ≡ self.old) }
     {
-        let _few = &other.marks;
+        if other.is_empty() {
+            return Ok(());
+        }
         let mut merged = self.copy(self.alloc)?;
-        for number in 0..IDENTITIES {
+        for number in 0..other.limit() {
             if let Some(id) = Id::new(number) {
                 if let Some(marker) = other.get(id) {
                     let both = merged_with(self.get(id), marker);
@@ -166,6 +213,15 @@ impl Markers {
         }
         *self = merged;
         Ok(())
+    }
+}
+
+fn is_begun(marker: Option<Marker>) -> bool
+    ensures { (result ≡ false) ↔ (begun marker ≡ None) }
+{
+    match marker {
+        Some(marker) => !marker.is_performed(),
+        None => false,
     }
 }
 

@@ -173,9 +173,8 @@ impl Markers {
     pub fn performed_ids(&self) -> IdSet
         ensures { members_in result ≡ performed_in self.now }
     {
-        let _few = &self.marks;
         let mut ids = IdSet::empty();
-        for number in 0..IDENTITIES {
+        for number in 0..self.limit() {
             if let Some(id) = Id::new(number) {
                 if self.performed(id) {
                     ids = ids.with(id);
@@ -190,7 +189,7 @@ impl Markers {
         ensures { result ≡ length (all_pieces self.now) }
     {
         let mut count = 0;
-        for number in 0..IDENTITIES {
+        for number in 0..self.limit() {
             if let Some(id) = Id::new(number) {
                 if let Some(_marker) = self.get(id) {
                     count += 1;
@@ -205,8 +204,7 @@ impl Markers {
         ensures sound { OnOk result (AreSpellable self.now) }
         ensures ok { OnOk result (into.new.items ≡ into.old.items ++ flat_map (λ bytes. bytes) (all_pieces self.now)) }
     {
-        let _few = &self.marks;
-        for number in 0..IDENTITIES {
+        for number in 0..self.limit() {
             if let Some(id) = Id::new(number) {
                 if let Some(marker) = self.get(id) {
                     spell_mark(id, marker, into)?;

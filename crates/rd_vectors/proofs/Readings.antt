@@ -16,7 +16,7 @@ use Rattle.rd_vectors.specs.Vectors.{Numbers, raised}
 use Rattle.rd_vectors.specs.Fields.{identity_in, positive_in}
 use Rattle.rd_vectors.specs.IdSets.{member_count}
 use Rattle.rd_vectors.specs.Spelling.{ids_spelled, pair_unless_zero, pair_at, pairs_of, pair_in, pairs_in, raised_by, nobody, members_from, added_by}
-use Rattle.rd_vectors.proofs.Walks.{range_more}
+use Rattle.rd_vectors.proofs.Walks.{range_more, filter_map_end}
 
 -- PAIRS
 
@@ -124,19 +124,10 @@ pairs_few number first (suc n) = go (number first) (pairs_few number (first + 1)
     go zero few = omega arith
     go (suc k) few = omega arith
 
-pub pairs_all : (number : ℕ → ℕ) (n : ℕ) → n ≡ identity_limit → pairs_below number n ≡ pairs_of number
-unfolding pairs_of
-pairs_all number n e = ap (pairs_below number) e
-
-pairs_on_above : (number : ℕ → ℕ) (n more : ℕ) → ((i : ℕ) → n ≤ i → number i ≡ 0) → pairs_below number (n + more) ≡ pairs_below number n
-pairs_on_above number n zero none = let e : n + 0 ≡ n = omega arith in ap (pairs_below number) e
-pairs_on_above number n (suc more) none = let e : n + suc more ≡ n + more + 1 = omega arith in
-    ap (pairs_below number) e ∙ pairs_zero number (n + more) (none (n + more) (omega arith)) ∙ pairs_on_above number n more none
-
 -- there is no number from the end on
 pub pairs_end : (number : ℕ → ℕ) (n : ℕ) → n ≤ identity_limit → ((i : ℕ) → n ≤ i → number i ≡ 0) → pairs_below number n ≡ pairs_of number
-pairs_end number n few none = let e : n + (identity_limit - n) ≡ identity_limit = omega arith in
-    sym (pairs_on_above number n (identity_limit - n) none) ∙ pairs_all number (n + (identity_limit - n)) e
+unfolding pairs_of
+pairs_end number n few none = filter_map_end (pair_at number) n few (λ i l. ap (pair_unless_zero i) (none i l))
 
 -- the members among the first identities
 abbrev pub members_below : IdentitySet → ℕ → List ℕ

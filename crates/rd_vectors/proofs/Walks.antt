@@ -1,8 +1,10 @@
 -- Going over the identities, from 0 up.
-use Rattle.std.proofs.Common.{rules, nat_lt, Some, None, find, ◌≤◌, cond, List, not, inl, inr, ◌≡◌, ℕ, zero, suc, ◌+◌, ◌<◌, Bool, true, false, ◌&&◌, ◌||◌, [], ◌∷◌, ◌++◌, arith, refl, ap, sym, ◌∙◌, ⊎_elim}
-use Rattle.std.specs.List.{range_with_len, list_any, list_all}
+use Rattle.std.proofs.Common.{rules, nat_lt, Option, Some, None, find, ◌≤◌, cond, List, not, inl, inr, ◌≡◌, ℕ, zero, suc, ◌+◌, ◌-◌, ◌<◌, Bool, true, false, ◌&&◌, ◌||◌, [], ◌∷◌, ◌++◌, arith, refl, ap, sym, ◌∙◌, ⊎_elim}
+use Rattle.std.specs.List.{range_with_len, list_any, list_all, filter_map, cons_option}
 use Rattle.std.proofs.lemmas.Bool.{cases_eq, cases_Bool, or_left, or_right, and_from, lt-ltb, le-ltb, and_parts}
+use Rattle.std.proofs.lemmas.List.{append-nil}
 use Rattle.std.proofs.lemmas.List.Folds.{list_any-append, list_all-append}
+use Rattle.std.proofs.lemmas.List.Elements.{filter_map-append}
 use mathlib.Core.Bool.{or-false, and-true}
 use Rattle.rd_history.specs.Vector.{VersionVector, first_lacking}
 use Rattle.rd_history.specs.Table.{identity_limit, identities}
@@ -112,3 +114,38 @@ lacking_first vector needs id l lacks others = find_first (λ i. nat_lt (vector 
 
 pub lacking_none : (vector needs : VersionVector) → ((i : ℕ) → i < identity_limit → needs i ≤ vector i) → first_lacking vector needs ≡ None
 lacking_none vector needs covers = find_none (λ i. nat_lt (vector i) (needs i)) (λ i l. le-ltb (vector i) (needs i) (covers i l))
+
+-- A WALK THAT ENDS BEFORE THE LAST IDENTITY, where nothing follows
+
+past : (n more : ℕ) → n + suc more ≡ n + more + 1
+past n more = omega arith
+
+filter_map_past : {X : Type 0} (f : ℕ → Option X) (n more : ℕ) → ((i : ℕ) → n ≤ i → f i ≡ None) → filter_map f (range_with_len 0 (n + more)) ≡ filter_map f (range_with_len 0 n)
+filter_map_past f n zero none = let e : n + 0 ≡ n = omega arith in ap (λ m. filter_map f (range_with_len 0 m)) e
+filter_map_past f n (suc more) none =
+    ap (λ m. filter_map f (range_with_len 0 m)) (past n more) ∙ ap (filter_map f) (counted_more (n + more)) ∙ filter_map-append f (range_with_len 0 (n + more)) ((n + more) ∷ [])
+    ∙ ap (λ o. filter_map f (range_with_len 0 (n + more)) ++ cons_option o []) (none (n + more) (omega arith)) ∙ append-nil (filter_map f (range_with_len 0 (n + more))) ∙ filter_map_past f n more none
+
+any_past : (test : ℕ → Bool) (n more : ℕ) → ((i : ℕ) → n ≤ i → test i ≡ false) → list_any test (range_with_len 0 (n + more)) ≡ list_any test (range_with_len 0 n)
+any_past test n zero none = let e : n + 0 ≡ n = omega arith in ap (λ m. list_any test (range_with_len 0 m)) e
+any_past test n (suc more) none =
+    ap (λ m. list_any test (range_with_len 0 m)) (past n more) ∙ any_more test (n + more)
+    ∙ ap (λ b. list_any test (range_with_len 0 (n + more)) || b) (none (n + more) (omega arith)) ∙ or-false (list_any test (range_with_len 0 (n + more))) ∙ any_past test n more none
+
+all_past : (test : ℕ → Bool) (n more : ℕ) → ((i : ℕ) → n ≤ i → test i ≡ true) → list_all test (range_with_len 0 (n + more)) ≡ list_all test (range_with_len 0 n)
+all_past test n zero holds = let e : n + 0 ≡ n = omega arith in ap (λ m. list_all test (range_with_len 0 m)) e
+all_past test n (suc more) holds =
+    ap (λ m. list_all test (range_with_len 0 m)) (past n more) ∙ all_more test (n + more)
+    ∙ ap (λ b. list_all test (range_with_len 0 (n + more)) && b) (holds (n + more) (omega arith)) ∙ and-true (list_all test (range_with_len 0 (n + more))) ∙ all_past test n more holds
+
+pub filter_map_end : {X : Type 0} (f : ℕ → Option X) (n : ℕ) → n ≤ identity_limit → ((i : ℕ) → n ≤ i → f i ≡ None) → filter_map f (range_with_len 0 n) ≡ filter_map f identities
+filter_map_end f n few none = let e : n + (identity_limit - n) ≡ identity_limit = omega arith in
+    sym (filter_map_past f n (identity_limit - n) none) ∙ ap (λ m. filter_map f (range_with_len 0 m)) e
+
+pub any_end : (test : ℕ → Bool) (n : ℕ) → n ≤ identity_limit → ((i : ℕ) → n ≤ i → test i ≡ false) → list_any test (range_with_len 0 n) ≡ list_any test identities
+any_end test n few none = let e : n + (identity_limit - n) ≡ identity_limit = omega arith in
+    sym (any_past test n (identity_limit - n) none) ∙ ap (λ m. list_any test (range_with_len 0 m)) e
+
+pub all_end : (test : ℕ → Bool) (n : ℕ) → n ≤ identity_limit → ((i : ℕ) → n ≤ i → test i ≡ true) → list_all test (range_with_len 0 n) ≡ list_all test identities
+all_end test n few holds = let e : n + (identity_limit - n) ≡ identity_limit = omega arith in
+    sym (all_past test n (identity_limit - n) holds) ∙ ap (λ m. list_all test (range_with_len 0 m)) e

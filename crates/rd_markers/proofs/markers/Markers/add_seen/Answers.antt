@@ -1,9 +1,6 @@
 use Rattle.std.proofs.Common.{◌≡◌, ◌+◌, ap, sym, ◌∙◌, subst, subst₂, arith, true}
-use Rattle.std.specs.List.{list_any, range_with_len}
-use Rattle.rd_history.specs.Table.{identity_limit}
-use Rattle.rd_markers.specs.Marks.{mark_of, is_unseen_by, marker_seen_by, has_unseen_by}
-use Rattle.rd_markers.proofs.Seen.{IsSeenBelow, seen_one, seen_all, or_true, or_false}
-use Rattle.rd_markers.proofs.Views.{get_view}
+use Rattle.rd_markers.specs.Marks.{mark_of, is_unseen_by, marker_seen_by}
+use Rattle.rd_markers.proofs.Seen.{IsSeenBelow, seen_one, seen_all, seen_any, or_true, or_false}
 use Rattle.rd_markers.proofs.markers.Markers.add_seen.Goals as goal
 use Rattle.rd_markers.proofs.markers.Markers.add_seen.Goals.{in-Some+then-add_seen_at, in-Some+else-add_seen_at, in_default}
 
@@ -19,15 +16,11 @@ loop-number-preserved c = elim c.match-new.branch [
       (subst (λ k. mark_of w.add_seen_at.new.self k ≡ marker_seen_by c.args.id c.args.view (mark_of c.loop-number.self k)) w.in-Some.ensures.value w.add_seen_at.ensures.here)
       (λ r ne. w.add_seen_at.ensures.others r (λ e. ne (e ∙ w.in-Some.ensures.value)))
       (or_false _ _ (ap (λ k. is_unseen_by c.args.id c.args.view (mark_of c.loop-number.self k)) (sym w.in-Some.ensures.value) ∙ sym w.add_seen_at.ensures.changed ∙ w.if-add_seen_at.false)) c.loop-number.invariant)
-  | in_default w ↦ absurd (let no = w.in_default.ensures.variant.1 c.loop-number-test.true in cc)
+  | in_default w ↦ absurd (let no = w.in_default.ensures.variant.1 (omega arith) in cc)
 ]
 
 pub returns-clause-marks : goal.returns-clause-marks
-returns-clause-marks c = seen_all _ _ _ _ _ c.loop-number.number c.loop-number-test.false
-    (λ q l. ap (λ m. mark_of m q) (sym c.self.view_is) ∙ get_view c.self.inside.marks.entries q ∙ c.self.invariant.few q l) c.loop-number.invariant
+returns-clause-marks c = seen_all _ _ _ _ _ c.loop-number.number (λ r l. c.limit-number-end.ensures.above r (omega arith)) c.loop-number.invariant
 
 pub returns-clause-changed : goal.returns-clause-changed
-unfolding has_unseen_by
-returns-clause-changed c =
-    let all : c.loop-number.number ≡ identity_limit = omega arith in
-    c.loop-number.invariant.any ∙ ap (λ n. list_any (λ r. is_unseen_by c.args.id c.args.view (mark_of c.args.self.now r)) (range_with_len 0 n)) all
+returns-clause-changed c = seen_any _ _ _ _ _ c.loop-number.number (omega arith) (λ r l. c.limit-number-end.ensures.above r (omega arith)) c.loop-number.invariant

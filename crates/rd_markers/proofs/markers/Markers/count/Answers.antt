@@ -1,5 +1,4 @@
 use Rattle.std.proofs.Common.{◌≡◌, Some, None, ap, sym, ◌∙◌, length, arith}
-use Rattle.rd_history.specs.Table.{identity_limit}
 use Rattle.rd_markers.specs.Marks.{mark_of}
 use Rattle.rd_markers.proofs.SpellingLoops.{pieces_few, pieces_all, counts_more, counts_same}
 use Rattle.rd_markers.proofs.markers.Markers.count.Goals as goal
@@ -16,8 +15,8 @@ loop-number-preserved c = elim c.match-new.branch [
   | in-Some+in_default-get w ↦
       let none : mark_of c.args.self.now c.loop-number.number ≡ None = ap (mark_of c.args.self.now) (sym w.in-Some.ensures.value) ∙ sym w.get.ensures.value ∙ w.in_default-get.is in
       rw w.count-is (counts_same c.args.self.now c.loop-number.number c.loop-number.count none c.loop-number.invariant)
-  | in_default w ↦ absurd (let none = w.in_default.ensures.variant.1 c.loop-number-test.true in cc)
+  | in_default w ↦ absurd (let none = w.in_default.ensures.variant.1 (omega arith) in cc)
 ]
 
 pub returns : goal.returns
-returns c = let all : c.loop-number.number ≡ identity_limit = omega arith in c.loop-number.invariant ∙ ap length (pieces_all c.args.self.now c.loop-number.number all)
+returns c = c.loop-number.invariant ∙ ap length (pieces_all c.args.self.now c.loop-number.number (omega arith) (λ q l. c.limit-number-end.ensures.above q (omega arith)))

@@ -1,7 +1,6 @@
-use Rattle.std.proofs.Common.{◌+◌, ap, sym, ◌∙◌, subst, Some}
+use Rattle.std.proofs.Common.{◌+◌, ap, sym, ◌∙◌, subst, Some, arith}
 use Rattle.rd_markers.specs.Marks.{mark_of, merged_option}
-use Rattle.rd_markers.proofs.Merges.{IsMergedBelow, merged_none, merged_put, merged_nothing, merged_all}
-use Rattle.rd_markers.proofs.Views.{get_view}
+use Rattle.rd_markers.proofs.Merges.{IsMergedBelow, merged_none, merged_put, merged_nothing, merged_all, merged_with_none}
 use Rattle.rd_markers.proofs.markers.Markers.merge.Goals as goal
 use Rattle.rd_markers.proofs.markers.Markers.merge.Goals.{in-Some+in-Some-get+in_ok-put, in-Some+in_default-get, in_default}
 
@@ -15,11 +14,13 @@ loop-number-preserved c = elim c.match-new.branch [
       (w.merged_with-both.ensures.merged ∙ ap (λ o. merged_option o (Some w.in-Some-get.marker)) (w.get-in-Some-get.ensures.value ∙ ap (λ m. mark_of m w.in-Some.id) (sym c.in_ok-merged.ensures)))
       (subst (IsMergedBelow c.in_ok-merged.merged c.args.other.now c.loop-number.merged) (sym w.in-Some.ensures.value) c.loop-number.invariant))
   | in-Some+in_default-get w ↦ rw w.merged-is (merged_nothing _ _ _ _ (ap (mark_of c.args.other.now) (sym w.in-Some.ensures.value) ∙ sym w.in_default-get.ensures.value) c.loop-number.invariant)
-  | in_default w ↦ absurd (let no = w.in_default.ensures.variant.1 c.loop-number-test.true in cc)
+  | in_default w ↦ absurd (let no = w.in_default.ensures.variant.1 (omega arith) in cc)
 ]
+
+pub returns-then-is_empty-clause-ok : goal.returns-then-is_empty-clause-ok
+returns-then-is_empty-clause-ok c = merged_with_none c.args.self.now c.args.other.now (c.is_empty.ensures.0 c.if-is_empty.true)
 
 pub returns-clause-ok : goal.returns-clause-ok
 returns-clause-ok c = λ i. ap (λ m. mark_of m i) c.merged-2.view_is
-    ∙ merged_all c.in_ok-merged.merged c.args.other.now c.loop-number.merged c.loop-number.number c.loop-number-test.false
-    (λ q l. ap (λ m. mark_of m q) (sym c.other.view_is) ∙ get_view c.other.inside.marks.entries q ∙ c.other.invariant.few q l) c.loop-number.invariant i
+    ∙ merged_all c.in_ok-merged.merged c.args.other.now c.loop-number.merged c.loop-number.number (λ q l. c.limit-number-end.ensures.above q (omega arith)) c.loop-number.invariant i
     ∙ ap (λ m. merged_option (mark_of m i) (mark_of c.args.other.now i)) c.in_ok-merged.ensures

@@ -1,8 +1,6 @@
 use Rattle.std.proofs.Common.{ap, sym, ◌∙◌, ◌≡◌, ◌++◌, Some, None, ℕ, List, arith}
 use Rattle.std.specs.Prelude.{flat_map}
-use Rattle.rd_history.specs.Table.{identity_limit}
 use Rattle.rd_markers.specs.Marks.{mark_of}
-use Rattle.rd_markers.proofs.Views.{get_view}
 use Rattle.rd_markers.proofs.SpellingLoops.{spells_more, spells_same, each_more, each_same, pieces_all, all_spellable}
 use Rattle.rd_markers.proofs.markers.Markers.spell_marks.Goals as goal
 use Rattle.rd_markers.proofs.markers.Markers.spell_marks.Goals.{in-Some+in-Some-get+in_ok-spell_mark, in-Some+in_default-get, in_default}
@@ -21,16 +19,13 @@ loop-number-preserved c = elim c.match-new.branch [
         spelled = rw w.into-is (spells_same c.args.self.now c.loop-number.number c.args.into.now.items c.loop-number.into.items none c.loop-number.invariant.spelled);
         each = each_same c.args.self.now c.loop-number.number none c.loop-number.invariant.each;
       }
-  | in_default w ↦ absurd (let none = w.in_default.ensures.variant.1 c.loop-number-test.true in cc)
+  | in_default w ↦ absurd (let none = w.in_default.ensures.variant.1 (omega arith) in cc)
 ]
 
 pub returns-clause-sound : goal.returns-clause-sound
-returns-clause-sound c =
-    let all : c.loop-number.number ≡ identity_limit = omega arith in
-    all_spellable c.args.self.now c.loop-number.number all
-    (λ q l. ap (λ m. mark_of m q) (sym c.self.view_is) ∙ get_view c.self.inside.marks.entries q ∙ c.self.invariant.few q l) c.loop-number.invariant.each
+returns-clause-sound c = all_spellable c.args.self.now c.loop-number.number (omega arith) (λ q l. c.limit-number-end.ensures.above q (omega arith)) c.loop-number.invariant.each
 
 pub returns-clause-ok : goal.returns-clause-ok
 returns-clause-ok c =
-    let all : c.loop-number.number ≡ identity_limit = omega arith in
-    c.loop-number.invariant.spelled ∙ ap (λ (ps : List (List ℕ)). c.args.into.now.items ++ flat_map (λ (bytes : List ℕ). bytes) ps) (pieces_all c.args.self.now c.loop-number.number all)
+    c.loop-number.invariant.spelled
+    ∙ ap (λ (ps : List (List ℕ)). c.args.into.now.items ++ flat_map (λ (bytes : List ℕ). bytes) ps) (pieces_all c.args.self.now c.loop-number.number (omega arith) (λ q l. c.limit-number-end.ensures.above q (omega arith)))
