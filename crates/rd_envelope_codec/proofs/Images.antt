@@ -12,12 +12,13 @@ use Rattle.rd_markers.specs.declared.marker.Marker.{Marker}
 use Rattle.rd_markers.specs.declared.marker.Marker.TheVariants.{Initialized, Performed}
 use Rattle.rd_markers.specs.Marks.{mark_of, begun, is_performed, performed_in}
 use Rattle.rd_markers.specs.Spelling.{mark_spelled, piece_of, pieces_spelled, marks_spelled}
+use Rattle.sha1.specs.Sha1.{sha1}
 use Rattle.rd_envelope.specs.Images.{Parts, StandsFor}
 use Rattle.rd_envelope.proofs.Holding.{held_pruned}
 use Rattle.rd_envelope.proofs.Entries.{pruned_is}
 use Rattle.rd_envelope.proofs.MarkPrunes.{mark_of_prune, none_performed}
 use Rattle.rd_envelope_codec.specs.Envelopes.{envelope_spelled, IsSpelled, IsEnvelope}
-use Rattle.rd_envelope_codec.specs.Entries.{mark_piece, entry_piece, entry_spelled}
+use Rattle.rd_envelope_codec.specs.Entries.{mark_piece, entry_piece, entry_spelled, entry_digest}
 
 begun_piece : (r : ℕ) (o : Option Marker) → is_performed o ≡ false → option_map (mark_spelled r) o ≡ mark_piece {Op = ℕ} None r (begun o)
 begun_piece r None h = refl
@@ -60,6 +61,11 @@ module _ {State Kind Op : Type 0} (D : State → History Op → VersionVector �
       ap (λ (t : List ℕ). 1 ∷ byte_of (kind_of parts.value) ∷ t ++ numbers_spelled (number_at parts.versions) ++ spelled parts.value) marks_are
       ∙ ap (λ (f : ℕ → ℕ). 1 ∷ byte_of (kind_of parts.value) ∷ pieces_spelled (entry_piece entry) ++ numbers_spelled f ++ spelled parts.value) numbers_are
       ∙ ap (λ (t : List ℕ). 1 ∷ byte_of (kind_of parts.value) ∷ pieces_spelled (entry_piece entry) ++ numbers_spelled (without (is_pruned entry.history) (versions entry.history)) ++ t) data_are
+
+  -- a digest of the spelling is that of the entry
+  pub digest_is : (digest : List ℕ) → digest ≡ sha1 (envelope_spelled (λ (value : State). byte_of (kind_of value)) spelled parts) → digest ≡ entry_digest byte_of history_spelled (kind_of parts.value) entry
+  unfolding entry_digest
+  digest_is digest is = is ∙ ap sha1 spelled_is
 
 module _ {State Op : Type 0} (D : State → History Op → VersionVector → IdentitySet → Type 0) (IsSound : State → Type 0) (mentioned : State → ℕ → Bool)
     (unmentioned : (state : State) (log : History Op) (held : VersionVector) (gone : IdentitySet) (id : ℕ) → D state log held gone → without gone held id ≡ 0 → mentioned state id ≡ false)

@@ -1,3 +1,4 @@
 pub mod Envelopes
 pub mod Entries
 pub mod Answers
+pub mod Kept

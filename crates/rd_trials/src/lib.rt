@@ -4,6 +4,8 @@
 #[cfg(test)]
 mod cluster;
 #[cfg(test)]
+mod digests;
+#[cfg(test)]
 mod member;
 #[cfg(test)]
 mod spellings;
