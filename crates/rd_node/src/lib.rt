@@ -28,6 +28,7 @@ mod shown;
 mod storing;
 mod taking;
 mod ticking;
+mod updating;
 
 pub use input::Input;
 pub use key::{KeyDecl, KeyState};
