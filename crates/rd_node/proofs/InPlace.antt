@@ -1,6 +1,7 @@
 -- Updates, as they are prepared, and those that change the entry in its place, which are carried out as they would be prepared.
 --     prepares_refused, prepares_done, prepares_pending        what is prepared of an update is the step of the model
 --     stores_none        a plan that changes no durable key has nothing to store
+--     keys_still, owned_still        the keys, where memory was refused
 --     owned_in_place, steps_in_place        an update in its place keeps what a member keeps, and is the step that would be prepared
 use Rattle.std.proofs.Common.{◌≡◌, ◌≢◌, ℕ, ◌+◌, ◌<◌, ◌≤◌, List, [], length, get_or, set, refl, sym, ap, ◌∙◌, subst, arith, Bool, true, false, Option, Some, None, inl, inr, ◌==◌, eq-eqb}
 use Rattle.std.specs.Prelude.{map, if◌then◌else◌}
@@ -26,11 +27,12 @@ use Rattle.rd_deltalog.specs.declared.delta_log.NextRecord.{NextRecord}
 use Rattle.rd_messages.specs.declared.message.Message.TheVariants.{Write}
 use Rattle.rd_quorum.specs.declared.level.Level.{Level}
 use Rattle.rd_quorum.specs.Levels.{level_meant}
+use Rattle.rd_node.specs.declared.input.Input.{Input}
 use Rattle.rd_node.specs.declared.input.Input.TheVariants as input
 use Rattle.rd_node.specs.declared.key.KeyState.{KeyState}
 use Rattle.rd_node.specs.declared.key.Updated.{Updated}
 use Rattle.rd_node.specs.declared.key.Updated.TheVariants.{Refused, Recorded}
-use Rattle.rd_node.specs.declared.updating.Applied.{Applied}
+use Rattle.rd_node.specs.declared.in_place.Applied.{Applied}
 use Rattle.rd_node.specs.declared.node.Node.{Node}
 use Rattle.rd_node.specs.declared.operations.OperationChange.TheVariants.{Same}
 use Rattle.rd_node.specs.declared.plan.Plan.{Plan}
@@ -51,7 +53,7 @@ use Rattle.rd_node.specs.Taking.{StandsAfter}
 use Rattle.rd_node.specs.Updates.{reply_of, IsOwn, IsOwnRecord, MeansUpdate, Becomes, IsApplied}
 use Rattle.rd_node.proofs.Lookup.{IsFound, position-found}
 use Rattle.rd_node.proofs.Standing.{held_at}
-use Rattle.rd_node.proofs.PreparedSteps.{sound_told, sound_as, prepared_answered}
+use Rattle.rd_node.proofs.PreparedSteps.{owned, sound_told, sound_as, prepared_answered}
 use Rattle.rd_node.proofs.Records.{sound_recorded}
 use Rattle.rd_node.proofs.LevelSteps.{told_refused, taken_if, prepared_done, prepared_pending}
 use Rattle.rd_node.proofs.Making.{makes_step}
@@ -110,8 +112,18 @@ module _ {T Kind Op Delta : Type 0} (ghosts : Ghosts T Kind Op Delta) (spelling 
 
 -- IN ITS PLACE
 
+-- where memory was refused
+module _ {T K Kind Op Delta : Type 0} {ghosts : Ghosts T Kind Op Delta} {keeping : Keeping K} (code : Node T K Kind Op Delta ghosts keeping) (index : ℕ) (at : KeyState T Kind Op Delta) (there : at ≡ get_or code.keys.items index at)
+    (after : KeyState T Kind Op Delta) (same : after ≡ at) where
+  pub keys_still : set code.keys.items index after ≡ code.keys.items
+  keys_still = ap (set code.keys.items index) (same ∙ there) ∙ set-get_or code.keys.items index at
+
+  pub owned_still : AreOwned ghosts code.id code.steps (set code.keys.items index after)
+  owned_still = subst (AreOwned ghosts code.id code.steps) (sym keys_still) (owned code)
+
+-- where the operation was made, or is refused
 module _ {T K Kind Op Delta : Type 0} {ghosts : Ghosts T Kind Op Delta} {keeping : Keeping K} (spelling : Spelling T Kind Op Delta) (old : Node T K Kind Op Delta ghosts keeping) (key : Text) (op : Op) (level : Level) (index : ℕ)
-    (here : IsInPlace old key op level index) (became : Applied) (after : KeyState T Kind Op Delta) (applied : IsApplied ghosts old.id op here.at became after) where
+    (here : IsInPlace old key op level index) (at : KeyState T Kind Op Delta) (there : at ≡ get_or old.keys.items index at) (became : Applied) (after : KeyState T Kind Op Delta) (applied : IsApplied ghosts old.id op at became after) where
   abbrev as_planned : Plan T Kind Op Delta → Prepared T Kind Op Delta ghosts
   as_planned plan = record { view = None; plan = plan; operations = Same; output = output_of became }
 
@@ -127,7 +139,7 @@ module _ {T K Kind Op Delta : Type 0} {ghosts : Ghosts T Kind Op Delta} {keeping
 
   refused_so : (told : Reply) → IsOwn ghosts old.id here.at (Refused told) → MeansUpdate ghosts old.id op here.at (Refused told) → Becomes here.at (Refused told) became after → IsAsPlanned Nothing
   refused_so told own means becomes =
-      let output = ap (λ r. record { reply = r; posts = []; finished = None }) becomes.1 in
+      let output : output_of became ≡ record { reply = told; posts = []; finished = None } = ap (λ r. record { reply = r; posts = []; finished = None }) becomes.1 in
       record {
         sound = sound_told old (as_planned Nothing) told refl refl output own;
         prepares = prepares_refused spelling old key op level index here.at found here.there here.fits here.number here.enough (as_planned Nothing) refl told means refl refl output;
@@ -160,17 +172,20 @@ module _ {T K Kind Op Delta : Type 0} {ghosts : Ghosts T Kind Op Delta} {keeping
   by_update (Recorded entry next) own means becomes = (At index entry next, recorded_so entry next own means becomes)
 
   as_prepared : (plan : Plan T Kind Op Delta) × IsAsPlanned plan
-  as_prepared = by_update applied.updated applied.owned applied.means applied.becomes
+  as_prepared =
+      let same : at ≡ here.at = there ∙ get_or_default old.keys.items index at here.at found.within ∙ sym here.there in
+      let applied_there = subst (λ (state : KeyState T Kind Op Delta). IsApplied ghosts old.id op state became after) same applied in
+      by_update applied_there.updated applied_there.owned applied_there.means applied_there.becomes
 
   pub owned_in_place : AreOwned ghosts old.id (old.steps + 1) (set old.keys.items index after)
   owned_in_place = as_prepared.1.sound.plan.owned (set old.keys.items index after) as_prepared.1.planned
 
-  pub steps_in_place : (new : Node T K Kind Op Delta ghosts keeping) → old.steps < 16384 → new.keys.items ≡ set old.keys.items index after → new.operations ≡ old.operations → new.view ≡ old.view → new.steps ≡ old.steps + 1 → new.id ≡ old.id → new.keeper ≡ old.keeper
-      → IsStepOf spelling old (input.Update key op level) NoStore (output_of became) new
-  steps_in_place new few keys operations view steps id keeper =
+  pub steps_in_place : (sent : Input T Kind Op Delta ghosts) → sent ≡ input.Update key op level → (new : Node T K Kind Op Delta ghosts keeping) → old.steps < 16384 → new.keys.items ≡ set old.keys.items index after → new.operations ≡ old.operations → new.view ≡ old.view → new.steps ≡ old.steps + 1 → new.id ≡ old.id → new.keeper ≡ old.keeper
+      → IsStepOf spelling old sent NoStore (output_of became) new
+  steps_in_place sent is new few keys operations view steps id keeper =
       let plan = as_prepared.0 in
       let so = as_prepared.1 in
-      makes_step spelling old (as_planned plan) so.sound NoStore new
+      subst (λ (i : Input T Kind Op Delta ghosts). IsStepOf spelling old i NoStore (output_of became) new) (sym is) (makes_step spelling old (as_planned plan) so.sound NoStore new
       (record {
         planned = subst (IsPlanned old.keys.items plan) (sym keys) so.planned;
         operated = operations;
@@ -180,4 +195,4 @@ module _ {T K Kind Op Delta : Type 0} {ghosts : Ghosts T Kind Op Delta} {keeping
         items = [];
         stores = so.stores;
         kept = (refl, keeper);
-      }) few (input.Update key op level) so.prepares
+      }) few (input.Update key op level) so.prepares)

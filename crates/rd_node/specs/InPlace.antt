@@ -9,7 +9,7 @@ use Rattle.rd_quorum.specs.declared.level.Level.{Level}
 use Rattle.rd_quorum.specs.Levels.{level_meant}
 use Rattle.rd_node.specs.declared.key.KeyState.{KeyState}
 use Rattle.rd_node.specs.declared.node.Node.{Node}
-use Rattle.rd_node.specs.declared.updating.Applied.{Applied}
+use Rattle.rd_node.specs.declared.in_place.Applied.{Applied}
 use Rattle.rd_node.specs.declared.reply.Output.{Output}
 use Rattle.rd_node.specs.Updates.{reply_of}
 

@@ -16,8 +16,8 @@ use Rattle.rd_node.specs.declared.key.KeyState.{KeyState}
 use Rattle.rd_node.specs.declared.reply.Reply.{Reply}
 use Rattle.rd_node.specs.declared.key.Updated.{Updated}
 use Rattle.rd_node.specs.declared.key.Updated.TheVariants.{Refused, Recorded}
-use Rattle.rd_node.specs.declared.updating.Applied.{Applied}
-use Rattle.rd_node.specs.declared.updating.Applied.TheVariants as applied
+use Rattle.rd_node.specs.declared.in_place.Applied.{Applied}
+use Rattle.rd_node.specs.declared.in_place.Applied.TheVariants as applied
 use Rattle.rd_node.specs.declared.reply.Reply.TheVariants as reply
 use Rattle.rd_node.specs.Replies.{meant}
 use Rattle.rd_node.specs.Outputs.{is_pending}

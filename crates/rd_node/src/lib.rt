@@ -9,6 +9,7 @@ mod counting;
 mod entries;
 mod gossip;
 mod groups;
+mod in_place;
 mod input;
 mod key;
 mod loading;
@@ -28,7 +29,6 @@ mod shown;
 mod storing;
 mod taking;
 mod ticking;
-mod updating;
 
 pub use input::Input;
 pub use key::{KeyDecl, KeyState};

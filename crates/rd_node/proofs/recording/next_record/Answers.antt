@@ -25,7 +25,7 @@ returns-in-Ok-clause-recorded g c =
 pub returns-in-Ok-clause-image : goal.returns-in-Ok-clause-image
 returns-in-Ok-clause-image g c = λ history before stands taken. record {
   entry = c.in-Ok.ensures.image history before stands taken;
-  known = λ i. ap (λ r. number_at r.before i) c.with_delta.ensures.made ∙ ap (λ r. number_at r.before i) c.in_ok-next.ensures.record ∙ c.in_ok-before.ensures history before stands i;
+  known = λ i. ap (λ r. number_at r.before i) c.with_delta.ensures.made ∙ ap (λ r. number_at r.before i) c.in_ok-next.ensures.record ∙ c.in_ok-before.ensures.image history before stands i;
   made = c.in-Ok.delta;
   some = ap (λ r. r.delta) c.with_delta.ensures.made;
   delta = c.in-Ok.ensures.delta history before stands taken;

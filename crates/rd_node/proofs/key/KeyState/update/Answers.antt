@@ -63,8 +63,8 @@ returns-in-Err-ClockSpent-clause-means g c =
     (subst (λ (old : Envelope g.row.T.Denot g.row.T-Kind.Denot g.row.T-Op.Denot g.row.T-Delta.Denot). (log : History g.row.T-Op.Denot) (held : Entry g.row.T-Op.Denot) → StandsFor R.IsDataOf (parts_of old) log held
     → IsApplyRefusal (R.data_type.refusal (R.kind_of old.value) c.args.id c.args.op.now held.history) error) c.in_ok-entry.ensures c.in-Err-ClockSpent.ensures.refused)
 
-pub returns-in-Err-SetFull-clause-means : goal.returns-in-Err-SetFull-clause-means
-returns-in-Err-SetFull-clause-means g c =
+pub returns-clause-means : goal.returns-clause-means
+returns-clause-means g c =
     let R = g.T.Replica in
     let error = c.in-Err-SetFull.field-0 in
     means_refusal R c.args.id c.args.op.now c.args.self.now error SetFull reply.SetFull c.in-Err-SetFull.field-0-is refl

@@ -118,8 +118,12 @@ impl<T: SpelledData, K: Keeper + Drop> Node<T, K> {
         };
         let alloc = self.alloc;
         let id = self.id;
-        let became = self.keys[index].apply(alloc, id, op)?;
-        self.steps += 1;
-        Ok(Some(became))
+        match self.keys[index].apply(alloc, id, op) {
+            Ok(became) => {
+                self.steps += 1;
+                Ok(Some(became))
+            }
+            Err(refused) => Err(refused),
+        }
     }
 }

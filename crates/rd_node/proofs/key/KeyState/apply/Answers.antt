@@ -3,7 +3,7 @@ use Rattle.rd_meanings.specs.Refusal.Refusal.{Overflow, ClockSpent, SetFull}
 use Rattle.rd_node.specs.declared.key.Updated.TheVariants.{Refused, Recorded}
 use Rattle.rd_node.specs.declared.reply.Reply.TheVariants as reply
 use Rattle.rd_node.proofs.Applying.{own_record, means_record, means_refusal}
-use Rattle.rd_node.proofs.updating.KeyState.apply.Goals as goal
+use Rattle.rd_node.proofs.key.KeyState.apply.Goals as goal
 
 pub returns-in-Ok-clause-applied : goal.returns-in-Ok-clause-applied
 returns-in-Ok-clause-applied g c =
