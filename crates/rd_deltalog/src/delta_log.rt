@@ -42,6 +42,21 @@ pub struct NextRecord<D> {
     room: Room<OwnRecord<D>>,
 }
 
+impl<D> NextRecord<D> {
+    ghost use Rattle.std.specs.Prelude.{◌≡◌, Some};
+
+    /// The same record with this delta, and the room that it brings, which takes no memory.
+    pub fn with_delta(mut self, delta: D) -> NextRecord<D>
+    where
+        D: Drop,
+        ensures made { result.record ≡ record self.record { delta = Some delta } }
+        ensures room { result.room ≡ self.room }
+    {
+        self.record.delta = Some(delta);
+        self
+    }
+}
+
 /// The last 50 of a member's own records of one key. Contracts see its parts.
 #[derive(Drop)]
 pub struct DeltaLog<T: Replica> {

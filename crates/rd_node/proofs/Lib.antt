@@ -51,3 +51,5 @@ pub mod Courses
 pub mod Leading
 pub mod Performing
 pub mod TickSteps
+pub mod Applying
+pub mod InPlace

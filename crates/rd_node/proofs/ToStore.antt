@@ -78,6 +78,11 @@ module _ {T Kind Op Delta : Type 0} (old next : nodes.Node Kind Op Shown) where
   put_more (k ∷ ks) x =
       put_cons k (ks ++ x ∷ []) ∙ ap (λ l. of_key k ++ l) (put_more ks x) ∙ sym (append_assoc (of_key k) (put_of ks) (of_key x)) ∙ ap (λ l. l ++ of_key x) (sym (put_cons k ks))
 
+  -- where no key has to be stored
+  pub put_none : (ks : List (KeyState T Kind Op Delta)) → ((k : ℕ) (d : KeyState T Kind Op Delta) → k < length ks → stored_of (get_or ks k d) (old.entries (get_or ks k d).name) (next.entries (get_or ks k d).name) ≡ []) → put_of ks ≡ []
+  put_none [] none = refl
+  put_none (x ∷ ks) none = put_cons x ks ∙ ap (λ l. l ++ put_of ks) (none zero x (omega arith)) ∙ put_none ks (λ k d within. none (suc k) d (omega arith))
+
   -- what a step has to store is that of all its keys
   pub put_all_keys : (ks : List (KeyState T Kind Op Delta)) → next.keys ≡ map declared_by ks → put_of ks ≡ to_store old next
   put_all_keys ks same = ap (λ (decls : List (nodes.KeyDecl Kind)). filter (λ (k : nodes.KeyState Kind Op). k.durable) (filter (λ (k : nodes.KeyState Kind Op). not (is_unchanged (old.entries k.name) k.entry)) (map (state_of next) decls))) (sym same)

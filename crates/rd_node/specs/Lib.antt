@@ -18,6 +18,7 @@ pub mod Restoring
 pub mod Planning
 pub mod Storing
 pub mod Updates
+pub mod InPlace
 pub mod Preparing
 pub mod Installing
 pub mod Outputs

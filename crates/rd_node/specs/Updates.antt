@@ -2,6 +2,7 @@
 use Rattle.std.specs.Prelude.{◌≡◌, ℕ, ◌+◌, false, Option, Some, None}
 use Rattle.rd_history.specs.History.{History}
 use Rattle.rd_history.specs.History.Action.{Operation}
+use Rattle.rd_history.specs.Log.{IsTakenFrom}
 use Rattle.rd_meanings.specs.Refusal.{Refusal}
 use Rattle.rd_model.specs.Entry.{Entry, with_action}
 use Rattle.rd_model.specs.Node.{Reply as Meant}
@@ -15,6 +16,9 @@ use Rattle.rd_node.specs.declared.key.KeyState.{KeyState}
 use Rattle.rd_node.specs.declared.reply.Reply.{Reply}
 use Rattle.rd_node.specs.declared.key.Updated.{Updated}
 use Rattle.rd_node.specs.declared.key.Updated.TheVariants.{Refused, Recorded}
+use Rattle.rd_node.specs.declared.in_place.Applied.{Applied}
+use Rattle.rd_node.specs.declared.in_place.Applied.TheVariants as applied
+use Rattle.rd_node.specs.declared.reply.Reply.TheVariants as reply
 use Rattle.rd_node.specs.Replies.{meant}
 use Rattle.rd_node.specs.Outputs.{is_pending}
 use Rattle.rd_node.specs.Sending.{own_number}
@@ -52,3 +56,30 @@ module _ {T Kind Op Delta : Type 0} (ghosts : Ghosts T Kind Op Delta) where
   abbrev pub IsUpdate : ℕ → Op → KeyState T Kind Op Delta → History Op → Entry Op → Updated T Kind Op Delta → Type 0
   IsUpdate id op state log held (Refused reply) = IsRefusal id op state held reply
   IsUpdate id op state log held (Recorded entry next) = IsNextOperation id op state log held entry next
+
+  -- in all logs, of every entry for which the key stands
+  abbrev pub MeansUpdate : ℕ → Op → KeyState T Kind Op Delta → Updated T Kind Op Delta → Type 0
+  MeansUpdate id op state updated = (log : History Op) (held : Entry Op) → StandsFor ghosts.IsDataOf (parts_of state.entry) log held → StandsForLog ghosts.IsDeltaOf state.log log held
+      → (refusal_at id op state held ≡ None → IsTakenFrom log (with_action held id (Operation op)).history) → IsUpdate id op state log held updated
+
+-- IN ITS PLACE
+
+-- what is replied
+abbrev pub reply_of : Applied → Reply
+reply_of applied.Recorded = reply.Done
+reply_of (applied.Overflow share amount) = reply.Overflow share amount
+reply_of applied.ClockSpent = reply.ClockSpent
+reply_of applied.SetFull = reply.SetFull
+
+module _ {T Kind Op Delta : Type 0} where
+  -- the key after the operation, and what became of it
+  abbrev pub Becomes : KeyState T Kind Op Delta → Updated T Kind Op Delta → Applied → KeyState T Kind Op Delta → Type 0
+  Becomes old (Refused told) became new = (new ≡ old) × (reply_of became ≡ told)
+  Becomes old (Recorded entry next) became new = (new ≡ recorded old entry next) × (became ≡ applied.Recorded)
+
+-- the key is what an own operation comes to there
+pub record IsApplied {T Kind Op Delta : Type 0} (ghosts : Ghosts T Kind Op Delta) (id : ℕ) (op : Op) (old : KeyState T Kind Op Delta) (became : Applied) (new : KeyState T Kind Op Delta) : Type 0 where
+  pub updated : Updated T Kind Op Delta
+  pub owned : IsOwn ghosts id old updated
+  pub means : MeansUpdate ghosts id op old updated
+  pub becomes : Becomes old updated became new

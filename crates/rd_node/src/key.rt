@@ -1,7 +1,7 @@
 ghost use Rattle.std.specs.Prelude.{◌≡◌, position};
 ghost use Rattle.std.specs.Str.{bytes_eq};
 
-use crate::recording::{Recorded, next_record};
+use crate::recording::next_record;
 use crate::reply::Reply;
 use rd_bytes::{Items, Memory, Text};
 use rd_deltalog::{DeltaLog, NextRecord};
@@ -33,21 +33,18 @@ pub struct KeyState<T: Replica> {
 impl<T: Replica> KeyState<T> {
     ghost use Rattle.std.specs.Prelude.{ℕ, ◌<◌, ◌^◌, List, true, false, None, Some, if◌then◌else◌, IfOk, map, All};
     ghost use Rattle.rd_history.specs.History.{History};
-    ghost use Rattle.rd_history.specs.Log.{IsTakenFrom};
-    ghost use Rattle.rd_history.specs.History.Action.{Operation};
-    ghost use Rattle.rd_model.specs.Entry.{Entry, with_action, has_records};
+    ghost use Rattle.rd_model.specs.Entry.{Entry, has_records};
     ghost use Rattle.rd_model.specs.Step.{value_reply};
     ghost use Rattle.rd_node.specs.Outputs.{is_pending};
     ghost use Rattle.rd_vectors.specs.Vectors.{number_at};
     ghost use Rattle.rd_markers.specs.Marks.{performed_in};
     ghost use Rattle.rd_envelope.specs.Images.{StandsFor};
     ghost use Rattle.rd_envelope.specs.Words.{parts_of};
-    ghost use Rattle.rd_deltalog.specs.Images.{StandsForLog};
     ghost use Rattle.rd_node.specs.Own.{IsLogged};
     ghost use Rattle.rd_node.specs.Keys.{declared, declared_by};
     ghost use Rattle.rd_node.specs.Fresh.{IsFresh};
     ghost use Rattle.rd_node.specs.Replies.{delta_groups, meant};
-    ghost use Rattle.rd_node.specs.Updates.{IsOwn, refusal_at, IsUpdate};
+    ghost use Rattle.rd_node.specs.Updates.{IsOwn, MeansUpdate};
 
     /// A key without records.
     pub(crate) fn new(alloc: Global, id: Id, decl: &KeyDecl<T>) -> Result<KeyState<T>, Memory>
@@ -117,20 +114,11 @@ impl<T: Replica> KeyState<T> {
         requires room { number_at (parts_of self.now.entry).versions id < 2 ^ 62 }
         requires logged { IsLogged T.kind_of id self.now }
         ensures owned { IfOk result (IsOwn T.Replica id self.now) }
-        ensures image { (log : History T.Op) (held : Entry T.Op) → StandsFor T.IsDataOf (parts_of self.now.entry) log held → StandsForLog T.IsDeltaOf self.now.log log held
-            → (refusal_at T.Replica id op.now self.now held ≡ None → IsTakenFrom log (with_action held id (Operation op.now)).history)
-            → IfOk result (IsUpdate T.Replica id op.now self.now log held) }
+        ensures means { IfOk result (MeansUpdate T.Replica id op.now self.now) }
     {
-        match next_record(alloc, &self.entry, op, id) {
-            Ok(made) => {
-                let Recorded {
-                    entry,
-                    before,
-                    delta,
-                } = made;
-                let next = self.log.prepare(before, Some(delta))?;
-                Ok(Updated::Recorded { entry, next })
-            }
+        let mut entry = self.entry.copy(alloc)?;
+        match next_record(alloc, &mut entry, &self.log, op, id) {
+            Ok(next) => Ok(Updated::Recorded { entry, next }),
             Err(ApplyError::Memory) => Err(Memory),
             Err(ApplyError::Overflow { share, amount }) => {
                 Ok(Updated::Refused(Reply::Overflow { share, amount }))

@@ -9,6 +9,7 @@ mod counting;
 mod entries;
 mod gossip;
 mod groups;
+mod in_place;
 mod input;
 mod key;
 mod loading;

@@ -150,6 +150,9 @@ impl<T: SpelledData, K: Keeper + Drop> Node<T, K> {
         if self.steps >= MOST_STEPS {
             return Err(StepError::HistoryFull);
         }
+        if let Some(became) = self.update_in_place(input)? {
+            return Ok(became.output(self.alloc));
+        }
         let Prepared {
             view,
             plan,
@@ -230,6 +233,10 @@ where
     fn step(&mut self, input: &Input<T>) -> Result<(Fate, Output<T>, Output<T>), StepError> {
         if self.steps >= MOST_STEPS {
             return Err(StepError::HistoryFull);
+        }
+        if let Some(became) = self.update_in_place(input)? {
+            let output = became.output(self.alloc);
+            return Ok((Fate::NoStore, output, became.output(self.alloc)));
         }
         let Prepared {
             view,

@@ -1,4 +1,4 @@
-ghost use Rattle.std.specs.Prelude.{◌≡◌, ℕ, ◌<◌, ◌^◌, true, false, None, IfOk, IfErr};
+ghost use Rattle.std.specs.Prelude.{◌≡◌, ℕ, ◌<◌, ◌^◌, true, false, None, IfOk, IfErr, OnErr, OnOk};
 ghost use Rattle.rd_history.specs.History.{History};
 ghost use Rattle.rd_history.specs.History.Action.{Operation};
 ghost use Rattle.rd_history.specs.Log.{IsTakenFrom};
@@ -10,46 +10,38 @@ ghost use Rattle.rd_envelope.specs.Images.{StandsFor};
 ghost use Rattle.rd_envelope.specs.Words.{parts_of};
 ghost use Rattle.rd_node.specs.Recording.{IsRecorded, StandsForRecorded};
 
+use rd_deltalog::{DeltaLog, NextRecord};
 use rd_envelope::Envelope;
 use rd_lattice::{ApplyError, Replica};
-use rd_vectors::{Id, VersionVector};
+use rd_vectors::Id;
 use std::alloc::Global;
 
-/// What an own operation makes: the next entry, how many records of each identity there were before, and the delta.
-#[derive(Drop)]
-pub(crate) struct Recorded<T: Replica> {
-    pub(crate) entry: Envelope<T>,
-    pub(crate) before: VersionVector,
-    pub(crate) delta: T::Delta,
-}
-
-/// Makes an operation the next record of the identity, without a change of the entry.
+/// Makes an operation the next record of the identity in the entry, and answers it for the log. The log's room is taken before
+/// the entry changes.
 pub(crate) fn next_record<T: Replica>(
     alloc: Global,
-    entry: &Envelope<T>,
+    entry: &mut Envelope<T>,
+    log: &DeltaLog<T>,
     op: &T::Op,
     id: Id,
-) -> Result<Recorded<T>, ApplyError>
-    requires fits { T.data_type.fits (T.kind_of entry.now.value) op.now ≡ true }
-    requires member { performed_in (parts_of entry.now).marks id ≡ false }
-    requires room { number_at (parts_of entry.now).versions id < 2 ^ 62 }
-    ensures recorded { IfOk result (IsRecorded T.kind_of T.IsOfOrigin T.delta_fits_kind id entry.now) }
-    ensures image { (log : History T.Op) (before : Entry T.Op) → StandsFor T.IsDataOf (parts_of entry.now) log before → IsTakenFrom log (with_action before id (Operation op.now)).history
-        → IfOk result (StandsForRecorded T.IsDataOf T.IsDeltaOf log id op.now before) }
-    ensures unrefused { (log : History T.Op) (before : Entry T.Op) → StandsFor T.IsDataOf (parts_of entry.now) log before
-        → IfOk result (λ next. T.data_type.refusal (T.kind_of entry.now.value) id op.now before.history ≡ None) }
-    ensures refused { (log : History T.Op) (before : Entry T.Op) → StandsFor T.IsDataOf (parts_of entry.now) log before
-        → IfErr result (IsApplyRefusal (T.data_type.refusal (T.kind_of entry.now.value) id op.now before.history)) }
+) -> Result<NextRecord<T::Delta>, ApplyError>
+    requires fits { T.data_type.fits (T.kind_of entry.old.value) op.now ≡ true }
+    requires member { performed_in (parts_of entry.old).marks id ≡ false }
+    requires room { number_at (parts_of entry.old).versions id < 2 ^ 62 }
+    ensures recorded { IfOk result (IsRecorded T.Replica id log.now entry.old entry.new) }
+    ensures image { (history : History T.Op) (before : Entry T.Op) → StandsFor T.IsDataOf (parts_of entry.old) history before → IsTakenFrom history (with_action before id (Operation op.now)).history
+        → IfOk result (StandsForRecorded T.Replica history id op.now before entry.new) }
+    ensures unrefused { (history : History T.Op) (before : Entry T.Op) → StandsFor T.IsDataOf (parts_of entry.old) history before
+        → OnOk result (T.data_type.refusal (T.kind_of entry.old.value) id op.now before.history ≡ None) }
+    ensures refused { (history : History T.Op) (before : Entry T.Op) → StandsFor T.IsDataOf (parts_of entry.old) history before
+        → IfErr result (IsApplyRefusal (T.data_type.refusal (T.kind_of entry.old.value) id op.now before.history)) }
+    ensures err { OnErr result (entry.new ≡ entry.old) }
 {
     let _below_limit = id.number();
     let before = entry.known(alloc)?;
-    let mut entry = entry.copy(alloc)?;
+    let next = log.prepare(before, None)?;
     match entry.update(op, id) {
-        Ok(delta) => Ok(Recorded {
-            entry,
-            before,
-            delta,
-        }),
+        Ok(delta) => Ok(next.with_delta(delta)),
         Err(error) => Err(error),
     }
 }

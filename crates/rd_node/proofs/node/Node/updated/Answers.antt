@@ -18,13 +18,14 @@ use Rattle.rd_node.specs.Outputs.{is_pending}
 use Rattle.rd_node.specs.Planning.{IsSoundPlan}
 use Rattle.rd_node.specs.Preparing.{IsSoundFor, Prepares}
 use Rattle.rd_node.specs.Steps.{replication}
-use Rattle.rd_node.specs.Updates.{IsOwn, IsUpdate}
+use Rattle.rd_node.specs.Updates.{IsOwn, MeansUpdate}
 use Rattle.rd_node.proofs.Lookup.{position-found, position-none}
-use Rattle.rd_node.proofs.Standing.{undeclared, held_at}
+use Rattle.rd_node.proofs.Standing.{undeclared}
 use Rattle.rd_node.proofs.PreparedSteps.{sound_told, sound_as, prepared_answered}
 use Rattle.rd_node.proofs.Updating.{update_undeclared}
 use Rattle.rd_node.proofs.Records.{sound_recorded}
-use Rattle.rd_node.proofs.LevelSteps.{if_both, told_unfit, told_too_few, told_refused, taken_if, prepared_done, prepared_pending}
+use Rattle.rd_node.proofs.LevelSteps.{if_both, told_unfit, told_too_few}
+use Rattle.rd_node.proofs.InPlace.{prepares_refused, prepares_done, prepares_pending}
 use Rattle.rd_node.proofs.Opens.{opened_can, opened_pending}
 use Rattle.rd_node.proofs.node.Node.updated.Goals as goal
 
@@ -83,24 +84,19 @@ returns-in-Refused-clause-sound g c =
     sound_told c.args.self.now c.reply-in-Refused.result c.in-Refused.reply c.reply-in-Refused.ensures.plan c.reply-in-Refused.ensures.operations c.reply-in-Refused.ensures.output own
 
 pub returns-in-Refused-clause-image : goal.returns-in-Refused-clause-image
-returns-in-Refused-clause-image g c = λ kinds logs node sent s is safe.
+returns-in-Refused-clause-image g c =
     let R = g.T.Replica in
-    let S = g.T.SpelledData in
-    let digest = entry_digest S.byte_of S.history_spelled in
     let code = c.args.self.now in
     let key = c.args.key.now in
     let op = c.args.op.now in
-    let level = level_meant c.args.level in
     let index = c.in-Some.index in
     let at = c.index-state.result.now in
     let found = position-found (λ state. bytes_eq state.name key) code.keys.items index c.in-Some.ensures in
     let fits = sym c.fits.ensures ∙ c.if-not-fits.false in
-    let n = c.in-Ok.number in
-    let number = ap (needed level) (ap (λ v. length v.members) s.view ∙ ap length (sym c.members-members.ensures.members)) ∙ c.in-Ok.ensures.enough in
-    let held = held_at R.kind_of R.IsDataOf kinds logs code node s index at found.within c.index-state.ensures in
-    let made = c.in_ok-reply.ensures.image (logs at.name) (node.entries at.name) held.held.image held.logged (taken_if kinds logs code node s digest key level index at found c.index-state.ensures sent op is fits n number safe.taken) in
-    let u : IsUpdate R code.id op at (logs at.name) (node.entries at.name) (Refused c.in-Refused.reply) = subst (IsUpdate R code.id op at (logs at.name) (node.entries at.name)) c.in-Refused.is made in
-    prepared_answered kinds logs code node s c.reply-in-Refused.result c.in-Refused.reply c.reply-in-Refused.ensures.view c.reply-in-Refused.ensures.plan c.reply-in-Refused.ensures.operations c.reply-in-Refused.ensures.output _ (told_refused kinds logs code node s digest key level index at found c.index-state.ensures sent op is fits n number c.in-Refused.reply u)
+    let number = ap (needed (level_meant c.args.level)) (ap length (sym c.members-members.ensures.members)) ∙ c.in-Ok.ensures.enough in
+    let means : MeansUpdate R code.id op at (Refused c.in-Refused.reply) = subst (MeansUpdate R code.id op at) c.in-Refused.is c.in_ok-reply.ensures.means in
+    prepares_refused g.T.SpelledData code key op c.args.level index at found c.index-state.ensures fits c.in-Ok.number number c.reply-in-Refused.result c.reply-in-Refused.ensures.view
+    c.in-Refused.reply means c.reply-in-Refused.ensures.plan c.reply-in-Refused.ensures.operations c.reply-in-Refused.ensures.output
 
 pub returns-then-number-le1-clause-sound : goal.returns-then-number-le1-clause-sound
 returns-then-number-le1-clause-sound g c =
@@ -116,28 +112,22 @@ returns-then-number-le1-clause-sound g c =
     sound_as code prepared (sound_recorded code index at entry next found.within c.index-state.ensures own) refl (ap (λ o. is_pending o.reply) c.told.ensures)
 
 pub returns-then-number-le1-clause-image : goal.returns-then-number-le1-clause-image
-returns-then-number-le1-clause-image g c = λ kinds logs node sent s is safe.
+returns-then-number-le1-clause-image g c =
     let R = g.T.Replica in
-    let S = g.T.SpelledData in
-    let digest = entry_digest S.byte_of S.history_spelled in
     let code = c.args.self.now in
     let key = c.args.key.now in
     let op = c.args.op.now in
-    let level = level_meant c.args.level in
     let index = c.in-Some.index in
     let at = c.index-state.result.now in
     let found = position-found (λ state. bytes_eq state.name key) code.keys.items index c.in-Some.ensures in
     let fits = sym c.fits.ensures ∙ c.if-not-fits.false in
-    let n = c.in-Ok.number in
-    let number = ap (needed level) (ap (λ v. length v.members) s.view ∙ ap length (sym c.members-members.ensures.members)) ∙ c.in-Ok.ensures.enough in
-    let held = held_at R.kind_of R.IsDataOf kinds logs code node s index at found.within c.index-state.ensures in
-    let made = c.in_ok-reply.ensures.image (logs at.name) (node.entries at.name) held.held.image held.logged (taken_if kinds logs code node s digest key level index at found c.index-state.ensures sent op is fits n number safe.taken) in
+    let number = ap (needed (level_meant c.args.level)) (ap length (sym c.members-members.ensures.members)) ∙ c.in-Ok.ensures.enough in
     let entry = c.in-Recorded.entry in
     let next = c.in-Recorded.next in
     let own : IsOwn R code.id at (Recorded entry next) = subst (IsOwn R code.id at) c.in-Recorded.is c.in_ok-reply.ensures.owned in
-    let u : IsUpdate R code.id op at (logs at.name) (node.entries at.name) (Recorded entry next) = subst (IsUpdate R code.id op at (logs at.name) (node.entries at.name)) c.in-Recorded.is made in
+    let means : MeansUpdate R code.id op at (Recorded entry next) = subst (MeansUpdate R code.id op at) c.in-Recorded.is c.in_ok-reply.ensures.means in
     let prepared : Prepared g.row.T.Denot g.row.T-Kind.Denot g.row.T-Op.Denot g.row.T-Delta.Denot R = record { view = None; plan = At index entry next; operations = Same; output = c.told.result } in
-    prepared_done kinds logs code node s digest key level index at found c.index-state.ensures sent op is fits n number entry next own u prepared refl refl c.if-number-le1.true refl c.told.ensures
+    prepares_done g.T.SpelledData code key op c.args.level index at found c.index-state.ensures fits c.in-Ok.number number prepared refl entry next own means refl c.if-number-le1.true refl c.told.ensures
 
 pub returns-else-number-le1-clause-sound : goal.returns-else-number-le1-clause-sound
 returns-else-number-le1-clause-sound g c =
@@ -162,26 +152,20 @@ pub returns-else-number-le1-clause-image : goal.returns-else-number-le1-clause-i
 returns-else-number-le1-clause-image g c =
     let R = g.T.Replica in
     let code = c.args.self.now in
+    let key = c.args.key.now in
+    let op = c.args.op.now in
     let index = c.in-Some.index in
     let at = c.index-state.result.now in
     let entry = c.in-Recorded.entry in
     let next = c.in-Recorded.next in
     let message : Message g.row.T.Denot g.row.T-Kind.Denot g.row.T-Op.Denot g.row.T-Delta.Denot R = Write (length code.operations) at.name entry in
-    if_both (λ (prepared : Prepared g.row.T.Denot g.row.T-Kind.Denot g.row.T-Op.Denot g.row.T-Delta.Denot R). prepared.plan ≡ At index entry next) (IsOpened code at.name false c.in-Ok.number message)
-    (Prepares g.T.SpelledData code (input.Update c.args.key.now c.args.op.now c.args.level)) c.written.result
-    (λ prepared plan o kinds logs node sent s is safe.
-    let S = g.T.SpelledData in
-    let digest = entry_digest S.byte_of S.history_spelled in
-    let key = c.args.key.now in
-    let op = c.args.op.now in
-    let level = level_meant c.args.level in
     let found = position-found (λ state. bytes_eq state.name key) code.keys.items index c.in-Some.ensures in
     let fits = sym c.fits.ensures ∙ c.if-not-fits.false in
     let n = c.in-Ok.number in
-    let number = ap (needed level) (ap (λ v. length v.members) s.view ∙ ap length (sym c.members-members.ensures.members)) ∙ c.in-Ok.ensures.enough in
-    let held = held_at R.kind_of R.IsDataOf kinds logs code node s index at found.within c.index-state.ensures in
-    let made = c.in_ok-reply.ensures.image (logs at.name) (node.entries at.name) held.held.image held.logged (taken_if kinds logs code node s digest key level index at found c.index-state.ensures sent op is fits n number safe.taken) in
+    let number = ap (needed (level_meant c.args.level)) (ap length (sym c.members-members.ensures.members)) ∙ c.in-Ok.ensures.enough in
     let own : IsOwn R code.id at (Recorded entry next) = subst (IsOwn R code.id at) c.in-Recorded.is c.in_ok-reply.ensures.owned in
-    let u : IsUpdate R code.id op at (logs at.name) (node.entries at.name) (Recorded entry next) = subst (IsUpdate R code.id op at (logs at.name) (node.entries at.name)) c.in-Recorded.is made in
-    prepared_pending kinds logs code node s digest key level index at found c.index-state.ensures sent op is fits n number entry next own u prepared o.viewed plan c.if-number-le1.false o)
+    let means : MeansUpdate R code.id op at (Recorded entry next) = subst (MeansUpdate R code.id op at) c.in-Recorded.is c.in_ok-reply.ensures.means in
+    if_both (λ (prepared : Prepared g.row.T.Denot g.row.T-Kind.Denot g.row.T-Op.Denot g.row.T-Delta.Denot R). prepared.plan ≡ At index entry next) (IsOpened code at.name false n message)
+    (Prepares g.T.SpelledData code (input.Update key op c.args.level)) c.written.result
+    (λ prepared plan o. prepares_pending g.T.SpelledData code key op c.args.level index at found c.index-state.ensures fits n number prepared o.viewed entry next own means plan c.if-number-le1.false o)
     c.written.ensures.plan c.written.ensures.opened
