@@ -4,6 +4,7 @@ ghost use Rattle.rd_kinds.specs.SixKinds.{of_kind, increment};
 ghost use Rattle.rd_kinds.specs.declared.kind.Kind.TheVariants as kind;
 ghost use Rattle.rd_kinds.specs.declared.shown.Shown.TheVariants.{Count};
 ghost use Rattle.rd_counters.specs.Counter.{counter_applied, counter_delta_of, counter_apply_refusal, counter_joined, counter_absorbed, counter_combined, counter_cleaned, counter_pruned, counter_prune_refusal, counter_mentioned, counter_sum, AreShares, IsShareAt, AreSharesWithin, IsShareOf, empty_counter};
+ghost use Rattle.rd_counters.specs.Spelled.{growing_byte, counter_spelled};
 ghost use Rattle.rd_counters.specs.Laws as laws;
 
 use crate::amounts::Amounts;
@@ -63,6 +64,8 @@ impl Replica for GCounter {
     ghost mentioned = { counter_mentioned };
 
     ghost shown = { λ state. Count (counter_sum state) };
+
+    ghost spelling = { λ state. (growing_byte, counter_spelled state) };
 
     ghost IsDataOf = { AreShares increment };
 

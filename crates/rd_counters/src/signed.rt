@@ -3,6 +3,7 @@ ghost use Rattle.rd_kinds.specs.SixKinds.{of_kind};
 ghost use Rattle.rd_kinds.specs.declared.kind.Kind.TheVariants as kind;
 ghost use Rattle.rd_kinds.specs.declared.shown.Shown.TheVariants as shown_as;
 ghost use Rattle.rd_counters.specs.Signed.{empty_signed, signed_applied, signed_delta_of, signed_apply_refusal, signed_joined, signed_absorbed, signed_combined, signed_cleaned, signed_pruned, signed_prune_refusal, signed_mentioned, signed_sum, less, AreBothShares, AreBothAt, AreBothWithin, AreBothOf};
+ghost use Rattle.rd_counters.specs.Spelled.{signed_byte, signed_spelled};
 ghost use Rattle.rd_counters.specs.SignedLaws as laws;
 
 use crate::amounts::Amounts;
@@ -61,6 +62,8 @@ impl Replica for PnCounter {
     ghost mentioned = { signed_mentioned };
 
     ghost shown = { λ state. shown_as.Signed (signed_sum state) };
+
+    ghost spelling = { λ state. (signed_byte, signed_spelled state) };
 
     ghost IsDataOf = { AreBothShares };
 

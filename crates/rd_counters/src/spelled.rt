@@ -67,6 +67,8 @@ impl SpelledData for GCounter {
         placed(from.len(), read_growing(alloc, barred, &from[place..]))
     }
 
+    ghost spelling_is = { λ _. refl };
+
     ghost kind_is_known = { λ _. refl };
 
     ghost read_is_spelled = { laws.growing_takes };
@@ -113,6 +115,8 @@ impl SpelledData for PnCounter {
     ) -> Result<(PnCounter, usize), ReadError> {
         placed(from.len(), read_signed(alloc, barred, &from[place..]))
     }
+
+    ghost spelling_is = { λ _. refl };
 
     ghost kind_is_known = { λ _. refl };
 

@@ -20,6 +20,11 @@ module _ {T : Type 0} (byte_of : T → ℕ) (spelled : T → List ℕ) where
   abbrev pub envelope_spelled : Parts T → List ℕ
   envelope_spelled parts = 1 ∷ byte_of parts.value ∷ marks_spelled parts.marks ++ numbers_spelled (number_at parts.versions) ++ spelled parts.value
 
+module _ {T : Type 0} (spelling : T → ℕ × List ℕ) where
+  -- by the byte and the spelling of data together
+  abbrev pub spelled_by : Parts T → List ℕ
+  spelled_by parts = envelope_spelled (λ value. (spelling value).0) (λ value. (spelling value).1) parts
+
 module _ (is_known : ℕ → Bool) where
   unfoldable pub head_in : List ℕ → Result (Head × List ℕ) Fault
   head_in bytes = do

@@ -1,7 +1,7 @@
 use crate::spelling::digest;
 use crate::steps::Steps;
 use rd_envelope::Envelope;
-use rd_lattice::SpelledData;
+use rd_lattice::{Replica, SpelledData};
 use rd_vectors::Memory;
 use std::alloc::Global;
 use std::marker::Model;
@@ -9,20 +9,20 @@ use std::sync::ledger::Ledger;
 
 /// An envelope and, where one was made since the last change, its digest.
 #[derive(Drop)]
-pub struct Digested<T: SpelledData> {
+pub struct Digested<T: Replica> {
     alloc: Global,
     envelope: Envelope<T>,
     digest: Option<[u8; 20]>,
 }
 
-impl<T: SpelledData> Model for Digested<T> {
+impl<T: Replica> Model for Digested<T> {
     ghost use Rattle.std.specs.Prelude.{◌≡◌, MatchOption, is_some};
     ghost use Rattle.std.specs.Coded.{codes};
     ghost use Rattle.sha1.specs.Sha1.{sha1};
     ghost use Rattle.rd_vectors.specs.contracts.vector.VersionVector as versions;
     ghost use Rattle.rd_markers.specs.contracts.markers.Markers as markers;
     ghost use Rattle.rd_envelope.specs.Words.{parts_of};
-    ghost use Rattle.rd_envelope_codec.specs.Envelopes.{envelope_spelled};
+    ghost use Rattle.rd_envelope_codec.specs.Envelopes.{spelled_by};
     ghost use Rattle.rd_envelope_codec.specs.Kept.{Kept};
 
     ghost Value = { Kept T T.Kind T.Op T.Delta };
@@ -31,18 +31,11 @@ impl<T: SpelledData> Model for Digested<T> {
 
     ghost view = { λ digested. record { envelope = digested.envelope; is_kept = is_some digested.digest } };
 
-    ghost invariant = { λ digested. MatchOption digested.digest (Unit {0}) (λ kept. kept ≡ sha1 (envelope_spelled (λ value. T.byte_of (T.kind_of value)) T.spelled (parts_of digested.envelope))) };
+    ghost invariant = { λ digested. MatchOption digested.digest (Unit {0}) (λ kept. kept ≡ sha1 (spelled_by T.spelling (parts_of digested.envelope))) };
 }
 
-impl<T: SpelledData> Digested<T> {
-    ghost use Rattle.std.specs.Prelude.{◌≡◌, ◌+◌, true, false, not, ◌&&◌, if◌then◌else◌, is_ok, IfOk, OnOk, OnErr};
-    ghost use Rattle.sha1.specs.Sha1.{sha1};
-    ghost use Rattle.rd_history.specs.History.{History};
-    ghost use Rattle.rd_model.specs.Entry.{Entry};
-    ghost use Rattle.rd_envelope.specs.Images.{StandsFor};
-    ghost use Rattle.rd_envelope.specs.Words.{parts_of};
-    ghost use Rattle.rd_envelope_codec.specs.Envelopes.{envelope_spelled};
-    ghost use Rattle.rd_envelope_codec.specs.Entries.{entry_digest};
+impl<T: Replica> Digested<T> {
+    ghost use Rattle.std.specs.Prelude.{◌≡◌, false};
     ghost use Rattle.std.specs.Borrow.{sem, Lends};
     ghost use Rattle.rd_envelope.specs.contracts.envelope.Envelope as envelope;
     ghost use Rattle.rd_envelope_codec.specs.contracts.digested.Digested as digested;
@@ -72,6 +65,26 @@ impl<T: SpelledData> Digested<T> {
         self.digest.is_some()
     }
 
+    /// The envelope to be changed. Its digest is no longer kept.
+    pub fn change(&mut self) -> &mut Envelope<T>
+        ensures* writes_back { sem 𝓛 (Lends (digested.the_row T.row T.Kind.row T.Op.row T.Delta.row T.Replica) (envelope.the_row T.row T.Kind.row T.Op.row T.Delta.row) self.entry result (λ envelope. record { envelope = envelope; is_kept = false })) }
+        ensures value { result.now ≡ self.old.envelope }
+    {
+        self.digest = None;
+        &mut self.envelope
+    }
+}
+
+impl<T: SpelledData> Digested<T> {
+    ghost use Rattle.std.specs.Prelude.{◌≡◌, ◌+◌, true, not, ◌&&◌, if◌then◌else◌, is_ok, IfOk, OnOk, OnErr};
+    ghost use Rattle.sha1.specs.Sha1.{sha1};
+    ghost use Rattle.rd_history.specs.History.{History};
+    ghost use Rattle.rd_model.specs.Entry.{Entry};
+    ghost use Rattle.rd_envelope.specs.Images.{StandsFor};
+    ghost use Rattle.rd_envelope.specs.Words.{parts_of};
+    ghost use Rattle.rd_envelope_codec.specs.Envelopes.{envelope_spelled};
+    ghost use Rattle.rd_envelope_codec.specs.Entries.{entry_digest};
+
     /// The digest that is kept, or else one that is made and not kept.
     pub fn told(&self) -> Result<[u8; 20], Memory>
         ensures value { IfOk result (λ digest. digest ≡ sha1 (envelope_spelled (λ value. T.byte_of (T.kind_of value)) T.spelled (parts_of self.now.envelope))) }
@@ -82,6 +95,17 @@ impl<T: SpelledData> Digested<T> {
             Some(kept) => Ok(kept),
             None => digest(self.alloc, &self.envelope),
         }
+    }
+
+    /// Keeps the digest, which is made where none is kept.
+    pub fn keep(&mut self) -> Result<(), Memory>
+        ensures ok { OnOk result (self.new ≡ record { envelope = self.old.envelope; is_kept = true }) }
+        ensures err { OnErr result (self.new ≡ self.old) }
+    {
+        if self.digest.is_none() {
+            self.digest = Some(digest(self.alloc, &self.envelope)?);
+        }
+        Ok(())
     }
 
     /// The digest, which is then kept. A step is a digest that was made.
@@ -100,14 +124,5 @@ impl<T: SpelledData> Digested<T> {
         steps.tick();
         self.digest = Some(made);
         Ok(made)
-    }
-
-    /// The envelope to be changed. Its digest is no longer kept.
-    pub fn change(&mut self) -> &mut Envelope<T>
-        ensures* writes_back { sem 𝓛 (Lends (digested.the_row T.row T.Kind.row T.Op.row T.Delta.row T.SpelledData.own T.Replica) (envelope.the_row T.row T.Kind.row T.Op.row T.Delta.row) self.entry result (λ envelope. record { envelope = envelope; is_kept = false })) }
-        ensures value { result.now ≡ self.old.envelope }
-    {
-        self.digest = None;
-        &mut self.envelope
     }
 }

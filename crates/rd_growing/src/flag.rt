@@ -69,6 +69,8 @@ impl Replica for Flag {
 
     ghost shown = { λ state. Switch state.on };
 
+    ghost spelling = { λ state. (5, switch_spelled state.on) };
+
     ghost IsDataOf = { λ state log held _. IsFlagOf enables state log held };
 
     ghost IsDeltaOf = { λ _ log origin after to. IsSwitchedOn enables log origin after to };
@@ -242,6 +244,8 @@ impl SpelledData for Flag {
     ) -> Result<(Flag, usize), ReadError> {
         placed(from.len(), read_flag(&from[place..]))
     }
+
+    ghost spelling_is = { λ _. refl };
 
     ghost kind_is_known = { λ _. refl };
 

@@ -190,6 +190,8 @@ impl Replica for LwwRegister {
 
     ghost shown = { λ state. shown_as.Written (text_of state) };
 
+    ghost spelling = { λ state. (6, register_spelled state) };
+
     ghost IsDataOf = { λ state log held _. IsRegisterOf assigned state log held };
 
     ghost IsDeltaOf = { IsWrittenBetween assigned };
@@ -395,6 +397,8 @@ impl SpelledData for LwwRegister {
     ) -> Result<(LwwRegister, usize), ReadError> {
         placed(from.len(), read_register(alloc, &from[place..]))
     }
+
+    ghost spelling_is = { λ _. refl };
 
     ghost kind_is_known = { λ _. refl };
 

@@ -183,6 +183,8 @@ impl Replica for GSet {
 
     ghost shown = { λ state. Elements state };
 
+    ghost spelling = { λ state. (3, set_spelled state) };
+
     ghost IsDataOf = { λ state log held _. IsSetOf added state log held };
 
     ghost IsDeltaOf = { IsAddedBetween added };
@@ -364,6 +366,8 @@ impl SpelledData for GSet {
     ) -> Result<(GSet, usize), ReadError> {
         placed(from.len(), read_set(alloc, &from[place..]))
     }
+
+    ghost spelling_is = { λ _. refl };
 
     ghost kind_is_known = { λ _. refl };
 

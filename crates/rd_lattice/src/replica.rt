@@ -1,4 +1,4 @@
-ghost use Rattle.std.specs.Prelude.{◌≡◌, ℕ, ◌+◌, ◌<◌, ◌≤◌, ◌^◌, ◌↔◌, Bool, true, false, IsTrue, IfOk, IfErr, OnOk, OnErr, Option, None};
+ghost use Rattle.std.specs.Prelude.{◌≡◌, ℕ, List, ◌+◌, ◌<◌, ◌≤◌, ◌^◌, ◌↔◌, Bool, true, false, IsTrue, IfOk, IfErr, OnOk, OnErr, Option, None};
 ghost use Rattle.rd_history.specs.Table.{with_at};
 ghost use Rattle.rd_history.specs.Vector.{VersionVector, IdentitySet, join, with_member};
 ghost use Rattle.rd_history.specs.History.{History, cut};
@@ -66,6 +66,9 @@ pub trait Replica: Drop {
     ghost mentioned: { Self → ℕ → Bool };
 
     ghost shown: { Self → Shown };
+
+    // The byte of the kind, and the one spelling of the data, where data are spelled.
+    ghost spelling: { Self → ℕ × List ℕ };
 
     // What the data are: data of `cut log held`, from which the identities of a set were cleaned away.
     ghost IsDataOf: { Self → History Self.Op → VersionVector → IdentitySet → Type 0 };

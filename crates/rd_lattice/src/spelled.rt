@@ -59,6 +59,9 @@ pub trait SpelledData: Replica {
         requires within { place ≤ length from.now }
         ensures { GivesAt (length from.now) result (read_in kind (members_in barred) (drop place from.now)) };
 
+    // This is the spelling that the replica tells.
+    ghost spelling_is: { (x : Self) → Self.spelling x ≡ (byte_of (Self.kind_of x), spelled x) };
+
     // Each kind has a byte.
     ghost kind_is_known: { (kind : Self.Kind) → is_known (byte_of kind) ≡ true };
 

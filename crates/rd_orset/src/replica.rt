@@ -6,6 +6,7 @@ ghost use Rattle.rd_kinds.specs.declared.kind.Kind.TheVariants as kind;
 ghost use Rattle.rd_kinds.specs.declared.shown.Shown.TheVariants.{Elements};
 ghost use Rattle.rd_orset.specs.Dots.{set_joined, set_absorbed, set_combined, set_applied, set_delta_of, set_cleaned, set_pruned, set_mentioned, shown_elements, set_refusal};
 ghost use Rattle.rd_orset.specs.DataOf.{AreLiveDots, IsSeenOf, AreDotsWithin, IsOfOne, AreApartDots};
+ghost use Rattle.rd_orset.specs.Elements.{set_spelled};
 ghost use Rattle.rd_orset.specs.JoinLaws as joins;
 ghost use Rattle.rd_orset.specs.DataLaws as laws;
 ghost use Rattle.rd_orset.specs.OperationLaws as operations;
@@ -59,6 +60,8 @@ impl Replica for OrSet {
     ghost mentioned = { set_mentioned };
 
     ghost shown = { λ state. Elements (shown_elements state) };
+
+    ghost spelling = { λ state. (4, set_spelled state) };
 
     ghost IsDataOf = { AreLiveDots };
 

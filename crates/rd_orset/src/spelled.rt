@@ -49,6 +49,8 @@ impl SpelledData for OrSet {
         placed(from.len(), OrSet::read(alloc, barred, &from[place..]))
     }
 
+    ghost spelling_is = { λ _. refl };
+
     ghost kind_is_known = { λ _. refl };
 
     ghost read_is_spelled = { laws.set_takes };

@@ -1,5 +1,6 @@
 ghost use Rattle.rd_kinds.specs.SixKinds.{six_kinds};
 ghost use Rattle.rd_value.specs.Values as values;
+ghost use Rattle.rd_value.specs.Spelled as spelled;
 ghost use Rattle.rd_value.specs.Laws as laws;
 
 use crate::value::{Data, Delta, are_same};
@@ -51,6 +52,8 @@ impl Replica for Data {
     ghost mentioned = { values.mentioned };
 
     ghost shown = { values.shown };
+
+    ghost spelling = { λ data. (spelled.byte_of (values.kind_of data), spelled.spelled data) };
 
     ghost IsDataOf = { values.IsDataOf };
 

@@ -1,4 +1,4 @@
-ghost use Rattle.std.specs.Prelude.{◌≡◌, length, drop};
+ghost use Rattle.std.specs.Prelude.{◌≡◌, length, drop, refl};
 ghost use Rattle.rd_bytes.specs.Spelling.{GivesAt};
 ghost use Rattle.rd_value.specs.Spelled as spelled;
 ghost use Rattle.rd_value.specs.SpelledLaws as laws;
@@ -100,6 +100,8 @@ impl SpelledData for Data {
             }
         }
     }
+
+    ghost spelling_is = { λ _. refl };
 
     ghost kind_is_known = { laws.kind_is_known };
 
