@@ -1,7 +1,8 @@
 -- How groups are judged, and marks begun.
 use Rattle.std.proofs.Common.{◌≡◌, ◌≢◌, ℕ, ◌<◌, ◌≤◌, Bool, true, false, ◌||◌, nat_eq, nat_le, cond, if◌then◌else◌, Option, Some, None, arith, rules, refl, ap, sym, ◌∙◌, subst, ⊎_elim}
 use Rattle.std.specs.FinMap as map
-use Rattle.std.proofs.lemmas.Bool.{cases_eq}
+use Rattle.std.specs.Option.{IfSome}
+use Rattle.std.proofs.lemmas.Bool.{cases_eq, cases_lt}
 use mathlib.Core.Bool.{or-true}
 use Rattle.rd_history.specs.Table.{identity_limit}
 use Rattle.rd_history.specs.Vector.{VersionVector, IdentitySet, alone, first_lacking}
@@ -11,7 +12,7 @@ use Rattle.rd_history.proofs.CutLaws.{with_at_is}
 use Rattle.rd_model.specs.Entry.{Entry, Group, judged, needs}
 use Rattle.rd_model.specs.Entry.Judgement.{Wanted, Stale, Missing}
 use Rattle.rd_model.proofs.Cases.{judged_by}
-use Rattle.rd_vectors.specs.Vectors.{number_at}
+use Rattle.rd_vectors.specs.Vectors.{Numbers, number_at, IsFirstLacking}
 use Rattle.rd_vectors.specs.IdSets.{members_in}
 use Rattle.rd_vectors.proofs.Sets.{members_in-zero}
 use Rattle.rd_vectors.proofs.Walks.{lacking_first, lacking_none}
@@ -23,7 +24,7 @@ use Rattle.rd_envelope.specs.Images.{Parts, StandsFor}
 use Rattle.rd_envelope.specs.Words.{IsFirstUnknown, with_mark, init_at, init_by}
 use Rattle.rd_envelope.specs.declared.outcomes.Init.{Init}
 use Rattle.rd_envelope.specs.declared.outcomes.Init.TheVariants as initial
-use Rattle.rd_envelope.proofs.Reading.{pruned_at, numbers_at}
+use Rattle.rd_envelope.proofs.Reading.{pruned_at, numbers_at, all_counted}
 
 -- A GROUP
 
@@ -119,3 +120,13 @@ module _ {State Op : Type 0} (D : State → History Op → VersionVector → Ide
             (λ (e : q ≡ r). with_at_is entry.marks r _ q e ∙ sym (ap begun (here q e) ∙ λ j. Some (record { view = view; owner = owner; seen = λ i. members i j })))
             (λ (ne : q ≢ r). with_at_other entry.marks r _ q ne ∙ s.marks q ∙ ap begun (sym (apart q ne))) (cases_eq q r);
       }
+
+  -- without a mark the versions tell which record is lacking first
+  pub first_unknown : (r : Option ℕ) (parts : Parts State) (log : History Op) (entry : Entry Op) (needs : Numbers) (limit : ℕ) → StandsFor D parts log entry → ((i : ℕ) → mark_of parts.marks i ≡ None) → limit ≤ identity_limit
+      → ((i : ℕ) → limit ≤ i → number_at needs i ≡ 0) → IfSome r (IsFirstLacking parts.versions needs) → IfSome r (IsFirstUnknown (versions entry.history) (number_at needs))
+  first_unknown None parts log entry needs limit s unmarked few none h = tt
+  first_unknown (Some id) parts log entry needs limit s unmarked few none h = record {
+    member = ⊎_elim (λ (l : id < identity_limit). l) (λ (l : identity_limit ≤ id). absurd (let zero = none id (omega arith) in let lacks = h.lacking in omega arith)) (cases_lt id identity_limit);
+    lacking = subst (λ n. n < number_at needs id) (all_counted D parts log entry s unmarked id) h.lacking;
+    first = λ i l. subst (λ n. number_at needs i ≤ n) (all_counted D parts log entry s unmarked i) (h.first i l);
+  }

@@ -8,3 +8,4 @@ pub mod Judging
 pub mod Groups
 pub mod MarkPrunes
 pub mod Pruned
+pub mod Gains

@@ -1,5 +1,5 @@
 -- Versions follow the history.
-use Rattle.std.proofs.Common.{◌≡◌, ◌≢◌, ℕ, ◌<◌, ◌≤◌, Bool, true, false, cond, max, arith, refl, ap, sym, ◌∙◌, ⊎_elim}
+use Rattle.std.proofs.Common.{◌≡◌, ◌≢◌, ℕ, ◌<◌, ◌≤◌, Bool, true, false, cond, max, Result, Ok, Err, OnOk, IfOk, arith, refl, ap, sym, ◌∙◌, ⊎_elim}
 use Rattle.std.proofs.lemmas.Bool.{cases_eq, cases_lt, cases_Bool}
 use Rattle.rd_history.specs.Table.{identity_limit, with_at}
 use Rattle.rd_history.specs.Vector.{IdentitySet, VersionVector, join, with_member}
@@ -71,3 +71,23 @@ joined_greatest m n v w r gone normal normal' is is' e i stays = ⊎_elim
     let one = number_at_above m normal i l in
     let other = number_at_above n normal' i l in
     omega (arith, none, one, other)) (cases_lt i identity_limit)
+
+-- the more of both at each identity
+pub joined_each : (m n r : Numbers) (limit : ℕ) → IsNormal m → limit ≤ identity_limit → ((i : ℕ) → limit ≤ i → number_at n i ≡ 0) → r ≡ joined m n → (i : ℕ) → number_at r i ≡ max (number_at m i) (number_at n i)
+joined_each m n r limit normal few none e i = ap (λ x. number_at x i) e ∙ ⊎_elim
+    (λ (l : i < identity_limit). number_at-joined m n i l)
+    (λ (l : identity_limit ≤ i).
+    let above = number_at-numbers_of_above (λ k. max (number_at m k) (number_at n k)) i l in
+    let one = number_at_above m normal i l in
+    let other = none i (omega arith) in
+    omega (arith, above, one, other)) (cases_lt i identity_limit)
+
+-- on success a number that is another is at most it
+pub at_most_ok : {X E : Type 0} (r : Result X E) (a b : ℕ) → OnOk r (a ≡ b) → OnOk r (a ≤ b)
+at_most_ok (Ok x) a b e = omega (arith, e)
+at_most_ok (Err x) a b e = tt
+
+-- a copy counts the same
+pub copied_counts : {E : Type 0} (r : Result Numbers E) (m : Numbers) (held : VersionVector) → IfOk r (λ copy. copy ≡ m) → ((i : ℕ) → number_at m i ≡ held i) → IfOk r (λ known. (i : ℕ) → number_at known i ≡ held i)
+copied_counts (Ok x) m held e same = λ i. ap (λ n. number_at n i) e ∙ same i
+copied_counts (Err x) m held e same = tt

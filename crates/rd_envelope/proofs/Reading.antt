@@ -1,18 +1,22 @@
 -- What an entry says of the parts that stand for it.
-use Rattle.std.proofs.Common.{◌≡◌, ◌≢◌, ℕ, ◌+◌, ◌<◌, ◌≤◌, Bool, true, false, ◌&&◌, not, nat_eq, nat_lt, cond, arith, rules, refl, ap, sym, ◌∙◌, subst, ⊎_elim}
+use Rattle.std.proofs.Common.{◌≡◌, ◌≢◌, ℕ, ◌+◌, ◌<◌, ◌≤◌, Bool, true, false, ◌&&◌, ◌↔◌, None, not, nat_eq, nat_lt, cond, arith, rules, refl, ap, sym, ◌∙◌, subst, ⊎_elim}
 use Rattle.std.specs.FinMap as map
-use Rattle.std.proofs.lemmas.Bool.{cases_eq, cases_lt, eq-eqb}
+use Rattle.std.specs.Ordering.{nat_cmp}
+use Rattle.std.specs.FinMap.{get-empty}
+use Rattle.std.proofs.lemmas.Bool.{cases_eq, cases_lt, eq-eqb, eqb-true, and_parts}
 use Rattle.rd_history.specs.Table.{identity_limit, identities}
-use Rattle.rd_history.specs.Vector.{IdentitySet, VersionVector}
+use Rattle.rd_history.specs.Vector.{IdentitySet, VersionVector, Covers}
 use Rattle.rd_history.specs.History.{History, at, versions, is_pruned}
 use Rattle.rd_history.specs.Cuts.{without}
+use Rattle.rd_history.proofs.CutLaws.{uncleaned}
 use Rattle.rd_model.specs.Entry.{Entry, seen_by, seen_mark, is_same_mark, is_unchanged}
 use Rattle.rd_vectors.specs.Vectors.{Numbers, number_at, raised}
 use Rattle.rd_vectors.proofs.Laws.{number_at-empty, number_at-raised_same, number_at-raised_other, number_at-numbers_of_above}
-use Rattle.rd_vectors.proofs.Walks.{all_or_any}
+use Rattle.rd_vectors.proofs.Walks.{all_or_any, all_identities, each_identity}
 use Rattle.rd_markers.specs.Marks.{Marks, mark_of, begun, is_performed, performed_in, marker_seen_by, is_unseen_by, has_unseen_by}
 use Rattle.rd_markers.proofs.Meaning.{begun-seen, performed-seen, same_seen}
 use Rattle.rd_envelope.specs.Images.{Parts, StandsFor}
+use Rattle.rd_envelope.specs.Words.{is_unchanged_at}
 use Rattle.rd_envelope.proofs.Entries.{pruned_is}
 
 -- a vector that has been filled below an identity
@@ -41,8 +45,8 @@ filled_nothing numbers known id count same none h = record {
   above = λ i l. h.above i (omega arith);
 }
 
-pub filled_all : (numbers : VersionVector) (known : Numbers) (count : ℕ) → identity_limit ≤ count → ((i : ℕ) → identity_limit ≤ i → numbers i ≡ 0) → IsFilledBelow numbers known count → (i : ℕ) → number_at known i ≡ numbers i
-filled_all numbers known count l none h i = ⊎_elim (λ (b : i < count). h.below i b) (λ (a : count ≤ i). h.above i a ∙ sym (none i (omega arith))) (cases_lt i count)
+pub filled_all : (numbers : VersionVector) (known : Numbers) (count : ℕ) → ((i : ℕ) → count ≤ i → numbers i ≡ 0) → IsFilledBelow numbers known count → (i : ℕ) → number_at known i ≡ numbers i
+filled_all numbers known count none h i = ⊎_elim (λ (b : i < count). h.below i b) (λ (a : count ≤ i). h.above i a ∙ sym (none i a)) (cases_lt i count)
 
 kept_or_none : (b : Bool) (n : ℕ) → cond b 0 n ≤ n
 kept_or_none true n = omega arith
@@ -58,6 +62,15 @@ some_test n l = grind rules
 pub none_test : (n : ℕ) → n ≤ 0 → nat_lt 0 n ≡ false
 none_test n l = grind rules
 
+same_bools : (b c : Bool) → (b ≡ true → c ≡ true) → (c ≡ true → b ≡ true) → b ≡ c
+same_bools true c f g = sym (f refl)
+same_bools false true f g = absurd (let x : false ≡ true = g refl in cc)
+same_bools false false f g = refl
+
+-- where no mark is, none was begun and none performed
+pub unmarked : (marks : Marks) → marks ≡ map.empty → (i : ℕ) → mark_of marks i ≡ None
+unmarked marks e i = ap (λ (m : Marks). mark_of m i) e ∙ get-empty nat_cmp i
+
 module _ {State Op : Type 0} (D : State → History Op → VersionVector → IdentitySet → Type 0) where
   -- the identities with a performed mark are those that the history has a prune of
   pub pruned_at : (parts : Parts State) (log : History Op) (entry : Entry Op) → StandsFor D parts log entry → (r : ℕ) → performed_in parts.marks r ≡ is_pruned entry.history r
@@ -72,6 +85,38 @@ module _ {State Op : Type 0} (D : State → History Op → VersionVector → Ide
 
   pub none_above : (parts : Parts State) (log : History Op) (entry : Entry Op) → StandsFor D parts log entry → (i : ℕ) → identity_limit ≤ i → at entry.history i ≡ 0
   none_above parts log entry s = s.holds.cut.few
+
+  -- an identity without a mark and without a number has no record
+  pub uncounted : (parts : Parts State) (log : History Op) (entry : Entry Op) → StandsFor D parts log entry → (i : ℕ) → mark_of parts.marks i ≡ None → number_at parts.versions i ≡ 0 → at entry.history i ≡ 0
+  uncounted parts log entry s i none zero = sym (uncleaned (performed_in parts.marks) (versions entry.history) i (ap is_performed none)) ∙ sym (s.holds.numbers i) ∙ zero
+
+  -- without a mark the versions count each record
+  pub all_counted : (parts : Parts State) (log : History Op) (entry : Entry Op) → StandsFor D parts log entry → ((i : ℕ) → mark_of parts.marks i ≡ None) → (i : ℕ) → number_at parts.versions i ≡ at entry.history i
+  all_counted parts log entry s none i = s.holds.numbers i ∙ uncleaned (performed_in parts.marks) (versions entry.history) i (ap is_performed (none i))
+
+  -- where neither has a mark, an entry is unchanged exactly where the versions are the same
+  pub same_counts : (one two : Parts State) (log : History Op) (old new : Entry Op) (same : Bool) → StandsFor D one log old → StandsFor D two log new → ((i : ℕ) → mark_of one.marks i ≡ None) → ((i : ℕ) → mark_of two.marks i ≡ None)
+      → (same ≡ true) ↔ ((i : ℕ) → number_at two.versions i ≡ number_at one.versions i) → same ≡ is_unchanged old new
+  same_counts one two log old new same s t none none' is = same_bools same (is_unchanged old new)
+      (λ e. all_identities (is_unchanged_at old new) (λ i l. second_is _ _ true (eq-eqb _ _ (sym (all_counted one log old s none i) ∙ sym (is.0 e i) ∙ all_counted two log new t none' i))
+      (ap (λ m. is_same_mark m (new.marks i)) (s.marks i ∙ ap begun (none i)) ∙ ap (is_same_mark None) (t.marks i ∙ ap begun (none' i)))))
+      (λ e. is.1 (λ i. all_counted two log new t none' i ∙ ⊎_elim
+      (λ (l : i < identity_limit). sym (eqb-true (at old.history i) (at new.history i) (and_parts _ _ (each_identity (is_unchanged_at old new) e i l)).0))
+      (λ (l : identity_limit ≤ i). none_above two log new t i l ∙ sym (none_above one log old s i l)) (cases_lt i identity_limit) ∙ sym (all_counted one log old s none i)))
+
+  -- nor is there a change at an identity of which neither has a record or a mark
+  pub unchanged_above : (one two : Parts State) (log : History Op) (old new : Entry Op) (i : ℕ) → StandsFor D one log old → StandsFor D two log new → mark_of one.marks i ≡ None → mark_of two.marks i ≡ None → at old.history i ≡ 0 → at new.history i ≡ 0
+      → is_unchanged_at old new i ≡ true
+  unchanged_above one two log old new i s t none none' zero zero' = second_is _ _ true (eq-eqb _ _ (zero ∙ sym zero'))
+      (ap (λ m. is_same_mark m (new.marks i)) (s.marks i ∙ ap begun none) ∙ ap (is_same_mark None) (t.marks i ∙ ap begun none'))
+
+  -- where neither has a mark, the versions tell whether the one has each record of the other
+  pub covered_counts : (one two : Parts State) (log : History Op) (mine theirs : Entry Op) → StandsFor D one log mine → StandsFor D two log theirs → ((i : ℕ) → mark_of one.marks i ≡ None) → ((i : ℕ) → mark_of two.marks i ≡ None)
+      → Covers (number_at one.versions) (number_at two.versions) ↔ Covers (versions mine.history) (versions theirs.history)
+  covered_counts one two log mine theirs s t none none' = (
+    λ covers i. rw (← (all_counted two log theirs t none' i), ← (all_counted one log mine s none i)) (covers i),
+    λ covers i. rw (all_counted two log theirs t none' i, all_counted one log mine s none i) (covers i),
+  )
 
   pub stands_seen : (old : Parts State) (marks : Marks) (log : History Op) (entry : Entry Op) (id view : ℕ) → StandsFor D old log entry → ((r : ℕ) → mark_of marks r ≡ marker_seen_by id view (mark_of old.marks r))
       → StandsFor D (record old { marks = marks }) log (seen_by id view entry)

@@ -91,3 +91,8 @@ pub cond_again' : (b c d : Bool) (n : ℕ) → d ≡ (b || c) → cond d 0 (cond
 cond_again' b c true n e = refl
 cond_again' b true false n e = absurd (let x : false ≡ true = e ∙ or-true b in cc)
 cond_again' b false false n e = refl
+
+-- where both tests agree, either is each
+pub either_alike : (b c d : Bool) → d ≡ (b || c) → b ≡ c → b ≡ d
+either_alike true c d e same = sym e
+either_alike false c d e same = same ∙ sym e

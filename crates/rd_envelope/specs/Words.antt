@@ -1,5 +1,5 @@
 -- The parts of envelopes and groups, which clauses speak of.
-use Rattle.std.specs.Prelude.{ℕ, ◌<◌, ◌≤◌, Bool, ◌&&◌, ◌||◌, ◌==◌, nat_lt, if◌then◌else◌, Option, Some, None}
+use Rattle.std.specs.Prelude.{◌≡◌, ℕ, ◌<◌, ◌≤◌, Bool, ◌&&◌, ◌||◌, ◌==◌, nat_lt, if◌then◌else◌, Option, Some, None}
 use Rattle.rd_history.specs.Table.{identity_limit, with_at}
 use Rattle.rd_history.specs.Vector.{VersionVector, alone}
 use Rattle.rd_history.specs.History.{at, is_pruned}
@@ -50,3 +50,7 @@ module _ {Op : Type 0} where
   -- the entry with the first mark of a view, which its owner alone has seen
   abbrev pub with_mark : Entry Op → ℕ → ℕ → ℕ → Entry Op
   with_mark entry r owner view = record entry { marks = with_at entry.marks r (Some (record { view = view; owner = owner; seen = alone owner })) }
+
+  -- no mark was begun
+  abbrev pub IsUnmarked : Entry Op → Type 0
+  IsUnmarked entry = (r : ℕ) → entry.marks r ≡ None

@@ -1,6 +1,7 @@
-ghost use Rattle.std.specs.Prelude.{◌≡◌, ℕ, ◌+◌, ◌<◌, ◌≤◌, ◌^◌, Bool, true, false, not, IfSome, IfNone, IfOk, IfErr, OnOk, OnErr, Option, Some, None, Ok, max};
+ghost use Rattle.std.specs.Prelude.{◌≡◌, ◌↔◌, ℕ, ◌+◌, ◌<◌, ◌≤◌, ◌^◌, Bool, true, false, not, IsTrue, IfSome, IfNone, IfOk, IfErr, OnOk, OnErr, Option, Some, None, Ok, max};
 ghost use Rattle.std.specs.FinMap as map;
 ghost use Rattle.rd_history.specs.Table.{identity_limit};
+ghost use Rattle.rd_history.specs.Vector.{Covers};
 ghost use Rattle.rd_history.specs.History.{History, at, versions, union, is_pruned, IsHistory, IsExactlyPruned};
 ghost use Rattle.rd_history.specs.History.Action.{Operation};
 ghost use Rattle.rd_history.specs.Log.{IsTakenFrom};
@@ -12,7 +13,7 @@ ghost use Rattle.rd_vectors.specs.Vectors.{number_at, raised};
 ghost use Rattle.rd_markers.specs.Marks.{mark_of, begun, is_performed, is_begun_at, performed_in, MergesTo};
 ghost use Rattle.rd_lattice.specs.Refusals.{IsApplyRefusal};
 ghost use Rattle.rd_envelope.specs.Images.{StandsFor, StandsForGroup};
-ghost use Rattle.rd_envelope.specs.Words.{parts_of, group_parts, is_unchanged_at, with_mark, init_at, init_by, judgement_of, IsFirstUnknown};
+ghost use Rattle.rd_envelope.specs.Words.{parts_of, group_parts, is_unchanged_at, with_mark, init_at, init_by, judgement_of, IsFirstUnknown, IsUnmarked};
 ghost use Rattle.rd_envelope.specs.Pruning.{init_as, init_of, IsPruned};
 ghost use Rattle.rd_envelope.specs.declared.outcomes.Perform.TheVariants as outcome;
 ghost use Rattle.rd_envelope.specs.declared.outcomes.Init.TheVariants as initial;
@@ -22,7 +23,7 @@ use crate::group::Group;
 use crate::outcomes::{Init, Judgement, Perform};
 use rd_lattice::{ApplyError, PruneError, Replica, Shown};
 use rd_markers::{Marker, Markers};
-use rd_vectors::{Dot, IDENTITIES, Id, IdSet, Memory, Seq, VersionVector};
+use rd_vectors::{Dot, Id, IdSet, Memory, Seq, VersionVector};
 use std::alloc::Global;
 
 /// What a member holds of one key.
@@ -124,11 +125,20 @@ impl<T: Replica> Envelope<T> {
         self.markers.performed(id)
     }
 
+    /// No identity from this on has a record or a mark.
+    pub fn limit(&self) -> u8
+        ensures marks { (i : ℕ) → result ≤ i → mark_of self.now.markers i ≡ None }
+        ensures image { (log : History T.Op) (entry : Entry T.Op) → StandsFor T.IsDataOf (parts_of self.now) log entry → (i : ℕ) → result ≤ i → at entry.history i ≡ 0 }
+        ensures range { result ≤ identity_limit }
+    {
+        self.versions.limit().max(self.markers.limit())
+    }
+
     /// Whether there is any record.
     pub fn has_records(&self) -> bool
         ensures image { (log : History T.Op) (entry : Entry T.Op) → StandsFor T.IsDataOf (parts_of self.now) log entry → result ≡ has_records entry }
     {
-        for number in 0..IDENTITIES {
+        for number in 0..self.limit() {
             if let Some(id) = Id::new(number) {
                 if self.at(id) > 0 {
                     return true;
@@ -143,8 +153,11 @@ impl<T: Replica> Envelope<T> {
         ensures image { (log : History T.Op) (entry : Entry T.Op) → StandsFor T.IsDataOf (parts_of self.now) log entry
             → IfOk result (λ known. (i : ℕ) → number_at known i ≡ at entry.history i) }
     {
+        if self.markers.is_empty() {
+            return self.versions.copy(alloc);
+        }
         let mut known = VersionVector::new(alloc);
-        for number in 0..IDENTITIES {
+        for number in 0..self.limit() {
             if let Some(id) = Id::new(number) {
                 let seq = self.at(id);
                 if seq > 0 {
@@ -155,12 +168,22 @@ impl<T: Replica> Envelope<T> {
         Ok(known)
     }
 
+    /// Whether neither entry has a mark.
+    fn are_unmarked(&self, other: &Envelope<T>) -> bool
+        ensures { IsTrue result ↔ ((self.now.markers ≡ map.empty) × (other.now.markers ≡ map.empty)) }
+    {
+        self.markers.is_empty() && other.markers.is_empty()
+    }
+
     /// Whether this entry has the same records and marks as an earlier state of it.
     pub fn is_unchanged(&self, since: &Envelope<T>) -> bool
         ensures image { (log : History T.Op) (old new : Entry T.Op) → StandsFor T.IsDataOf (parts_of since.now) log old → StandsFor T.IsDataOf (parts_of self.now) log new
             → result ≡ is_unchanged old new }
     {
-        for number in 0..IDENTITIES {
+        if self.are_unmarked(since) {
+            return self.versions.same(&since.versions);
+        }
+        for number in 0..self.limit().max(since.limit()) {
             if let Some(id) = Id::new(number) {
                 if !self.is_unchanged_at(since, id) {
                     return false;
@@ -175,6 +198,42 @@ impl<T: Replica> Envelope<T> {
             → result ≡ is_unchanged_at old new id }
     {
         self.at(id) == since.at(id) && since.markers.same_begun(&self.markers, id)
+    }
+
+    /// Whether another entry of the same key has no record that is not here, and neither has begun a mark: this entry is then
+    /// the merge of both, and whoever sees its marks changes none.
+    pub fn gains_nothing(&self, other: &Envelope<T>) -> bool
+        ensures merged { (log : History T.Op) (mine theirs : Entry T.Op) → StandsFor T.IsDataOf (parts_of self.now) log mine → StandsFor T.IsDataOf (parts_of other.now) log theirs
+            → IsTrue result → merged mine theirs ≡ mine }
+        ensures seen { (log : History T.Op) (entry : Entry T.Op) (id view : ℕ) → StandsFor T.IsDataOf (parts_of self.now) log entry → IsTrue result → seen_by id view entry ≡ entry }
+        ensures nothing { (log : History T.Op) (mine theirs : Entry T.Op) → StandsFor T.IsDataOf (parts_of self.now) log mine → StandsFor T.IsDataOf (parts_of other.now) log theirs
+            → IsUnmarked mine → IsUnmarked theirs → Covers (versions mine.history) (versions theirs.history) → IsTrue result }
+    {
+        if self.markers.has_begun() {
+            return false;
+        }
+        if other.markers.has_begun() {
+            return false;
+        }
+        self.has_records_of(other)
+    }
+
+    /// Whether each record of another entry of the same key is here.
+    fn has_records_of(&self, other: &Envelope<T>) -> bool
+        ensures image { (log : History T.Op) (mine theirs : Entry T.Op) → StandsFor T.IsDataOf (parts_of self.now) log mine → StandsFor T.IsDataOf (parts_of other.now) log theirs
+            → IsTrue result ↔ Covers (versions mine.history) (versions theirs.history) }
+    {
+        if self.are_unmarked(other) {
+            return self.versions.covers(&other.versions);
+        }
+        for number in 0..other.limit() {
+            if let Some(id) = Id::new(number) {
+                if self.at(id) < other.at(id) {
+                    return false;
+                }
+            }
+        }
+        true
     }
 
     /// An equal entry.
@@ -254,6 +313,48 @@ impl<T: Replica> Envelope<T> {
     {
         let mut markers = self.markers.copy(self.alloc)?;
         markers.merge(&other.markers)?;
+        if self.markers.same_performed(&other.markers) {
+            self.join(other, markers)
+        } else {
+            self.join_cleaned(other, markers)
+        }
+    }
+
+    /// Takes the records of another entry of the same key, of which the same identities were pruned; and these marks of both.
+    fn join(&mut self, other: &Envelope<T>, markers: Markers) -> Result<(), Memory>
+        requires kind { T.kind_of self.old.value ≡ T.kind_of other.now.value }
+        requires merges { MergesTo self.old.markers other.now.markers markers }
+        requires alike { (i : ℕ) → performed_in self.old.markers i ≡ performed_in other.now.markers i }
+        ensures image { (log : History T.Op) (mine theirs : Entry T.Op) → StandsFor T.IsDataOf (parts_of self.old) log mine → StandsFor T.IsDataOf (parts_of other.now) log theirs
+            → IsExactlyPruned (union mine.history theirs.history) → OnOk result (StandsFor T.IsDataOf (parts_of self.new) log (merged mine theirs)) }
+        ensures markers { OnOk result (self.new.markers ≡ markers) }
+        ensures versions { (i : ℕ) → OnOk result (number_at self.new.versions i ≡ max (number_at self.old.versions i) (number_at other.now.versions i)) }
+        ensures kind { T.kind_of self.new.value ≡ T.kind_of self.old.value }
+        ensures err { OnErr result (self.new ≡ self.old) }
+    {
+        let _few = other.versions.limit();
+        let mut versions = self.versions.copy(self.alloc)?;
+        versions.join(&other.versions)?;
+        self.value
+            .join(&self.versions, &other.value, &other.versions)?;
+        self.versions = versions;
+        self.markers = markers;
+        Ok(())
+    }
+
+    /// Takes the records of another entry of the same key, without what either has of an identity that was pruned; and these
+    /// marks of both.
+    fn join_cleaned(&mut self, other: &Envelope<T>, markers: Markers) -> Result<(), Memory>
+        requires kind { T.kind_of self.old.value ≡ T.kind_of other.now.value }
+        requires merges { MergesTo self.old.markers other.now.markers markers }
+        ensures image { (log : History T.Op) (mine theirs : Entry T.Op) → StandsFor T.IsDataOf (parts_of self.old) log mine → StandsFor T.IsDataOf (parts_of other.now) log theirs
+            → IsExactlyPruned (union mine.history theirs.history) → OnOk result (StandsFor T.IsDataOf (parts_of self.new) log (merged mine theirs)) }
+        ensures markers { OnOk result (self.new.markers ≡ markers) }
+        ensures versions { (i : ℕ) → OnOk result (number_at self.new.versions i ≤ max (number_at self.old.versions i) (number_at other.now.versions i)) }
+        ensures greatest { (i : ℕ) → performed_in self.new.markers i ≡ false → OnOk result (number_at self.new.versions i ≡ max (number_at self.old.versions i) (number_at other.now.versions i)) }
+        ensures kind { T.kind_of self.new.value ≡ T.kind_of self.old.value }
+        ensures err { OnErr result (self.new ≡ self.old) }
+    {
         let mut value = self.value.copy(self.alloc)?;
         let mut versions = self.versions.copy(self.alloc)?;
         drop_performed(&mut value, &mut versions, &markers);
@@ -288,7 +389,11 @@ impl<T: Replica> Envelope<T> {
         ensures none { (log : History T.Op) (entry : Entry T.Op) → StandsFor T.IsDataOf (parts_of self.now) log entry
             → IfNone result ((i : ℕ) → i < identity_limit → number_at needs.now i ≤ at entry.history i) }
     {
-        for number in 0..IDENTITIES {
+        let limit = needs.limit();
+        if self.markers.is_empty() {
+            return self.versions.first_lacking(needs);
+        }
+        for number in 0..limit {
             if let Some(id) = Id::new(number) {
                 if self.at(id) < needs.at(id) {
                     return Some(id);

@@ -116,6 +116,13 @@ impl VersionVector {
         self.first_lacking(needs).is_none()
     }
 
+    /// Whether both vectors have the same numbers.
+    pub fn same(&self, other: &VersionVector) -> bool
+        ensures { IsTrue result ↔ ((i : ℕ) → number_at self.now i ≡ number_at other.now i) }
+    {
+        self.covers(other) && other.covers(self)
+    }
+
     /// How this vector stands to the other.
     pub fn compare(&self, other: &VersionVector) -> Order
         ensures reaches { IsTrue (reaches result) ↔ Covers (number_at self.now) (number_at other.now) }

@@ -1,0 +1,59 @@
+use Rattle.std.proofs.Common.{◌≡◌, ℕ, ap, sym, ◌∙◌, subst, cond}
+use Rattle.rd_history.specs.Vector.{join, united}
+use Rattle.rd_history.specs.History.{versions}
+use Rattle.rd_history.specs.Cuts.{without}
+use Rattle.rd_vectors.specs.Vectors.{number_at}
+use Rattle.rd_markers.specs.Marks.{performed_in, MergesTo}
+use Rattle.rd_envelope.specs.Words.{parts_of}
+use Rattle.rd_envelope.proofs.Numbers.{joined_numbers, joined_most, joined_greatest}
+use Rattle.rd_envelope.proofs.Tests.{performed_merge, either_again, either_again', cond_again, cond_again'}
+use Rattle.rd_envelope.proofs.Holding.{holds_merged, pruned_union}
+use Rattle.rd_envelope.proofs.Entries.{stands_merged, exact_union}
+use Rattle.rd_envelope.proofs.envelope.Envelope.join_cleaned.Goals as goal
+
+pub returns-clause-image : goal.returns-clause-image
+returns-clause-image g c = λ log mine theirs s t is_exact.
+    let D = g.T.Replica.IsDataOf in
+    let v' = versions mine.history in
+    let w' = versions theirs.history in
+    let one = c.args.self.now in
+    let two = c.args.other.now in
+    let marks = c.args.markers in
+    let merges : MergesTo one.markers two.markers marks = c.requires.merges in
+    let is : (i : ℕ) → performed_in marks i ≡ united (performed_in one.markers) (performed_in two.markers) i = performed_merge one.markers two.markers marks merges in
+    let a = c.drop_performed.new.value in
+    let b = c.drop_performed-2.new.value in
+    let v = c.drop_performed.new.versions in
+    let w = c.drop_performed-2.new.versions in
+    let da : D a log v' (performed_in marks) = subst (D a log v') (λ j i. either_again (performed_in one.markers i) (performed_in two.markers i) (performed_in marks i) (is i) j)
+    (c.drop_performed.ensures.state log v' (performed_in one.markers) (subst (λ x. D x log v' (performed_in one.markers)) (sym c.in_ok-value.ensures) s.holds.state)) in
+    let db : D b log w' (performed_in marks) = subst (D b log w') (λ j i. either_again' (performed_in one.markers i) (performed_in two.markers i) (performed_in marks i) (is i) j)
+    (c.drop_performed-2.ensures.state log w' (performed_in two.markers) (subst (λ x. D x log w' (performed_in two.markers)) (sym c.in_ok-their_value.ensures) t.holds.state)) in
+    let nv : (i : ℕ) → number_at v i ≡ without (performed_in marks) v' i = λ i. c.drop_performed.ensures.numbers i
+    ∙ ap (λ x. cond (performed_in marks i) 0 (number_at x i)) c.in_ok-versions.ensures.same ∙ ap (cond (performed_in marks i) 0) (s.holds.numbers i) ∙ cond_again (performed_in one.markers i) (performed_in two.markers i) (performed_in marks i) (v' i) (is i) in
+    let nw : (i : ℕ) → number_at w i ≡ without (performed_in marks) w' i = λ i. c.drop_performed-2.ensures.numbers i
+    ∙ ap (λ x. cond (performed_in marks i) 0 (number_at x i)) c.in_ok-their_versions.ensures.same ∙ ap (cond (performed_in marks i) 0) (t.holds.numbers i) ∙ cond_again' (performed_in one.markers i) (performed_in two.markers i) (performed_in marks i) (w' i) (is i) in
+    let kinds = c.drop_performed.ensures.kind ∙ ap g.T.Replica.kind_of c.in_ok-value.ensures ∙ c.requires.kind ∙ sym (c.drop_performed-2.ensures.kind ∙ ap g.T.Replica.kind_of c.in_ok-their_value.ensures) in
+    let fv : number_at v ≡ without (performed_in marks) v' = λ j i. nv i j in
+    let fw : number_at w ≡ without (performed_in marks) w' = λ j i. nw i j in
+    let e = c.in_ok-join.ensures.ok ∙ ap (λ f. g.T.Replica.joined a f b (number_at w)) fv ∙ ap (λ f. g.T.Replica.joined a (without (performed_in marks) v') b f) fw in
+    let exact = exact_union D (parts_of one) (parts_of two) log mine theirs s t is_exact in
+    stands_merged D (parts_of one) (parts_of two) _ log mine theirs s t merges
+    (holds_merged D _ _ c.join.new.self c.join-2.new.self marks log v' w' s.holds t.holds exact merges
+    (subst (λ x. D x log (join v' w') (performed_in marks)) (sym e) (g.met.T.Replica.data_joined a b log v' w' (performed_in marks) kinds s.holds.cut t.holds.cut (pruned_union D _ _ marks log v' w' s.holds t.holds exact merges) da db))
+    (joined_numbers v w c.join-2.new.self v' w' (performed_in marks) s.holds.cut.few t.holds.cut.few nv nw c.in_ok-join-2.ensures.ok))
+
+pub returns-clause-versions : goal.returns-clause-versions
+returns-clause-versions g c =
+    joined_most c.args.self.now.versions c.args.other.now.versions c.drop_performed.new.versions c.drop_performed-2.new.versions c.join-2.new.self (performed_in c.args.markers)
+    (λ i. c.drop_performed.ensures.numbers i ∙ ap (λ m. without (performed_in c.args.markers) (number_at m) i) c.in_ok-versions.ensures.same)
+    (λ i. c.drop_performed-2.ensures.numbers i ∙ ap (λ m. without (performed_in c.args.markers) (number_at m) i) c.in_ok-their_versions.ensures.same)
+    c.in_ok-join-2.ensures.ok
+
+pub returns-clause-greatest : goal.returns-clause-greatest
+returns-clause-greatest g c = λ i stays.
+    joined_greatest c.args.self.now.versions c.args.other.now.versions c.drop_performed.new.versions c.drop_performed-2.new.versions c.join-2.new.self (performed_in c.args.markers)
+    c.in_ok-versions.ensures.normal c.in_ok-their_versions.ensures.normal
+    (λ i. c.drop_performed.ensures.numbers i ∙ ap (λ m. without (performed_in c.args.markers) (number_at m) i) c.in_ok-versions.ensures.same)
+    (λ i. c.drop_performed-2.ensures.numbers i ∙ ap (λ m. without (performed_in c.args.markers) (number_at m) i) c.in_ok-their_versions.ensures.same)
+    c.in_ok-join-2.ensures.ok i stays
