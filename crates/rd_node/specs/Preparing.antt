@@ -12,7 +12,8 @@ use Rattle.rd_node.specs.declared.input.Input.{Input}
 use Rattle.rd_node.specs.declared.plan.Prepared.{Prepared}
 use Rattle.rd_node.specs.Members.{IsSafe, StandsForNode}
 use Rattle.rd_node.specs.Inputs.{StandsForInput}
-use Rattle.rd_node.specs.Steps.{replication}
+use Rattle.rd_node.specs.declared.reply.Output.{Output}
+use Rattle.rd_node.specs.Steps.{replication, MakesStep}
 use Rattle.rd_node.specs.Planning.{IsSoundPlan, IsPrepared}
 use Rattle.rd_node.specs.Operations.{CanChange, opens_one}
 use Rattle.rd_node.specs.Outputs.{is_pending}
@@ -30,3 +31,7 @@ module _ {T K Kind Op Delta : Type 0} {ghosts : Ghosts T Kind Op Delta} {keeping
   Prepares spelling code input prepared =
       (kinds : Text → Kind) (logs : Text → History Op) (node : nodes.Node Kind Op Shown) (sent : nodes.Input Op) → StandsForNode ghosts.kind_of ghosts.IsDataOf kinds logs code node → StandsForInput kinds logs code.keys.items input sent
       → IsSafe logs (step (replication ghosts spelling) node sent nodes.Fate.NoStore).node → IsPrepared kinds logs code.keys.items code.operations node (step (replication ghosts spelling) node sent nodes.Fate.NoStore) prepared
+
+  -- a step is made, for each input for which it was prepared
+  abbrev pub MakesPrepared : Spelling T Kind Op Delta → Node T K Kind Op Delta ghosts keeping → Prepared T Kind Op Delta ghosts → Output T Kind Op Delta ghosts → Node T K Kind Op Delta ghosts keeping → Type 0
+  MakesPrepared spelling old prepared output new = (input : Input T Kind Op Delta ghosts) → Prepares spelling old input prepared → MakesStep spelling old input output new

@@ -13,6 +13,7 @@ use rd_envelope::Envelope;
 use rd_keeper::Keeper;
 use rd_lattice::{Replica, SpelledData};
 use rd_machine::machine::Machine;
+use rd_messages::Message;
 use rd_vectors::Id;
 use rd_views::View;
 use std::alloc::Global;
@@ -54,6 +55,8 @@ impl<T: SpelledData, K: Keeper + Drop> Node<T, K> {
     ghost use Rattle.rd_node.specs.Planning.{IsSoundPlan};
     ghost use Rattle.rd_node.specs.Operations.{CanChange};
     ghost use Rattle.rd_node.specs.Carrying.{IsCommitted, IsCarried};
+    ghost use Rattle.rd_node.specs.Preparing.{IsSoundFor, MakesPrepared};
+    ghost use Rattle.rd_node.specs.declared.input.Input.TheVariants as input;
 
     /// A member without records, over a keeper that it does not call. The keys are held in the order in which they are given.
     ///
@@ -153,12 +156,42 @@ impl<T: SpelledData, K: Keeper + Drop> Node<T, K> {
         if let Some(became) = self.update_in_place(input)? {
             return Ok(became.output(self.alloc));
         }
+        let prepared = self.prepare(input)?;
+        Ok(self.make(prepared)?)
+    }
+
+    /// Makes a step for a message, as `step` does for the input that takes it, but leaves the message where it is.
+    ///
+    /// # Errors
+    ///
+    /// As those of `step`.
+    pub fn take(&mut self, from: Id, message: &Message<T>) -> Result<Output<T>, StepError>
+        ensures step { IfOk result (λ output. MakesStep T.SpelledData.own self.old (input.Take from message.now) output self.new) }
+        ensures refusal { IfErr result (MayRefuse self.old) }
+        ensures full { result ≡ Err StepError.HistoryFull ↔ (self.old.steps ≡ 16384) }
+        ensures unchanged { OnErr result (IsUnchanged self.old self.new) }
+    {
+        if self.steps >= MOST_STEPS {
+            return Err(StepError::HistoryFull);
+        }
+        let prepared = self.taken(from, message)?;
+        Ok(self.make(prepared)?)
+    }
+
+    /// Makes the step that was prepared.
+    #[inline(always)]
+    fn make(&mut self, prepared: Prepared<T>) -> Result<Output<T>, Memory>
+        requires room { self.old.steps < 16384 }
+        requires sound { IsSoundFor self.old prepared }
+        ensures made { IfOk result (λ output. MakesPrepared T.SpelledData.own self.old prepared output self.new) }
+        ensures unchanged { OnErr result (IsUnchanged self.old self.new) }
+    {
         let Prepared {
             view,
             plan,
             operations,
             output,
-        } = self.prepare(input)?;
+        } = prepared;
         let fate = self.carry(view, plan, operations)?;
         Ok(output.after(fate))
     }

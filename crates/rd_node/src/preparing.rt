@@ -90,7 +90,8 @@ impl<T: SpelledData, K: Keeper + Drop> Node<T, K> {
         }
     }
 
-    fn taken(&self, from: Id, message: &Message<T>) -> Result<Prepared<T>, Memory>
+    /// A step for a message, before it is made.
+    pub(crate) fn taken(&self, from: Id, message: &Message<T>) -> Result<Prepared<T>, Memory>
         ensures sound { IfOk result (IsSoundFor self.now) }
         ensures image { IfOk result (Prepares T.SpelledData.own self.now (input.Take from message.now)) }
     {
