@@ -192,3 +192,14 @@ rising_either false xs ys zs e p q = subst IsRising (sym e) q
 
 pub rising_of_set : (xs ys : List Text) → xs ≡ text_set ys → IsRising xs
 rising_of_set xs ys e = subst IsRising (sym e) (rising_set ys)
+
+-- TEXTS ONE BY ONE
+
+pub no_more : (xs : List Text) → IsRising xs → xs ≡ text_set (xs ++ [])
+no_more xs h = own_set xs h ∙ ap text_set (sym (append-nil xs))
+
+-- one more of other texts in a list that has those before it
+pub one_more : (xs others now : List Text) (x : Text) (i : ℕ) → i < length others → x ≡ get_or others i x → now ≡ text_set (xs ++ take i others) → text_set (now ++ x ∷ []) ≡ text_set (xs ++ take (i + 1) others)
+one_more xs others now x i l at is =
+    ap (λ ys. text_set (ys ++ x ∷ [])) is ∙ set_with (text_set (xs ++ take i others)) x (rising_set (xs ++ take i others)) ∙ sym (fold_more [] (xs ++ take i others) x)
+    ∙ ap text_set (append_assoc xs (take i others) (x ∷ [])) ∙ ap (λ ys. text_set (xs ++ ys)) (sym (take_here others i x l at))

@@ -1,5 +1,5 @@
 -- Where a text belongs in a sorted list of texts.
-use Rattle.std.specs.Prelude.{◌≡◌, ℕ, ◌≤◌, List, [], ◌∷◌, ◌++◌, length, false}
+use Rattle.std.specs.Prelude.{◌≡◌, ℕ, ◌<◌, ◌≤◌, List, [], ◌∷◌, ◌++◌, length, get_or, false, Result, Ok, Err}
 use Rattle.std.specs.List.{insert}
 use Rattle.rd_history.specs.Texts.{Text, text_set, contains_text}
 
@@ -8,3 +8,8 @@ pub record IsPlace (texts : List Text) (text : Text) (index : ℕ) : Type 0 wher
   pub within : index ≤ length texts
   pub absent : contains_text texts text ≡ false
   pub sorted : insert texts index text ≡ text_set (texts ++ text ∷ [])
+
+-- where a text stands in a list, or belongs
+abbrev pub IsFound : List Text → Text → Result ℕ ℕ → Type 0
+IsFound texts text (Ok place) = (place < length texts) × (get_or texts place [] ≡ text)
+IsFound texts text (Err place) = IsPlace texts text place

@@ -1,7 +1,7 @@
-ghost use Rattle.std.specs.Prelude.{◌≡◌, ◌≤◌, [], ◌∷◌, ◌++◌, length, true, OnOk, IfOk, IfNone, IfSome};
+ghost use Rattle.std.specs.Prelude.{◌≡◌, ◌<◌, ◌≤◌, ◌+◌, [], ◌∷◌, ◌++◌, vec_len, vec_capacity, true, IsOk, OnOk, OnErr, IfOk, IfNone, IfSome};
 ghost use Rattle.rd_history.specs.Texts.{text_set, contains_text};
 ghost use Rattle.rd_bytes.specs.TextOrder.{text_order, IsRising};
-ghost use Rattle.rd_growing.specs.Texts.{IsPlace};
+ghost use Rattle.rd_growing.specs.Texts.{IsPlace, IsFound};
 
 use rd_bytes::{Memory, Text};
 use std::alloc::Global;
@@ -14,21 +14,78 @@ pub(crate) fn order(text: &Text, other: &Text) -> Ordering
     text.as_str().cmp(other.as_str())
 }
 
+/// The place of a text in a rising list, or else the place at which it belongs.
+fn search(texts: &[Text], text: &Text) -> Result<usize, usize>
+    requires { IsRising texts.now }
+    ensures { IsFound texts.now text.now result }
+{
+    let mut low = 0;
+    let mut high = texts.len();
+    while low < high {
+        let middle = low + (high - low) / 2;
+        match order(&texts[middle], text) {
+            Ordering::Less => low = middle + 1,
+            Ordering::Equal => return Ok(middle),
+            Ordering::Greater => high = middle,
+        }
+    }
+    Err(low)
+}
+
+/// The place of a text in a rising list, or else the place at which it belongs. A text that comes after the list's last is found by one look.
+pub fn find(texts: &[Text], text: &Text) -> Result<usize, usize>
+    requires { IsRising texts.now }
+    ensures { IsFound texts.now text.now result }
+{
+    if texts.is_empty() {
+        return Err(0);
+    }
+    let last = texts.len() - 1;
+    match order(&texts[last], text) {
+        Ordering::Less => Err(texts.len()),
+        Ordering::Equal => Ok(last),
+        Ordering::Greater => search(texts, text),
+    }
+}
+
 /// The index at which a text belongs, unless it is there.
 pub(crate) fn place(elements: &[Text], element: &Text) -> Option<usize>
     requires { IsRising elements.now }
     ensures present { IfNone result (contains_text elements.now element.now ≡ true) }
     ensures place { IfSome result (λ index. IsPlace elements.now element.now index) }
 {
-    let mut index = 0;
-    while index < elements.len() {
-        match order(&elements[index], element) {
-            Ordering::Less => index += 1,
-            Ordering::Equal => return None,
-            Ordering::Greater => return Some(index),
-        }
+    match find(elements, element) {
+        Ok(_) => None,
+        Err(index) => Some(index),
     }
-    Some(index)
+}
+
+/// Adds a text to a rising list, unless it is there.
+fn put(texts: &mut Vec<Text>, text: &Text) -> Result<(), Memory>
+    requires { IsRising texts.old.items }
+    ensures ok { OnOk result (texts.new.items ≡ text_set (texts.old.items ++ text.now ∷ [])) }
+    ensures err { OnErr result (texts.new.items ≡ texts.old.items) }
+    ensures fits { vec_len texts.old < vec_capacity texts.old → IsOk result }
+    ensures grown { (vec_len texts.new ≤ vec_len texts.old + 1) × (vec_capacity texts.old ≤ vec_capacity texts.new) }
+{
+    match place(texts, text) {
+        None => Ok(()),
+        Some(index) => Ok(texts.insert(index, text.copied())?),
+    }
+}
+
+/// Adds texts to a rising list, each at its place. After a refusal the list is as it was.
+pub(crate) fn put_all(texts: &mut Vec<Text>, others: &[Text]) -> Result<(), Memory>
+    requires { IsRising texts.old.items }
+    ensures rising { IsRising texts.new.items }
+    ensures ok { OnOk result (texts.new.items ≡ text_set (texts.old.items ++ others.now)) }
+    ensures err { OnErr result (texts.new.items ≡ texts.old.items) }
+{
+    texts.reserve(others.len())?;
+    for text in others {
+        put(texts, text)?;
+    }
+    Ok(())
 }
 
 /// Adds a copy of a text at the end.
@@ -53,11 +110,13 @@ fn append_all(all: &mut Vec<Text>, alloc: Global, texts: &[Text]) -> Result<(), 
 }
 
 /// Copies of texts.
-pub(crate) fn copied(alloc: Global, texts: &[Text]) -> Result<Vec<Text>, Memory>
+pub fn copied(alloc: Global, texts: &[Text]) -> Result<Vec<Text>, Memory>
     ensures { IfOk result (λ copy. copy.items ≡ texts.now) }
 {
-    let mut all = Vec::new(alloc);
-    append_all(&mut all, alloc, texts)?;
+    let mut all = Vec::with_capacity(alloc, texts.len())?;
+    for text in texts {
+        all.push_reserved(text.copied());
+    }
     Ok(all)
 }
 

@@ -8,6 +8,7 @@ mod set;
 mod spelling;
 mod timestamp;
 
+pub use elements::{copied, find};
 pub use flag::{Flag, SwitchedOn};
 pub use register::{LwwRegister, Written};
 pub use set::{GSet, MOST_ELEMENTS};

@@ -17,7 +17,7 @@ ghost use Rattle.rd_growing.specs.Reading.{set_in};
 ghost use Rattle.rd_growing.specs.SpellingLaws as spellings;
 ghost use Rattle.rd_growing.specs.SetLaws as laws;
 
-use crate::elements::{copied, merged, place};
+use crate::elements::{copied, merged, place, put_all};
 use crate::spelling::{read_texts, spelled_texts};
 use rd_bytes::{FieldError, Items, Memory, ReadError, Text, placed, read_number};
 use rd_kinds::{Op, Texts};
@@ -28,6 +28,9 @@ use std::marker::Model;
 
 /// With so many elements a set takes no other.
 pub const MOST_ELEMENTS: usize = 256;
+
+/// So many elements or fewer are put into a set one by one.
+const FEW_ELEMENTS: usize = 16;
 
 /// A set that only grows: its elements, each once, in byte order.
 #[derive(Drop)]
@@ -131,6 +134,9 @@ impl GSet {
         ensures ok { OnOk result (self.new ≡ text_set (self.old ++ other.now)) }
         ensures err { OnErr result (self.new ≡ self.old) }
     {
+        if other.elements.len() <= FEW_ELEMENTS {
+            return put_all(&mut self.elements, &other.elements);
+        }
         self.elements = merged(self.alloc, &self.elements, &other.elements)?;
         Ok(())
     }

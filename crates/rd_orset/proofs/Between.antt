@@ -18,19 +18,19 @@ use Rattle.rd_orset.proofs.SetsOfDots.{is_at, contains_set_of}
 
 -- THE ORDER OF THE ELEMENTS
 
-before_nth : (p : Placed) (ps : List Placed) (i : ℕ) → IsBeforeAll p ps → i < length ps → placed_order p (nth ps i) ≡ Less
+pub before_nth : (p : Placed) (ps : List Placed) (i : ℕ) → IsBeforeAll p ps → i < length ps → placed_order p (nth ps i) ≡ Less
 before_nth p [] i h l = absurd (omega arith)
 before_nth p (q ∷ ps) zero h l = h.0
 before_nth p (q ∷ ps) (suc i) h l = before_nth p ps i h.1 (omega arith)
 
-upto_nth : (ps : List Placed) (i j : ℕ) → AreDots ps → i ≤ j → j < length ps → IsUpto (nth ps i).element (nth ps j).element
+pub upto_nth : (ps : List Placed) (i j : ℕ) → AreDots ps → i ≤ j → j < length ps → IsUpto (nth ps i).element (nth ps j).element
 upto_nth [] i j h le l = absurd (omega arith)
 upto_nth (p ∷ ps) zero zero h le l = inr refl
 upto_nth (p ∷ ps) (suc i) zero h le l = absurd (omega arith)
 upto_nth (p ∷ ps) zero (suc j) h le l = before_upto p (nth ps j) (before_nth p ps j h.1 (omega arith))
 upto_nth (p ∷ ps) (suc i) (suc j) h le l = upto_nth ps i j h.2 (omega arith) (omega arith)
 
-upto_lt : (x y e : Text) → IsUpto x y → text_lt y e ≡ true → text_lt x e ≡ true
+pub upto_lt : (x y e : Text) → IsUpto x y → text_lt y e ≡ true → text_lt x e ≡ true
 upto_lt x y e (inl less) h = lt_trans x y e less h
 upto_lt x y e (inr same) h = subst (λ z. text_lt z e ≡ true) (sym same) h
 
@@ -197,7 +197,7 @@ before_drop w ps zero h = h
 before_drop w [] (suc t) h = tt
 before_drop w (p ∷ ps) (suc t) h = before_drop w ps t h.1
 
-before_put : (w x : Placed) (ps : List Placed) (s t : ℕ) → placed_order w x ≡ Less → IsBeforeAll w ps → IsBeforeAll w (take s ps ++ x ∷ drop t ps)
+pub before_put : (w x : Placed) (ps : List Placed) (s t : ℕ) → placed_order w x ≡ Less → IsBeforeAll w ps → IsBeforeAll w (take s ps ++ x ∷ drop t ps)
 before_put w x ps zero t less h = (less, before_drop w ps t h)
 before_put w x [] (suc s) t less h = (less, before_drop w [] t tt)
 before_put w x (p ∷ ps) (suc s) zero less h = (h.0, before_with w x ps s (p ∷ ps) less h.1 h)
@@ -221,13 +221,20 @@ dots_put (p ∷ ps) x zero (suc t) numbered dots h = dots_put ps x 0 t numbered 
 dots_put (p ∷ ps) x (suc s) (suc t) numbered dots h =
     (dots.0, before_put p x ps s t (by_element p x (h.before 0 (omega arith))) dots.1, dots_put ps x s t numbered dots.2 (both_later p ps x.element s t h))
 
-any_append : (test : Placed → Bool) (xs ys : List Placed) → list_any test (xs ++ ys) ≡ (list_any test xs || list_any test ys)
+pub any_append : (test : Placed → Bool) (xs ys : List Placed) → list_any test (xs ++ ys) ≡ (list_any test xs || list_any test ys)
 any_append test [] ys = refl
 any_append test (x ∷ xs) ys = ap (λ b. test x || b) (any_append test xs ys) ∙ assoc (test x) (list_any test xs) (list_any test ys)
   where
     assoc : (a b c : Bool) → (a || (b || c)) ≡ ((a || b) || c)
     assoc true b c = refl
     assoc false b c = refl
+
+pub turned : (a b c : Bool) → (a || (b || c)) ≡ ((a || c) || (b || false))
+turned true b c = refl
+turned false true true = refl
+turned false true false = refl
+turned false false true = refl
+turned false false false = refl
 
 -- the others' set with the new dot
 pub put_set : (ps : List Placed) (x : Placed) (s t : ℕ) → IsRunOf ps x.element s t → set_of (take s ps ++ x ∷ drop t ps) ≡ set.union (set_of (filter (has_other x.element) ps)) (set_of (x ∷ []))
@@ -237,13 +244,6 @@ put_set ps x s t h = same_dots _ _ (λ k.
     ∙ ap (λ qs. list_any (is_at k) qs || (is_at k x || false)) (sym (unnamed_run ps x.element s t h))
     ∙ ap (λ b. b || (is_at k x || false)) (sym (contains_set_of (filter (has_other x.element) ps) k)) ∙ ap (λ b. set.contains (set_of (filter (has_other x.element) ps)) k || b) (sym (contains_set_of (x ∷ []) k))
     ∙ sym (set.contains-union nat_list_cmp_total (set_of (filter (has_other x.element) ps)) (set_of (x ∷ [])) k))
-  where
-    turned : (a b c : Bool) → (a || (b || c)) ≡ ((a || c) || (b || false))
-    turned true b c = refl
-    turned false true true = refl
-    turned false true false = refl
-    turned false false true = refl
-    turned false false false = refl
 
 pub none_named : (ps : List Placed) (e : Text) → list_any (has_name e) (filter (has_other e) ps) ≡ false
 none_named [] e = refl

@@ -9,3 +9,6 @@ pub mod Loops
 pub mod Runs
 pub mod Passes
 pub mod Between
+pub mod OneDot
+pub mod SpotOrder
+pub mod Uniting

@@ -22,6 +22,11 @@ pub record AreMerged (both : Bool) (mine theirs : List ℕ → Bool) (here there
   pub dots : AreDots all
   pub has : (k : List ℕ) → set.contains (set_of all) k ≡ stays both (mine k) (theirs k) (set.contains (set_of here) k) (set.contains (set_of there) k)
 
+-- what is left of a list where the dots of another go, but for those that stay by the rule
+pub record AreLeft (rule : List ℕ → Bool) (old other left : List Placed) : Type 0 where
+  pub dots : AreDots left
+  pub has : (k : List ℕ) → set.contains (set_of left) k ≡ stays (rule k) true false (set.contains (set_of old) k) (set.contains (set_of other) k)
+
 -- the dots of two sets that stay
 abbrev pub set_merged : Bool → (List ℕ → Bool) → (List ℕ → Bool) → Dots → Dots → Dots
 set_merged both mine theirs here there = set.retain (set.union here there) (λ k. stays both (mine k) (theirs k) (set.contains here k) (set.contains there k))
@@ -41,12 +46,6 @@ is_other_key texts _ = true
 -- the answer says whether no dot before the one at the index is of its element
 abbrev pub IsFirstOf : List Placed → ℕ → Bool → Type 0
 IsFirstOf ps index first = (p : Placed) → p ≡ get_or ps index p → first ≡ not (contains_text (texts_of (take index ps)) p.element)
-
--- the dots before an index pass the test, and those from it on don't
-pub record IsBound (test : Placed → Bool) (ps : List Placed) (index : ℕ) : Type 0 where
-  pub within : index ≤ length ps
-  pub before : (i : ℕ) → i < index → test (nth ps i) ≡ true
-  pub after : (i : ℕ) → index ≤ i → i < length ps → test (nth ps i) ≡ false
 
 -- the dots of an element stand from one index up to another, or would stand there
 pub record IsRunOf (ps : List Placed) (e : Text) (start end : ℕ) : Type 0 where

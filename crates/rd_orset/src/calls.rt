@@ -12,7 +12,7 @@ ghost use Rattle.rd_orset.specs.Keeping.{set_merged};
 use crate::dot_list::DotList;
 use crate::dots::{All, Nothing, Rule, has_origin, merged};
 use crate::elements::{
-    between, count_elements, elements_at, elements_of, has_element, others, placed_at, run_of,
+    between, count_elements, elements_at, elements_of, has_element, others, placed_at,
 };
 use crate::set::{OrSet, SetDelta};
 use rd_bytes::{Items, Memory, Text};
@@ -72,6 +72,14 @@ impl OrSet {
         self.merged_with(alloc, false, &All, other, &Nothing)
     }
 
+    /// Adds the dots of another set. After a refusal the set is as it was.
+    fn unite(&mut self, other: &OrSet) -> Result<(), Memory>
+        ensures ok { OnOk result (self.new ≡ set.union self.old other.now) }
+        ensures err { OnErr result (self.new ≡ self.old) }
+    {
+        self.dots.unite(&other.dots, &All)
+    }
+
     /// One dot.
     fn of(alloc: Global, element: &Text, dot: &Dot) -> Result<OrSet, Memory>
         requires { (1 ≤ dot.now.seq) × (dot.now.seq ≤ 2 ^ 62) }
@@ -86,7 +94,7 @@ impl OrSet {
     fn named(&self, alloc: Global, element: &Text) -> Result<OrSet, Memory>
         ensures { IfOk result (λ own. own ≡ set.retain self.now (is_element element.now)) }
     {
-        let run = run_of(&self.dots, element);
+        let run = self.dots.run_of(element);
         let dots = between(alloc, &self.dots, run.0, run.1)?;
         Ok(OrSet { alloc, dots })
     }
@@ -95,7 +103,7 @@ impl OrSet {
     fn drop_named(&mut self, element: &Text)
         ensures { self.new ≡ set.retain self.old (λ k. not (is_element element.now k)) }
     {
-        let run = run_of(&self.dots, element);
+        let run = self.dots.run_of(element);
         self.dots.drop_between(run.0, run.1);
         self.dots.forget(element);
     }
@@ -106,7 +114,7 @@ impl OrSet {
         ensures ok { OnOk result (self.new ≡ set_applied self.old (op.Add element.now) dot.now) }
         ensures err { OnErr result (self.new ≡ self.old) }
     {
-        let run = run_of(&self.dots, element);
+        let run = self.dots.run_of(element);
         match self.dots.replace(run.0, run.1, element, dot) {
             Ok(()) => Ok(()),
             Err(Memory) => Err(Memory),
@@ -117,6 +125,9 @@ impl OrSet {
     fn is_full_for(&self, element: &Text) -> bool
         ensures { result ≡ (nat_le greatest_set (length (shown_elements self.now)) && not (contains_text (shown_elements self.now) element.now)) }
     {
+        if self.dots.len() < MOST_ELEMENTS {
+            return false;
+        }
         count_elements(&self.dots) >= MOST_ELEMENTS && !has_element(&self.dots, element)
     }
 
@@ -138,8 +149,8 @@ impl OrSet {
             return Err(ApplyError::SetFull);
         }
         let fresh = OrSet::of(alloc, element, dot)?;
-        let old = self.named(alloc, element)?;
-        let seen = old.united(alloc, &fresh)?;
+        let mut seen = self.named(alloc, element)?;
+        seen.unite(&fresh)?;
         self.put(element, dot)?;
         Ok(SetDelta { fresh, seen })
     }
@@ -181,10 +192,8 @@ impl OrSet {
         ensures ok { OnOk result (self.new ≡ set_absorbed self.old (number_at mine.now) delta.now) }
         ensures err { OnErr result (self.new ≡ self.old) }
     {
-        let left = self.without(self.alloc, &delta.seen)?;
-        let fresh = self.merged_with(self.alloc, true, &Nothing, &delta.fresh, mine)?;
-        let next = left.united(self.alloc, &fresh)?;
-        *self = next;
+        self.dots.unite(&delta.fresh.dots, mine)?;
+        self.dots.drop_all(&delta.seen.dots, &delta.fresh);
         Ok(())
     }
 

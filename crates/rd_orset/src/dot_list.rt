@@ -1,14 +1,19 @@
-ghost use Rattle.std.specs.Prelude.{◌≡◌, ◌<◌, ◌≤◌, ◌+◌, ◌-◌, ◌^◌, [], ◌∷◌, ◌++◌, length, map, take, drop, get_or, not, nat_eq, if◌then◌else◌, nat_le, nat_lt, false, OnOk, OnErr, IfOk};
+ghost use Rattle.std.specs.Prelude.{◌≡◌, ◌<◌, ◌≤◌, ◌+◌, ◌-◌, ◌^◌, [], ◌∷◌, ◌++◌, length, map, take, drop, get_or, not, nat_eq, if◌then◌else◌, nat_le, nat_lt, true, false, vec_len, vec_capacity, IsOk, OnOk, OnErr, IfOk};
 ghost use Rattle.std.specs.List.{filter, list_any};
 ghost use Rattle.std.specs.Str.{bytes_eq};
-ghost use Rattle.rd_bytes.specs.TextOrder.{IsRising};
-ghost use Rattle.rd_orset.specs.Placing.{at_dot, dot_at, nth};
-ghost use Rattle.rd_orset.specs.Spots.{placed_in, AreSpots, ArePlacesBelow, IsFound, shifted, lowered};
+ghost use Rattle.std.specs.FinSet as set;
+ghost use Rattle.rd_orset.specs.Placing.{key, at_dot, dot_at, nth, AreDots};
+ghost use Rattle.rd_orset.specs.Keeping.{set_of, AreMerged, AreLeft, IsRunOf};
+ghost use Rattle.rd_orset.specs.Spots.{placed_in, dots_in, AreSpots, ArePlacesBelow, shifted, lowered};
 
+mod changes;
+
+use crate::dots::Rule;
+use changes::{find_spot, put_all, start_of, take_out_all};
 use rd_bytes::{Memory, Text};
+use rd_growing::{copied, find};
 use rd_vectors::{Dot, Id};
 use std::alloc::Global;
-use std::cmp::Ordering;
 use std::marker::Model;
 
 /// A dot of the element at a place of a table.
@@ -36,40 +41,6 @@ impl Model for DotList {
     ghost view = { λ list. map (placed_in list.texts.items) list.spots.items };
 
     ghost invariant = { λ list. AreSpots list.texts.items list.spots.items };
-}
-
-/// The place of an element in a table, or else the place at which it belongs.
-fn search(texts: &[Text], element: &Text) -> Result<usize, usize>
-    requires { IsRising texts.now }
-    ensures { IsFound texts.now element.now result }
-{
-    let mut low = 0;
-    let mut high = texts.len();
-    while low < high {
-        let middle = low + (high - low) / 2;
-        match texts[middle].as_str().cmp(element.as_str()) {
-            Ordering::Less => low = middle + 1,
-            Ordering::Equal => return Ok(middle),
-            Ordering::Greater => high = middle,
-        }
-    }
-    Err(low)
-}
-
-/// As `search`, which it needs only for an element that comes before the table's last.
-fn find(texts: &[Text], element: &Text) -> Result<usize, usize>
-    requires { IsRising texts.now }
-    ensures { IsFound texts.now element.now result }
-{
-    if texts.is_empty() {
-        return Err(0);
-    }
-    let last = texts.len() - 1;
-    match texts[last].as_str().cmp(element.as_str()) {
-        Ordering::Less => Err(texts.len()),
-        Ordering::Equal => Ok(last),
-        Ordering::Greater => search(texts, element),
-    }
 }
 
 /// A place after one more text stands in the table.
@@ -104,8 +75,11 @@ fn make_room(spots: &mut [Spot], len: usize, from: usize)
 fn intern(texts: &mut Vec<Text>, spots: &mut Vec<Spot>, element: &Text) -> Result<usize, Memory>
     requires { AreSpots texts.old.items spots.old.items }
     ensures spots { AreSpots texts.new.items spots.new.items }
-    ensures same { map (placed_in texts.new.items) spots.new.items ≡ map (placed_in texts.old.items) spots.old.items }
+    ensures same { dots_in texts.new.items spots.new.items ≡ dots_in texts.old.items spots.old.items }
     ensures place { IfOk result (λ place. (place < length texts.new.items) × (get_or texts.new.items place [] ≡ element.now)) }
+    ensures fits { vec_len texts.old < vec_capacity texts.old → IsOk result }
+    ensures grown { (vec_len texts.new ≤ vec_len texts.old + 1) × (vec_capacity texts.old ≤ vec_capacity texts.new) }
+    ensures room { (vec_len spots.new ≡ vec_len spots.old) × (vec_capacity spots.new ≡ vec_capacity spots.old) }
 {
     match find(texts, element) {
         Ok(place) => Ok(place),
@@ -116,18 +90,6 @@ fn intern(texts: &mut Vec<Text>, spots: &mut Vec<Spot>, element: &Text) -> Resul
             Ok(place)
         }
     }
-}
-
-/// Copies of texts.
-fn copies(alloc: Global, texts: &[Text]) -> Result<Vec<Text>, Memory>
-    ensures { IfOk result (λ all. all.items ≡ texts.now) }
-{
-    let mut all = Vec::new(alloc);
-    all.reserve(texts.len())?;
-    for text in texts {
-        all.push(text.copied())?;
-    }
-    Ok(all)
 }
 
 /// A place after the text at another went from the table.
@@ -146,19 +108,27 @@ fn close(spots: &mut [Spot], gap: usize)
     }
 }
 
+/// Takes the text at a place, which no dot is of, from the table.
+fn drop_text(texts: &mut Vec<Text>, spots: &mut Vec<Spot>, place: usize)
+    requires spots { AreSpots texts.old.items spots.old.items }
+    requires within { place < length texts.old.items }
+    requires unused { list_any (λ s. bytes_eq (get_or texts.old.items place []) (placed_in texts.old.items s).element) spots.old.items ≡ false }
+    ensures spots { AreSpots texts.new.items spots.new.items }
+    ensures same { dots_in texts.new.items spots.new.items ≡ dots_in texts.old.items spots.old.items }
+{
+    texts.remove(place);
+    close(spots, place);
+}
+
 /// Takes an element that no dot is of from the table, if it is there.
 fn forget(texts: &mut Vec<Text>, spots: &mut Vec<Spot>, element: &Text)
     requires spots { AreSpots texts.old.items spots.old.items }
     requires unused { list_any (λ s. bytes_eq element.now (placed_in texts.old.items s).element) spots.old.items ≡ false }
     ensures spots { AreSpots texts.new.items spots.new.items }
-    ensures same { map (placed_in texts.new.items) spots.new.items ≡ map (placed_in texts.old.items) spots.old.items }
+    ensures same { dots_in texts.new.items spots.new.items ≡ dots_in texts.old.items spots.old.items }
 {
-    match find(texts, element) {
-        Ok(place) => {
-            texts.remove(place);
-            close(spots, place);
-        }
-        Err(_) => {}
+    if let Ok(place) = find(texts, element) {
+        drop_text(texts, spots, place);
     }
 }
 
@@ -200,7 +170,7 @@ impl DotList {
     pub(crate) fn copy(&self, alloc: Global) -> Result<DotList, Memory>
         ensures { IfOk result (λ copy. copy ≡ self.now) }
     {
-        let texts = copies(alloc, &self.texts)?;
+        let texts = copied(alloc, &self.texts)?;
         let mut spots = Vec::new(alloc);
         spots.extend_from_slice(&self.spots)?;
         Ok(DotList { texts, spots })
@@ -282,6 +252,52 @@ impl DotList {
         ensures { self.new ≡ self.old }
     {
         forget(&mut self.texts, &mut self.spots, element);
+    }
+
+    /// From which index up to which the dots of an element stand, or would stand.
+    pub(crate) fn run_of(&self, element: &Text) -> (usize, usize)
+        requires { AreDots self.now }
+        ensures { IsRunOf self.now element.now result.0 result.1 }
+    {
+        match find(&self.texts, element) {
+            Ok(place) => (
+                start_of(&self.spots, place),
+                start_of(&self.spots, place + 1),
+            ),
+            Err(place) => {
+                let start = start_of(&self.spots, place);
+                (start, start)
+            }
+        }
+    }
+
+    /// Whether an element has a dot.
+    pub(crate) fn has(&self, element: &Text, dot: &Dot) -> bool
+        requires { AreDots self.now }
+        ensures { result ≡ set.contains (set_of self.now) (key element.now dot.now.origin dot.now.seq) }
+    {
+        match find(&self.texts, element) {
+            Ok(place) => find_spot(&self.spots, &Spot { place, dot: *dot }).is_ok(),
+            Err(_) => false,
+        }
+    }
+
+    /// Adds the dots of another list that stay, each at its place. After a refusal the list is as it was.
+    pub(crate) fn unite<R: Rule>(&mut self, other: &DotList, rule: &R) -> Result<(), Memory>
+        requires mine { AreDots self.old }
+        requires theirs { AreDots other.now }
+        ensures ok { OnOk result (AreMerged true (λ _. true) (R.keeps rule.now) self.old other.now self.new) }
+        ensures err { OnErr result (self.new ≡ self.old) }
+    {
+        put_all(&mut self.texts, &mut self.spots, other, rule)
+    }
+
+    /// Drops the dots of another list, but for those that stay.
+    pub(crate) fn drop_all<R: Rule>(&mut self, other: &DotList, rule: &R)
+        requires { AreDots self.old }
+        ensures { AreLeft (R.keeps rule.now) self.old other.now self.new }
+    {
+        take_out_all(&mut self.texts, &mut self.spots, other, rule);
     }
 
     /// Drops every dot of an identity.

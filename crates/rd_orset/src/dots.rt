@@ -1,11 +1,13 @@
 ghost use Rattle.std.specs.Prelude.{◌≡◌, ℕ, ◌<◌, ◌≤◌, [], ◌∷◌, ◌++◌, List, Bool, true, false, not, nat_eq, length, drop, OnOk, IfOk, if◌then◌else◌};
 ghost use Rattle.std.specs.List.{filter, list_any};
+ghost use Rattle.std.specs.FinSet as set;
 ghost use Rattle.rd_vectors.specs.Vectors.{number_at};
 ghost use Rattle.rd_orset.specs.Placing.{placed_order, key_of, nth, AreDots};
 ghost use Rattle.rd_orset.specs.Dots.{contained, is_of};
 ghost use Rattle.rd_orset.specs.Keeping.{AreMerged};
 
 use crate::dot_list::DotList;
+use crate::set::OrSet;
 use rd_bytes::Memory;
 use rd_vectors::{Id, VersionVector};
 use std::alloc::Global;
@@ -58,6 +60,15 @@ impl Rule for VersionVector {
 
     fn keeps(&self, dots: &DotList, index: usize) -> bool {
         !self.contains_dot(dots.dot(index))
+    }
+}
+
+/// Those stay that the set has.
+impl Rule for OrSet {
+    ghost keeps = { λ kept k. set.contains kept k };
+
+    fn keeps(&self, dots: &DotList, index: usize) -> bool {
+        self.dots.has(dots.element(index), &dots.dot(index))
     }
 }
 

@@ -1,10 +1,10 @@
 ghost use Rattle.std.specs.Prelude.{◌≡◌, ◌<◌, ◌≤◌, ◌^◌, [], ◌∷◌, ◌++◌, not, nat_eq, length, map, take, drop, OnOk, IfOk, if◌then◌else◌};
 ghost use Rattle.std.specs.List.{filter, list_any};
 ghost use Rattle.std.specs.Str.{bytes_eq};
-ghost use Rattle.rd_history.specs.Texts.{text_lt, text_set, contains_text};
+ghost use Rattle.rd_history.specs.Texts.{text_set};
 ghost use Rattle.rd_bytes.specs.TextOrder.{text_order, IsRising};
 ghost use Rattle.rd_orset.specs.Placing.{AreDots, at_dot, nth};
-ghost use Rattle.rd_orset.specs.Keeping.{texts_of, is_other, IsFirstOf, IsBound, IsRunOf};
+ghost use Rattle.rd_orset.specs.Keeping.{texts_of, is_other, IsFirstOf};
 
 use crate::dot_list::DotList;
 use crate::dots::{All, append, append_kept, kept};
@@ -15,58 +15,11 @@ use std::cmp::Ordering;
 
 /// Whether one of the dots is of this element.
 pub(crate) fn has_element(dots: &DotList, element: &Text) -> bool
+    requires { AreDots dots.now }
     ensures { result ≡ list_any (λ p. bytes_eq element.now p.element) dots.now }
 {
-    for index in 0..dots.len() {
-        if element.as_str() == dots.element(index).as_str() {
-            return true;
-        }
-    }
-    false
-}
-
-/// How many dots are of elements that come before this one.
-fn start_of(dots: &DotList, element: &Text) -> usize
-    requires { AreDots dots.now }
-    ensures { IsBound (λ p. text_lt p.element element.now) dots.now result }
-{
-    let mut low = 0;
-    let mut high = dots.len();
-    while low < high {
-        let middle = low + (high - low) / 2;
-        match dots.element(middle).as_str().cmp(element.as_str()) {
-            Ordering::Less => low = middle + 1,
-            Ordering::Equal => high = middle,
-            Ordering::Greater => high = middle,
-        }
-    }
-    low
-}
-
-/// How many dots are of this element or of elements that come before it.
-fn end_of(dots: &DotList, element: &Text) -> usize
-    requires { AreDots dots.now }
-    ensures { IsBound (λ p. not (text_lt element.now p.element)) dots.now result }
-{
-    let mut low = 0;
-    let mut high = dots.len();
-    while low < high {
-        let middle = low + (high - low) / 2;
-        match dots.element(middle).as_str().cmp(element.as_str()) {
-            Ordering::Less => low = middle + 1,
-            Ordering::Equal => low = middle + 1,
-            Ordering::Greater => high = middle,
-        }
-    }
-    low
-}
-
-/// From which index up to which the dots of an element stand, or would stand.
-pub(crate) fn run_of(dots: &DotList, element: &Text) -> (usize, usize)
-    requires { AreDots dots.now }
-    ensures { IsRunOf dots.now element.now result.0 result.1 }
-{
-    (start_of(dots, element), end_of(dots, element))
+    let run = dots.run_of(element);
+    run.0 < run.1
 }
 
 /// The dots from an index up to another.
@@ -113,7 +66,7 @@ pub(crate) fn elements_of(alloc: Global, dots: &DotList) -> Result<Vec<Text>, Me
     requires { AreDots dots.now }
     ensures { IfOk result (λ all. all.items ≡ text_set (texts_of dots.now)) }
 {
-    let mut all = Vec::new(alloc);
+    let mut all = Vec::with_capacity(alloc, dots.len())?;
     for index in 0..dots.len() {
         append_text(&mut all, dots.element(index), is_first(dots, index))?;
     }

@@ -1,18 +1,7 @@
-use Rattle.std.proofs.Common.{sym}
-use Rattle.rd_growing.proofs.Merging.{search_less, search_equal, search_greater, search_end}
+use Rattle.std.proofs.Common.{ap, sym, ◌∙◌}
+use Rattle.rd_history.specs.Texts.{contains_text}
+use Rattle.rd_growing.proofs.Searching.{contains_at}
 use Rattle.rd_growing.proofs.elements.place.Goals as goal
 
-pub loop-index-preserved : goal.loop-index-preserved
-loop-index-preserved c =
-    search_less c.args.elements.now c.args.element.now c.index-elements-index.result c.loop-index.index c.loop-index-test.true c.index-elements-index.is (sym c.in-Less.ensures) c.loop-index.invariant
-
-pub returns-in-Equal-clause-present : goal.returns-in-Equal-clause-present
-returns-in-Equal-clause-present c =
-    search_equal c.args.elements.now c.args.element.now c.index-elements-index.result c.loop-index.index c.loop-index-test.true c.index-elements-index.is (sym c.in-Equal.ensures) c.loop-index.invariant
-
-pub returns-in-Greater-clause-place : goal.returns-in-Greater-clause-place
-returns-in-Greater-clause-place c =
-    search_greater c.args.elements.now c.args.element.now c.index-elements-index.result c.loop-index.index c.requires c.loop-index-test.true c.index-elements-index.is (sym c.in-Greater.ensures) c.loop-index.invariant
-
-pub returns-clause-place : goal.returns-clause-place
-returns-clause-place c = search_end c.args.elements.now c.args.element.now c.loop-index.index c.requires c.loop-index-test.false c.loop-index.invariant
+pub returns-in-Ok-clause-present : goal.returns-in-Ok-clause-present
+returns-in-Ok-clause-present c = ap (contains_text c.args.elements.now) (sym c.in-Ok.ensures.1) ∙ contains_at c.args.elements.now c.in-Ok.field-0 c.in-Ok.ensures.0
