@@ -112,11 +112,9 @@ impl Replica for GCounter {
         self.reach(*delta)
     }
 
-    fn combine(_alloc: Global, first: &Share, later: &Share) -> Result<Share, Memory> {
-        Ok(Share {
-            origin: first.origin,
-            share: first.share.max(later.share),
-        })
+    fn extend_delta(delta: &mut Share, later: &Share) -> Result<(), Memory> {
+        delta.share = delta.share.max(later.share);
+        Ok(())
     }
 
     fn copy_delta(_alloc: Global, delta: &Share) -> Result<Share, Memory> {

@@ -154,12 +154,10 @@ impl Replica for PnCounter {
         Ok(())
     }
 
-    fn combine(_alloc: Global, first: &PnShare, later: &PnShare) -> Result<PnShare, Memory> {
-        Ok(PnShare {
-            origin: first.origin,
-            plus: first.plus.max(later.plus),
-            minus: first.minus.max(later.minus),
-        })
+    fn extend_delta(delta: &mut PnShare, later: &PnShare) -> Result<(), Memory> {
+        delta.plus = delta.plus.max(later.plus);
+        delta.minus = delta.minus.max(later.minus);
+        Ok(())
     }
 
     fn copy_delta(_alloc: Global, delta: &PnShare) -> Result<PnShare, Memory> {

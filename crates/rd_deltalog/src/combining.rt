@@ -25,7 +25,7 @@ pub(crate) fn combined<T: Replica>(
     let mut combined = T::copy_delta(alloc, oldest)?;
     for index in first + 1..kept {
         match &records.at(index).delta {
-            Some(later) => combined = T::combine(alloc, &combined, later)?,
+            Some(later) => T::extend_delta(&mut combined, later)?,
             None => return Ok(None),
         }
     }

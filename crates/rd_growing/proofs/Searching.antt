@@ -4,13 +4,15 @@ use Rattle.std.specs.Ordering.{ordering_reverse}
 use Rattle.std.specs.declared.cmp.Ordering.TheVariants.{Less, Equal, Greater}
 use Rattle.std.specs.Cmp.Lexicographic.{nat_list_cmp_total}
 use Rattle.std.specs.Str.{bytes_eq}
+use Rattle.std.specs.List.{insert}
+use Rattle.std.proofs.lemmas.List.Edits.{length-insert, get_or-insert_below, get_or-insert_at, get_or-insert_above}
 use Rattle.std.proofs.lemmas.List.{get_or_default}
 use Rattle.std.proofs.lemmas.Bool.{or_left, or_right}
 use Rattle.rd_history.specs.Texts.{Text, text_lt, contains_text}
 use Rattle.rd_bytes.specs.TextOrder.{text_order, IsBelowAll, IsRising}
 use Rattle.rd_bytes.proofs.TextLaws.{order_less, order_equal, order_greater, less_order, lt_trans, texts_eq}
 use Rattle.rd_growing.specs.Texts.{IsPlace}
-use Rattle.rd_growing.proofs.Merging.{IsSearched, search_start, search_less, search_greater, search_end}
+use Rattle.rd_growing.proofs.Merging.{IsSearched, search_start, search_less, search_greater, search_end, rising_of_set}
 
 -- THE ORDER
 
@@ -111,3 +113,18 @@ pub contains_at : (xs : List Text) (i : ℕ) → i < length xs → contains_text
 contains_at [] i l = absurd (omega arith)
 contains_at (x ∷ xs) zero l = or_left (bytes_eq x x) (contains_text xs x) (texts_eq x)
 contains_at (x ∷ xs) (suc i) l = or_right (bytes_eq (get_or xs i []) x) (contains_text xs (get_or xs i [])) (contains_at xs i (omega arith))
+
+-- the texts before the place at which a text belongs come before it, and those from there on after it
+pub before_place : (xs : List Text) (e : Text) (k p : ℕ) → IsPlace xs e k → p < k → text_lt (get_or xs p []) e ≡ true
+before_place xs e k p h l =
+    let within = h.within in
+    let long = length-insert xs k e h.within in
+    let rising = rising_of_set (insert xs k e) (xs ++ e ∷ []) h.sorted in
+    ap (λ x. text_lt x e) (sym (get_or-insert_below xs k e [] p l h.within)) ∙ ap (text_lt (get_or (insert xs k e) p [])) (sym (get_or-insert_at xs k e [] h.within)) ∙ rising_at (insert xs k e) p k rising l (omega arith)
+
+pub after_place : (xs : List Text) (e : Text) (k p : ℕ) → IsPlace xs e k → k ≤ p → p < length xs → text_lt e (get_or xs p []) ≡ true
+after_place xs e k p h le l =
+    let within = h.within in
+    let long = length-insert xs k e h.within in
+    let rising = rising_of_set (insert xs k e) (xs ++ e ∷ []) h.sorted in
+    ap (text_lt e) (sym (get_or-insert_above xs k e [] p le h.within)) ∙ ap (λ x. text_lt x (get_or (insert xs k e) (p + 1) [])) (sym (get_or-insert_at xs k e [] h.within)) ∙ rising_at (insert xs k e) k (p + 1) rising (omega arith) (omega arith)

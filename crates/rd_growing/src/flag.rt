@@ -116,12 +116,8 @@ impl Replica for Flag {
         Ok(())
     }
 
-    fn combine(
-        _alloc: Global,
-        _first: &SwitchedOn,
-        _later: &SwitchedOn,
-    ) -> Result<SwitchedOn, Memory> {
-        Ok(SwitchedOn)
+    fn extend_delta(_delta: &mut SwitchedOn, _later: &SwitchedOn) -> Result<(), Memory> {
+        Ok(())
     }
 
     fn copy_delta(_alloc: Global, _delta: &SwitchedOn) -> Result<SwitchedOn, Memory> {

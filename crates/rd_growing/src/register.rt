@@ -72,6 +72,17 @@ impl Written {
             write.copy_of(alloc)
         }
     }
+
+    /// Becomes another write where that wins, which takes no memory.
+    fn give_way(&mut self, other: &Written)
+        ensures { self.new ≡ winning self.old other.now }
+    {
+        if other.wins(self) {
+            self.text = other.text.copied();
+            self.timestamp = other.timestamp;
+            self.writer = other.writer;
+        }
+    }
 }
 
 /// A register that keeps the last write.
@@ -247,8 +258,9 @@ impl Replica for LwwRegister {
         self.take(delta)
     }
 
-    fn combine(alloc: Global, first: &Written, later: &Written) -> Result<Written, Memory> {
-        Written::winner(alloc, first, later)
+    fn extend_delta(delta: &mut Written, later: &Written) -> Result<(), Memory> {
+        delta.give_way(later);
+        Ok(())
     }
 
     fn copy_delta(alloc: Global, delta: &Written) -> Result<Written, Memory> {

@@ -230,10 +230,8 @@ impl Replica for GSet {
         self.unite(delta)
     }
 
-    fn combine(alloc: Global, first: &GSet, later: &GSet) -> Result<GSet, Memory> {
-        let mut both = first.copy_of(alloc)?;
-        both.unite(later)?;
-        Ok(both)
+    fn extend_delta(delta: &mut GSet, later: &GSet) -> Result<(), Memory> {
+        delta.unite(later)
     }
 
     fn copy_delta(alloc: Global, delta: &GSet) -> Result<GSet, Memory> {

@@ -132,7 +132,19 @@ pub trait Replica: Drop {
     ) -> Result<Self::Delta, Memory>
         requires origin { (origin : ℕ) × IsOfOrigin first.now origin × IsOfOrigin later.now origin }
         requires kind { (kind : Self.Kind) × (delta_fits_kind kind first.now ≡ true) × (delta_fits_kind kind later.now ≡ true) }
-        ensures { IfOk result (λ delta. delta ≡ combined first.now later.now) };
+        ensures { IfOk result (λ delta. delta ≡ combined first.now later.now) }
+    {
+        let mut both = Self::copy_delta(alloc, first)?;
+        Self::extend_delta(&mut both, later)?;
+        Ok(both)
+    }
+
+    /// Adds a later delta to one of the same origin and kind, so that it is both as one. After a refusal it is as it was.
+    fn extend_delta(delta: &mut Self::Delta, later: &Self::Delta) -> Result<(), Memory>
+        requires origin { (origin : ℕ) × IsOfOrigin delta.old origin × IsOfOrigin later.now origin }
+        requires kind { (kind : Self.Kind) × (delta_fits_kind kind delta.old ≡ true) × (delta_fits_kind kind later.now ≡ true) }
+        ensures ok { OnOk result (delta.new ≡ combined delta.old later.now) }
+        ensures err { OnErr result (delta.new ≡ delta.old) };
 
     /// An equal delta.
     fn copy_delta(alloc: Global, delta: &Self::Delta) -> Result<Self::Delta, Memory>

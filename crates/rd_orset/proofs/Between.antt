@@ -5,12 +5,15 @@ use Rattle.std.specs.Str.{bytes_eq}
 use Rattle.std.specs.Ordering.{nat_cmp, ordering_then}
 use Rattle.std.specs.declared.cmp.Ordering.TheVariants.{Less, Equal, Greater}
 use Rattle.std.specs.FinSet as set
+use Rattle.std.specs.Prelude.{nat_lt}
+use Rattle.std.proofs.lemmas.List.{take-append-drop}
+use Rattle.std.proofs.lemmas.Bool.Decides.{nat_tests}
 use Rattle.std.specs.Cmp.Lexicographic.{nat_list_cmp_total}
 use Rattle.rd_history.specs.Texts.{Text, text_lt}
 use Rattle.rd_bytes.specs.TextOrder.{text_order}
 use Rattle.rd_bytes.proofs.TextLaws.{order_less, order_equal, order_greater, less_order, lt_trans, lt_one_way, lt_never, lt_same, lt_differ, lt_differ_too, texts_eq}
 use Rattle.rd_orset.specs.Placing.{Placed, nth, placed_order, IsBeforeAll, IsNumbered, AreDots}
-use Rattle.rd_orset.specs.Keeping.{IsBound, IsRunOf, set_of}
+use Rattle.rd_orset.specs.Keeping.{IsRunOf, set_of}
 use Rattle.rd_orset.specs.DotLaws.{same_dots}
 use Rattle.rd_orset.proofs.Placings.{before_all}
 use Rattle.rd_orset.proofs.ElementsInOrder.{IsUpto, before_upto, lt_upto}
@@ -33,107 +36,6 @@ upto_nth (p ∷ ps) (suc i) (suc j) h le l = upto_nth ps i j h.2 (omega arith) (
 pub upto_lt : (x y e : Text) → IsUpto x y → text_lt y e ≡ true → text_lt x e ≡ true
 upto_lt x y e (inl less) h = lt_trans x y e less h
 upto_lt x y e (inr same) h = subst (λ z. text_lt z e ≡ true) (sym same) h
-
--- a test that an element passes where one after it does
-pub record Falls (test : Placed → Bool) : Type 0 where
-  pub falls : (p q : Placed) → IsUpto p.element q.element → test q ≡ true → test p ≡ true
-
-pub before_falls : (e : Text) → Falls (λ p. text_lt p.element e)
-before_falls e = record { falls = λ p q h less. upto_lt p.element q.element e h less }
-
-past_falls_go : (e x y : Text) → IsUpto x y → (b : Bool) → text_lt e x ≡ b → not (text_lt e y) ≡ true → not b ≡ true
-past_falls_go e x y h true is past = absurd (let f = sym past ∙ ap not (lt_upto e x y is h) in cc f)
-past_falls_go e x y h false is past = refl
-
-pub past_falls : (e : Text) → Falls (λ p. not (text_lt e p.element))
-past_falls e = record { falls = λ p q h past. past_falls_go e p.element q.element h (text_lt e p.element) refl past }
-
--- THE SEARCH
-
-pub record IsHalved (test : Placed → Bool) (ps : List Placed) (low high : ℕ) : Type 0 where
-  pub order : low ≤ high
-  pub within : high ≤ length ps
-  pub before : (i : ℕ) → i < low → test (nth ps i) ≡ true
-  pub after : (i : ℕ) → high ≤ i → i < length ps → test (nth ps i) ≡ false
-
-pub halved_start : (test : Placed → Bool) (ps : List Placed) (n : ℕ) → n ≡ length ps → IsHalved test ps 0 n
-halved_start test ps n e = record { order = omega arith; within = omega arith; before = λ i l. absurd (omega arith); after = λ i l m. absurd (omega arith) }
-
-pub halved_up : (test : Placed → Bool) (ps : List Placed) (low high middle : ℕ) → Falls test → AreDots ps → low ≤ middle → middle < high → test (nth ps middle) ≡ true → IsHalved test ps low high → IsHalved test ps (middle + 1) high
-halved_up test ps low high middle f dots le lt is h =
-    let within = h.within in record {
-      order = omega arith;
-      within = h.within;
-      before = λ i l. f.falls (nth ps i) (nth ps middle) (upto_nth ps i middle dots (omega arith) (omega arith)) is;
-      after = h.after;
-    }
-
-pub halved_down : (test : Placed → Bool) (ps : List Placed) (low high middle : ℕ) → Falls test → AreDots ps → low ≤ middle → middle < high → test (nth ps middle) ≡ false → IsHalved test ps low high → IsHalved test ps low middle
-halved_down test ps low high middle f dots le lt is h =
-    let within = h.within in record {
-      order = omega arith;
-      within = omega arith;
-      before = h.before;
-      after = λ i l m. go i l m (test (nth ps i)) refl;
-    }
-  where
-    go : (i : ℕ) → middle ≤ i → i < length ps → (b : Bool) → test (nth ps i) ≡ b → test (nth ps i) ≡ false
-    go i l m true e = absurd (let g = sym (f.falls (nth ps middle) (nth ps i) (upto_nth ps middle i dots l m) e) ∙ is in cc g)
-    go i l m false e = e
-
-pub halved_end : (test : Placed → Bool) (ps : List Placed) (low high : ℕ) → high ≤ low → IsHalved test ps low high → IsBound test ps low
-halved_end test ps low high le h = let order = h.order in let within = h.within in record { within = omega arith; before = h.before; after = λ i l m. h.after i (omega arith) m }
-
--- by what the order of the texts says
-pub less_passes : (x e : Text) → text_order x e ≡ Less → text_lt x e ≡ true
-less_passes x e o = order_less x e o
-
-pub equal_fails : (x e : Text) → text_order x e ≡ Equal → text_lt x e ≡ false
-equal_fails x e o = ap (text_lt x) (sym (order_equal x e o)) ∙ lt_never x
-
-pub greater_fails : (x e : Text) → text_order x e ≡ Greater → text_lt x e ≡ false
-greater_fails x e o = lt_one_way e x (order_greater x e o)
-
-pub less_is_past : (x e : Text) → text_order x e ≡ Less → not (text_lt e x) ≡ true
-less_is_past x e o = ap not (lt_one_way x e (order_less x e o))
-
-pub equal_is_past : (x e : Text) → text_order x e ≡ Equal → not (text_lt e x) ≡ true
-equal_is_past x e o = ap (λ y. not (text_lt y x)) (sym (order_equal x e o)) ∙ ap not (lt_never x)
-
-pub greater_is_after : (x e : Text) → text_order x e ≡ Greater → not (text_lt e x) ≡ false
-greater_is_after x e o = ap not (order_greater x e o)
-
--- THE RUN
-
-not_false : (b : Bool) → not b ≡ true → b ≡ false
-not_false true e = absurd (cc e)
-not_false false e = refl
-
-not_true : (b : Bool) → not b ≡ false → b ≡ true
-not_true true e = refl
-not_true false e = absurd (cc e)
-
-bounds_order : (ps : List Placed) (e : Text) (start end : ℕ) → IsBound (λ p. text_lt p.element e) ps start → IsBound (λ p. not (text_lt e p.element)) ps end → start ≤ end
-bounds_order ps e start end lower upper = ⊎_elim (λ (le : start ≤ end). le)
-    (λ (more : end < start).
-    let within = lower.within in
-    let before = lower.before end more in
-    absurd (let f = sym (upper.after end (omega arith) (omega arith)) ∙ ap not (lt_one_way (nth ps end).element e before) in cc f)) (either start end)
-  where
-    either : (m n : ℕ) → (m ≤ n) ⊎ (n < m)
-    either zero n = inl (omega arith)
-    either (suc m) zero = inr (omega arith)
-    either (suc m) (suc n) = ⊎_elim (λ (le : m ≤ n). inl (omega arith)) (λ (more : n < m). inr (omega arith)) (either m n)
-
-pub run_is : (ps : List Placed) (e : Text) (start end : ℕ) → IsBound (λ p. text_lt p.element e) ps start → IsBound (λ p. not (text_lt e p.element)) ps end → IsRunOf ps e start end
-run_is ps e start end lower upper =
-    let within = upper.within in record {
-      order = bounds_order ps e start end lower upper;
-      within = upper.within;
-      before = lower.before;
-      named = λ i l m. lt_same (nth ps i).element e (lower.after i l (omega arith)) (not_false (text_lt e (nth ps i).element) (upper.before i m));
-      after = λ i l m. not_true (text_lt e (nth ps i).element) (upper.after i l m);
-    }
 
 -- WITHOUT THE FIRST DOT
 
@@ -252,3 +154,26 @@ none_named (p ∷ ps) e = go (bytes_eq e p.element) refl (none_named ps e)
     go : (b : Bool) → bytes_eq e p.element ≡ b → list_any (has_name e) (filter (has_other e) ps) ≡ false → list_any (has_name e) (cond (not b) (p ∷ filter (has_other e) ps) (filter (has_other e) ps)) ≡ false
     go true is later = later
     go false is later = ap (λ b. b || list_any (has_name e) (filter (has_other e) ps)) is ∙ later
+
+pub has_at : (at : Placed → Bool) (ps : List Placed) (i : ℕ) → i < length ps → at (nth ps i) ≡ true → list_any at ps ≡ true
+has_at at [] i l is = absurd (omega arith)
+has_at at (p ∷ ps) zero l is = ap (λ b. b || list_any at ps) is
+has_at at (p ∷ ps) (suc i) l is = ap (λ b. at p || b) (has_at at ps i (omega arith) is) ∙ any_true (at p)
+  where
+    any_true : (b : Bool) → (b || true) ≡ true
+    any_true true = refl
+    any_true false = refl
+
+-- an element has a dot where its run has one
+pub has_run : (ps : List Placed) (e : Text) (s t : ℕ) → IsRunOf ps e s t → nat_lt s t ≡ list_any (has_name e) ps
+has_run ps e s t h = go (nat_lt s t) refl
+  where
+    go : (b : Bool) → nat_lt s t ≡ b → nat_lt s t ≡ list_any (has_name e) ps
+    go true is =
+        let less : s < t = grind (arith, nat_tests) in
+        let within = h.within in
+        is ∙ sym (has_at (has_name e) ps s (omega arith) (ap (bytes_eq e) (h.named s (omega arith) less) ∙ texts_eq e))
+    go false is =
+        let order = h.order in
+        let same : t ≡ s = grind (arith, nat_tests) in
+        is ∙ sym (ap (list_any (has_name e)) (sym (unnamed_run ps e s t h ∙ ap (λ n. take s ps ++ drop n ps) same ∙ take-append-drop s ps)) ∙ none_named ps e)

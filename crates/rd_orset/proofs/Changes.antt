@@ -6,7 +6,7 @@ use Rattle.std.specs.Str.{bytes_eq}
 use Rattle.std.specs.Ordering.{nat_cmp, eq_by_cmp}
 use Rattle.std.specs.Cmp.Lexicographic.{slice_cmp, nat_list_cmp_total}
 use Rattle.std.specs.FinSet as set
-use Rattle.std.specs.FinSet.{contains-union, contains-retain, contains-empty, contains-difference, contains-from_list}
+use Rattle.std.specs.FinSet.{contains-union, contains-retain, contains-empty, contains-from_list}
 use Rattle.std.proofs.lemmas.Bool.{or_cases, or_left, or_right}
 use mathlib.Core.Bool.{or-false}
 use Rattle.rd_history.specs.Texts.{Text, text_set, contains_text}
@@ -17,10 +17,9 @@ use Rattle.rd_growing.specs.Bits.{same_bits}
 use Rattle.rd_bytes.proofs.TextLaws.{eq_texts, texts_eq}
 use Rattle.rd_growing.specs.TextSetLaws.{same_texts, contains_set, rising_set}
 use Rattle.rd_orset.specs.Placing.{Placed}
-use Rattle.rd_orset.specs.declared.set.SetDelta.{SetDelta}
 use Rattle.rd_orset.specs.Placing.{key, key_of}
-use Rattle.rd_orset.specs.Dots.{Dots, contained, element_of, is_element, is_of, is_dot_of, has_dot_of, is_touched, moved, set_joined, set_absorbed, set_applied, set_delta_of, set_pruned, set_mentioned, shown_elements}
-use Rattle.rd_orset.specs.DotLaws.{alike, same_dots, same_item, itself, some_dot, dot_of_any, contains-joined, contains-absorbed, contains-pruned}
+use Rattle.rd_orset.specs.Dots.{Dots, contained, element_of, is_element, is_of, is_dot_of, has_dot_of, is_touched, moved, set_joined, set_applied, set_delta_of, set_pruned, set_mentioned, shown_elements}
+use Rattle.rd_orset.specs.DotLaws.{alike, same_dots, same_item, itself, some_dot, dot_of_any, contains-joined, contains-pruned}
 use Rattle.rd_orset.specs.PruneLaws.{moved_from, moved_to}
 use Rattle.rd_orset.specs.Keeping.{set_of, stays, set_merged, texts_of, is_other_key}
 use Rattle.rd_orset.specs.Placing.{at_dot}
@@ -74,15 +73,6 @@ united_is a b = same_dots _ _ (λ k. contains-merged true (λ _. true) (λ _. tr
     go false true = refl
     go false false = refl
 
-pub difference_is : (a b : Dots) → set_merged false (λ _. true) (λ _. false) a b ≡ set.difference a b
-difference_is a b = same_dots _ _ (λ k. contains-merged false (λ _. true) (λ _. false) a b k ∙ go (set.contains a k) (set.contains b k) ∙ sym (contains-difference nat_list_cmp_total a b k))
-  where
-    go : (x y : Bool) → stays false true false x y ≡ (x && not y)
-    go true true = refl
-    go true false = refl
-    go false true = refl
-    go false false = refl
-
 pub joined_is : (a : Dots) (v : VersionVector) (b : Dots) (w : VersionVector) → set_merged true (λ k. not (contained w k)) (λ k. not (contained v k)) a b ≡ set_joined a v b w
 joined_is a v b w = same_dots _ _ (λ k.
     contains-merged true (λ k. not (contained w k)) (λ k. not (contained v k)) a b k ∙ go (set.contains a k) (set.contains b k) (contained w k) (contained v k) ∙ sym (contains-joined a v b w k))
@@ -95,22 +85,6 @@ joined_is a v b w = same_dots _ _ (λ k.
     go false false theirs mine = refl
 
 -- DELTAS
-
--- what wasn't seen, and the fresh dots that the set has or the context lacks
-pub absorbed_is : (a : Dots) (v : VersionVector) (d : SetDelta) → set.union (set.difference a d.seen) (set_merged true (λ _. false) (λ k. not (contained v k)) a d.fresh) ≡ set_absorbed a v d
-absorbed_is a v d = same_dots _ _ (λ k.
-    contains-union nat_list_cmp_total (set.difference a d.seen) (set_merged true (λ _. false) (λ k. not (contained v k)) a d.fresh) k
-    ∙ ap (λ x. x || set.contains (set_merged true (λ _. false) (λ k. not (contained v k)) a d.fresh) k) (contains-difference nat_list_cmp_total a d.seen k)
-    ∙ ap (λ x. (set.contains a k && not (set.contains d.seen k)) || x) (contains-merged true (λ _. false) (λ k. not (contained v k)) a d.fresh k)
-    ∙ go (set.contains a k) (set.contains d.seen k) (set.contains d.fresh k) (contained v k) ∙ sym (contains-absorbed a v d k))
-  where
-    go : (x s f m : Bool) → ((x && not s) || stays true false (not m) x f) ≡ ((x && (not s || f)) || (f && not m))
-    go true true true m = refl
-    go true true false m = refl
-    go true false true m = refl
-    go true false false m = refl
-    go false s true m = refl
-    go false s false m = refl
 
 with_none : (a : Dots) → a ≡ set.union a set.empty
 with_none a = same_dots _ _ (λ k. sym (contains-union nat_list_cmp_total a set.empty k ∙ ap (λ x. set.contains a k || x) (contains-empty (slice_cmp nat_cmp) k) ∙ or-false (set.contains a k)))

@@ -1,15 +1,15 @@
 -- The elements of a list of dots, in byte order.
-use Rattle.std.proofs.Common.{◌≡◌, ℕ, ◌+◌, ◌<◌, ◌⊎◌, inl, inr, List, [], ◌∷◌, ◌++◌, length, take, drop, get_or, Bool, true, false, cond, not, ◌||◌, refl, ap, sym, ◌∙◌, subst, arith}
-use Rattle.std.specs.Prelude.{if◌then◌else◌}
+use Rattle.std.proofs.Common.{◌≡◌, ℕ, suc, ◌+◌, ◌<◌, ◌≤◌, ◌⊎◌, inl, inr, List, [], ◌∷◌, ◌++◌, length, take, drop, get_or, Bool, true, false, cond, not, ◌||◌, refl, ap, sym, ◌∙◌, subst, arith}
+use Rattle.std.specs.Prelude.{fold, if◌then◌else◌}
 use Rattle.std.specs.Str.{bytes_eq}
 use Rattle.std.specs.Ordering.{nat_cmp, ordering_then}
 use Rattle.std.specs.declared.cmp.Ordering.{Ordering}
 use Rattle.std.specs.declared.cmp.Ordering.TheVariants.{Less, Equal, Greater}
 use Rattle.std.specs.Cmp.Lexicographic.{nat_list_eq_equiv}
-use Rattle.std.proofs.lemmas.List.{drop_more, take_more, take-append-drop, append-nil, map-append, length_push, get_or_default}
+use Rattle.std.proofs.lemmas.List.{drop_more, take_more, take-append-drop, append-nil, map-append, length_push, length-map, get_or_default}
 use Rattle.std.proofs.lemmas.Bool.{or_right, or_parts}
 use mathlib.Core.Bool.{or-false}
-use Rattle.rd_history.specs.Texts.{Text, text_lt, text_set, contains_text}
+use Rattle.rd_history.specs.Texts.{Text, text_lt, with_text, text_set, contains_text}
 use Rattle.rd_bytes.specs.TextOrder.{text_order, IsBelowAll, IsRising}
 use Rattle.rd_bytes.proofs.TextLaws.{order_less, order_equal, lt_trans, lt_never, eq_texts, texts_eq}
 use Rattle.rd_growing.specs.TextSetLaws.{contains_append, contains_set, rising_set, is_set}
@@ -146,3 +146,20 @@ count_more ps i p new h inside at first = ap length (elements_more ps i p new h 
     go : (b : Bool) → length (text_set (texts_of (take i ps)) ++ (if b then p.element ∷ [] else [])) ≡ length (text_set (texts_of (take i ps))) + cond b 1 0
     go true = length_push (text_set (texts_of (take i ps))) p.element
     go false = ap length (append-nil (text_set (texts_of (take i ps)))) ∙ omega arith
+
+-- no more elements than dots
+length_with : (xs : List Text) (x : Text) → length (with_text xs x) ≤ suc (length xs)
+length_with [] x = omega arith
+length_with (y ∷ ys) x = go (bytes_eq x y) (text_lt x y) (length_with ys x)
+  where
+    go : (same less : Bool) → length (with_text ys x) ≤ suc (length ys) → length (if same then y ∷ ys else (if less then x ∷ y ∷ ys else y ∷ with_text ys x)) ≤ suc (suc (length ys))
+    go true less later = omega arith
+    go false true later = omega arith
+    go false false later = omega arith
+
+length_all : (base xs : List Text) → length (fold with_text base xs) ≤ length base + length xs
+length_all base [] = omega arith
+length_all base (x ∷ xs) = let one = length_with base x in let rest = length_all (with_text base x) xs in omega arith
+
+pub no_more_elements : (ps : List Placed) → length (text_set (texts_of ps)) ≤ length ps
+no_more_elements ps = let few = length_all [] (texts_of ps) in let long = length-map ps (λ (p : Placed). p.element) in omega arith

@@ -9,7 +9,7 @@ use Rattle.rd_orset.specs.Placing.{Placed, key_of, nth, placed_order, IsBeforeAl
 use Rattle.rd_orset.specs.Keeping.{set_of, stays, AreMerged}
 use Rattle.rd_orset.specs.DotLaws.{itself}
 use Rattle.rd_orset.proofs.Placings.{IsOfOne, before_all, never_before_itself}
-use Rattle.rd_orset.proofs.Between.{before_nth, before_put, any_append, turned}
+use Rattle.rd_orset.proofs.Between.{before_nth, before_put, any_append, turned, has_at}
 use Rattle.rd_orset.proofs.SetsOfDots.{is_at, one_at, contains_set_of, contains_filter, filtered_dots}
 
 -- WHERE IT BELONGS
@@ -97,15 +97,6 @@ put_one ps x i numbered dots h = record {
       ∙ ap (λ b. b || (is_at k x || false)) (sym (contains_set_of ps k)) ∙ ap (λ b. set.contains (set_of ps) k || b) (sym (contains_set_of (x ∷ []) k))
       ∙ one_of_both (set.contains (set_of ps) k) (set.contains (set_of (x ∷ [])) k);
 }
-
-pub has_at : (at : Placed → Bool) (ps : List Placed) (i : ℕ) → i < length ps → at (nth ps i) ≡ true → list_any at ps ≡ true
-has_at at [] i l is = absurd (omega arith)
-has_at at (p ∷ ps) zero l is = ap (λ b. b || list_any at ps) is
-has_at at (p ∷ ps) (suc i) l is = ap (λ b. at p || b) (has_at at ps i (omega arith) is) ∙ any_true (at p)
-  where
-    any_true : (b : Bool) → (b || true) ≡ true
-    any_true true = refl
-    any_true false = refl
 
 -- a dot of the list is there already
 pub put_again : (ps : List Placed) (x : Placed) (i : ℕ) → AreDots ps → i < length ps → nth ps i ≡ x → AreMerged true (λ _. true) (λ _. true) ps (x ∷ []) ps

@@ -19,7 +19,7 @@ placed_total =
     let seq = λ (p : Placed). p.seq in
     then_total (on_total element nat_list_cmp_total) (then_total (on_total origin nat_cmp_total) (on_total seq nat_cmp_total))
 
-both_tied : (a b : Ordering) → ordering_then a b ≡ Equal → (a ≡ Equal) × (b ≡ Equal)
+pub both_tied : (a b : Ordering) → ordering_then a b ≡ Equal → (a ≡ Equal) × (b ≡ Equal)
 both_tied Less b e = absurd (cc e)
 both_tied Equal b e = (refl, e)
 both_tied Greater b e = absurd (cc e)

@@ -1,5 +1,5 @@
 -- The order of a table's spots, and where one of them stands or belongs.
-use Rattle.std.proofs.Common.{◌≡◌, ℕ, zero, suc, ◌+◌, ◌<◌, ◌≤◌, List, [], ◌∷◌, length, map, get_or, Bool, true, false, ◌||◌, Result, Ok, Err, refl, ap, sym, ◌∙◌, subst, arith, ⊎_elim}
+use Rattle.std.proofs.Common.{◌≡◌, ℕ, zero, suc, ◌+◌, ◌-◌, ◌<◌, ◌≤◌, ◌⊎◌, inl, inr, List, [], ◌∷◌, ◌++◌, take, drop, length, map, get_or, Bool, true, false, ◌||◌, Result, Ok, Err, refl, ap, sym, ◌∙◌, subst, arith, ⊎_elim}
 use Rattle.std.specs.Prelude.{nat_lt}
 use Rattle.std.specs.List.{AllByRecursion, list_any}
 use Rattle.std.specs.List.Sorted.{IsNonDecreasingBy, IsBinarySearchResult, IsSearchInRange, IsPartitionedBy, IsPartitionPoint}
@@ -11,19 +11,28 @@ use Rattle.std.specs.Cmp.Lexicographic.{slice_cmp, nat_list_cmp_total}
 use Rattle.std.specs.Str.{bytes_eq}
 use Rattle.std.proofs.lemmas.Cmp.{ranked}
 use Rattle.std.proofs.lemmas.List.{get_or_default, length-map}
+use Rattle.std.proofs.lemmas.Bool.{cases_lt, eqb-true}
 use Rattle.std.proofs.lemmas.Bool.Decides.{nat_tests}
 use Rattle.std.proofs.lemmas.Map.Lookups.{exact_unsigned}
 use Rattle.rd_history.specs.Texts.{Text, text_lt, contains_text}
 use Rattle.rd_bytes.specs.TextOrder.{IsRising}
-use Rattle.rd_bytes.proofs.TextLaws.{less_order}
-use Rattle.rd_growing.proofs.Searching.{rising_at, less_or_same, contains_at}
+use Rattle.rd_bytes.proofs.TextLaws.{less_order, texts_eq}
+use Rattle.rd_growing.proofs.Searching.{rising_at, less_or_same, contains_at, before_place, after_place}
 use Rattle.rd_orset.specs.declared.dot_list.Spot.{Spot}
-use Rattle.rd_orset.specs.Placing.{Placed, nth, placed_order, IsBeforeAll, AreDots}
+use Rattle.rd_orset.specs.Placing.{Placed, at_dot, key_of, nth, placed_order, IsBeforeAll, AreDots}
 use Rattle.rd_orset.specs.Spots.{placed_in, dots_in, ArePlacesBelow, AreSpots, spot_order, AreInOrder, IsGap, IsSpotFound, IsBound, IsAlone}
-use Rattle.rd_orset.proofs.OneDot.{IsGapOf}
+use Rattle.rd_orset.specs.Keeping.{set_of, IsRunOf}
+use Rattle.rd_growing.specs.Texts.{IsPlace}
+use Rattle.std.specs.FinSet as set
+use Rattle.std.specs.Prelude.{is_ok}
+use Rattle.rd_orset.specs.DotLaws.{itself}
+use Rattle.rd_orset.proofs.Between.{upto_nth, upto_lt, unnamed_run, none_named, has_at}
+use Rattle.rd_orset.proofs.Changes.{any_map}
+use Rattle.rd_orset.proofs.ElementsInOrder.{IsUpto, lt_upto}
+use Rattle.rd_orset.proofs.OneDot.{IsGapOf, absent_gap}
 use Rattle.rd_orset.proofs.Placings.{both_tied}
-use Rattle.rd_orset.proofs.SetsOfDots.{is_at, one_at}
-use Rattle.rd_orset.proofs.Tables.{nth_placed, place_at}
+use Rattle.rd_orset.proofs.SetsOfDots.{is_at, one_at, contains_set_of}
+use Rattle.rd_orset.proofs.Tables.{nth_placed, place_at, placed_cut, same_element}
 
 -- THE ORDER
 
@@ -156,3 +165,118 @@ absent_text texts (s ∷ spots) x absent within k there = go (is_at k (placed_in
         let same : get_or texts s.place [] ≡ x.element = ap (λ (p : Placed). p.element) ((one_at k).one (placed_in texts s) x is there) in
         absurd (let f = sym (contains_at texts s.place within.0) ∙ ap (contains_text texts) same ∙ absent in cc f)
     go false is later = ap (λ b. b || list_any (is_at k) (dots_in texts spots)) is ∙ later
+
+pub stands_for : (texts : List Text) (s : Spot) (e : Text) → get_or texts s.place [] ≡ e → placed_in texts s ≡ at_dot s.dot e
+stands_for texts s e is = λ i. record { element = is i; origin = s.dot.origin; seq = s.dot.seq }
+
+-- the dot that stands at an index
+pub stands_at : (texts : List Text) (spots : List Spot) (s : Spot) (e : Text) (i : ℕ) → get_or texts s.place [] ≡ e → (i < length spots) × (s ≡ get_or spots i s) → nth (dots_in texts spots) i ≡ at_dot s.dot e
+stands_at texts spots s e i is at = nth_placed texts spots i s at.0 at.1 ∙ stands_for texts s e is
+
+pub within_dots : (texts : List Text) (spots : List Spot) (i : ℕ) → i < length spots → i < length (dots_in texts spots)
+within_dots texts spots i l = let long = length-map spots (placed_in texts) in omega arith
+
+-- whether a dot is there, by the search for it
+pub has_found : (texts : List Text) (spots : List Spot) (s : Spot) (e : Text) (r : Result ℕ ℕ) → AreSpots texts spots → (s.place < length texts) × (get_or texts s.place [] ≡ e) → IsSpotFound spots s r
+    → is_ok r ≡ set.contains (set_of (dots_in texts spots)) (key_of (at_dot s.dot e))
+has_found texts spots s e (Ok i) h is at =
+    let x : Placed = at_dot s.dot e in
+    sym (contains_set_of (dots_in texts spots) (key_of x) ∙ has_at (is_at (key_of x)) (dots_in texts spots) i (within_dots texts spots i at.0) (ap (is_at (key_of x)) (stands_at texts spots s e i is.1 at) ∙ itself (key_of x)))
+has_found texts spots s e (Err i) h is gap =
+    let x : Placed = at_dot s.dot e in
+    let here = subst (λ p. IsGapOf (dots_in texts spots) p i) (stands_for texts s e is.1) (gap_of texts spots s i h is.0 gap) in
+    sym (contains_set_of (dots_in texts spots) (key_of x) ∙ absent_gap (is_at (key_of x)) (one_at (key_of x)) x (itself (key_of x)) (dots_in texts spots) i here)
+
+-- ONE THAT IS ALONE
+
+module _ (texts : List Text) (spots : List Spot) (i : ℕ) (h : AreSpots texts spots) (dots : AreDots (dots_in texts spots)) (inside : i < length spots) (alone : IsAlone spots i) where
+  abbrev ps : List Placed
+  ps = dots_in texts spots
+
+  abbrev here : Spot
+  here = get_or spots i (record { place = 0; dot = record { origin = 0; seq = 0 } })
+
+  -- elements are alike where places are
+  same_place_at : (j : ℕ) → j < length spots → (nth ps j).element ≡ (nth ps i).element → (get_or spots j here).place ≡ (get_or spots i here).place
+  same_place_at j l same =
+      let test = same_element texts spots ps j i (get_or spots j here) (get_or spots i here) refl h (within_dots texts spots j l) (within_dots texts spots i inside)
+      (get_or_default spots j here (get_or spots j here) l) (get_or_default spots i here (get_or spots i here) inside) in
+      eqb-true (get_or spots j here).place (get_or spots i here).place (test ∙ ap (λ x. bytes_eq x (nth ps i).element) same ∙ texts_eq (nth ps i).element)
+
+  less_of : (x y : Text) → IsUpto x y → (x ≡ y → ⊥) → text_lt x y ≡ true
+  less_of x y (inl less) differs = less
+  less_of x y (inr same) differs = absurd (differs same)
+
+  pub alone_run : IsRunOf ps (nth ps i).element i (i + 1)
+  alone_run =
+      let long = length-map spots (placed_in texts) in record {
+        order = omega arith;
+        within = omega arith;
+        before = λ j l.
+            let last : (i - 1) + 1 ≡ i = omega arith in
+            let less = less_of (nth ps (i - 1)).element (nth ps i).element (upto_nth ps (i - 1) i dots (omega arith) (omega arith)) (λ same. alone.before (i - 1) here last (same_place_at (i - 1) (omega arith) same)) in
+            upto_lt (nth ps j).element (nth ps (i - 1)).element (nth ps i).element (upto_nth ps j (i - 1) dots (omega arith) (omega arith)) less;
+        named = λ j le l. let same : j ≡ i = omega arith in ap (λ n. (nth ps n).element) same;
+        after = λ j le l.
+            let less = less_of (nth ps i).element (nth ps (i + 1)).element (upto_nth ps i (i + 1) dots (omega arith) (omega arith)) (λ same. alone.after here (omega arith) (same_place_at (i + 1) (omega arith) (sym same))) in
+            lt_upto (nth ps i).element (nth ps (i + 1)).element (nth ps j).element less (upto_nth ps (i + 1) j dots le l);
+      }
+
+  -- no other dot is of its element
+  pub unused_after : (rest : List Spot) (s : Spot) → s ≡ get_or spots i s → rest ≡ take i spots ++ drop (i + 1) spots → list_any (λ t. bytes_eq (get_or texts s.place []) (placed_in texts t).element) rest ≡ false
+  unused_after rest s at is =
+      let named : (nth ps i).element ≡ get_or texts s.place [] = ap (λ (p : Placed). p.element) (nth_placed texts spots i s inside at) in
+      let run : IsRunOf ps (get_or texts s.place []) i (i + 1) = subst (λ e. IsRunOf ps e i (i + 1)) named alone_run in
+      ap (list_any (λ t. bytes_eq (get_or texts s.place []) (placed_in texts t).element)) is
+      ∙ sym (any_map (λ (p : Placed). bytes_eq (get_or texts s.place []) p.element) (placed_in texts) (take i spots ++ drop (i + 1) spots))
+      ∙ ap (list_any (λ (p : Placed). bytes_eq (get_or texts s.place []) p.element)) (placed_cut texts spots ps i (i + 1) refl ∙ sym (unnamed_run ps (get_or texts s.place []) i (i + 1) run))
+      ∙ none_named ps (get_or texts s.place [])
+
+-- THE RUN OF AN ELEMENT
+
+-- from the first spot that names the place up to the first that names a later one
+pub run_found : (texts : List Text) (spots : List Spot) (e : Text) (place start end : ℕ) → AreSpots texts spots → (place < length texts) × (get_or texts place [] ≡ e)
+    → IsBound (λ s. nat_lt s.place place) spots start → IsBound (λ s. nat_lt s.place (place + 1)) spots end → IsRunOf (dots_in texts spots) e start end
+run_found texts spots e place start end h is lower upper =
+    let long = length-map spots (placed_in texts) in
+    let within = upper.within in
+    let none : Spot = record { place = 0; dot = record { origin = 0; seq = 0 } } in
+    let at = λ (j : ℕ) (l : j < length spots). at_index texts spots j none h l in record {
+      order = bounds_order start end (λ j l m. let a = lower.before j none l in let b = upper.after j none m (let w = lower.within in omega arith) in grind (arith, nat_tests)) lower.within;
+      within = omega arith;
+      before = λ j l.
+          let here = at j (let w = lower.within in omega arith) in
+          let less : (get_or spots j none).place < place = (let b = lower.before j none l in grind (arith, nat_tests)) in
+          ap (λ (p : Placed). text_lt p.element e) here.0 ∙ ap (text_lt (get_or texts (get_or spots j none).place [])) (sym is.1) ∙ rising_at texts (get_or spots j none).place place h.rising less is.0;
+      named = λ j le l.
+          let here = at j (omega arith) in
+          let same : (get_or spots j none).place ≡ place = (let a = lower.after j none le (omega arith) in let b = upper.before j none l in grind (arith, nat_tests)) in
+          ap (λ (p : Placed). p.element) here.0 ∙ ap (λ n. get_or texts n []) same ∙ is.1;
+      after = λ j le l.
+          let here = at j (omega arith) in
+          let more : place < (get_or spots j none).place = (let a = upper.after j none le (omega arith) in grind (arith, nat_tests)) in
+          ap (λ (p : Placed). text_lt e p.element) here.0 ∙ ap (λ x. text_lt x (get_or texts (get_or spots j none).place [])) (sym is.1) ∙ rising_at texts place (get_or spots j none).place h.rising more here.1;
+    }
+  where
+    bounds_order : (a b : ℕ) → ((j : ℕ) → j < a → b ≤ j → ⊥) → a ≤ length spots → a ≤ b
+    bounds_order a b never w = ⊎_elim (λ (less : b < a). absurd (never b less (omega arith))) (λ (le : a ≤ b). le) (cases_lt b a)
+
+-- where an element without dots would stand
+pub run_absent : (texts : List Text) (spots : List Spot) (e : Text) (place start : ℕ) → AreSpots texts spots → IsPlace texts e place → IsBound (λ s. nat_lt s.place place) spots start → IsRunOf (dots_in texts spots) e start start
+run_absent texts spots e place start h is bound =
+    let long = length-map spots (placed_in texts) in
+    let within = bound.within in
+    let none : Spot = record { place = 0; dot = record { origin = 0; seq = 0 } } in
+    let at = λ (j : ℕ) (l : j < length spots). at_index texts spots j none h l in record {
+      order = omega arith;
+      within = omega arith;
+      before = λ j l.
+          let here = at j (omega arith) in
+          let less : (get_or spots j none).place < place = (let b = bound.before j none l in grind (arith, nat_tests)) in
+          ap (λ (p : Placed). text_lt p.element e) here.0 ∙ before_place texts e place (get_or spots j none).place is less;
+      named = λ j le l. absurd (omega arith);
+      after = λ j le l.
+          let here = at j (omega arith) in
+          let more : place ≤ (get_or spots j none).place = (let a = bound.after j none le (omega arith) in grind (arith, nat_tests)) in
+          ap (λ (p : Placed). text_lt e p.element) here.0 ∙ after_place texts e place (get_or spots j none).place is more here.1;
+    }

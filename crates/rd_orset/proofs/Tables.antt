@@ -3,18 +3,16 @@ use Rattle.std.proofs.Common.{◌≡◌, ℕ, zero, suc, ◌+◌, ◌-◌, ◌<�
 use Rattle.std.specs.Prelude.{nat_le, nat_lt, if◌then◌else◌, slice_set}
 use Rattle.std.specs.List.{filter, list_any, insert}
 use Rattle.std.specs.Str.{bytes_eq}
-use Rattle.std.specs.declared.cmp.Ordering.TheVariants.{Less, Equal, Greater}
 use Rattle.std.specs.declared.cmp.Ordering.{Ordering}
 use Rattle.std.proofs.lemmas.List.{get_or_default, drop_all, take_all, append-nil, length-map}
 use Rattle.std.proofs.lemmas.Bool.{or_parts}
 use Rattle.std.proofs.lemmas.Bool.Decides.{nat_tests}
-use Rattle.std.specs.Ordering.{ordering_reverse}
-use Rattle.std.specs.Cmp.Lexicographic.{nat_list_cmp_total}
-use Rattle.rd_history.specs.Texts.{Text, text_lt}
+use Rattle.rd_history.specs.Texts.{Text}
 use Rattle.rd_bytes.specs.TextOrder.{text_order, IsBelowAll, IsRising}
-use Rattle.rd_bytes.proofs.TextLaws.{order_less, order_equal, order_greater, less_order, lt_trans, lt_differ, lt_differ_too, texts_eq}
+use Rattle.rd_bytes.proofs.TextLaws.{lt_differ, lt_differ_too, texts_eq}
 use Rattle.rd_growing.specs.Texts.{IsPlace}
-use Rattle.rd_growing.proofs.Merging.{IsSearched, search_start, search_less, search_greater, search_end, rising_of_set}
+use Rattle.rd_growing.proofs.Merging.{rising_of_set}
+use Rattle.rd_growing.proofs.Searching.{below_at, less_or_same}
 use Rattle.rd_orset.specs.declared.dot_list.Spot.{Spot}
 use Rattle.rd_orset.specs.Placing.{Placed, nth}
 use Rattle.rd_orset.specs.Spots.{placed_in, ArePlacesBelow, AreSpots, shifted, lowered}

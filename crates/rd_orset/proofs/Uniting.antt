@@ -1,16 +1,21 @@
 -- The dots of a list that come into another, or go from it, one by one.
-use Rattle.std.proofs.Common.{◌≡◌, ℕ, List, [], ◌∷◌, ◌++◌, Bool, true, false, not, ◌&&◌, ◌||◌, refl, ap, sym, ◌∙◌}
+use Rattle.std.proofs.Common.{◌≡◌, ℕ, zero, suc, ◌+◌, ◌<◌, List, [], ◌∷◌, ◌++◌, length, take, Bool, true, false, not, ◌&&◌, ◌||◌, refl, ap, sym, ◌∙◌, subst, arith}
 use Rattle.std.specs.List.{list_any}
 use Rattle.std.specs.FinSet as set
+use Rattle.rd_history.specs.Texts.{Text}
 use Rattle.rd_history.specs.Vector.{VersionVector}
+use Rattle.rd_vectors.specs.declared.id.Dot.{Dot}
 use Rattle.rd_orset.specs.declared.set.SetDelta.{SetDelta}
-use Rattle.rd_orset.specs.Placing.{Placed, key_of, AreDots}
-use Rattle.rd_orset.specs.Dots.{Dots, contained, set_absorbed}
-use Rattle.rd_orset.specs.DotLaws.{same_dots, contains-absorbed}
+use Rattle.rd_orset.specs.Placing.{Placed, key_of, at_dot, dot_at, nth, IsNumbered, AreDots}
+use Rattle.rd_orset.specs.Dots.{Dots, contained, set_absorbed, set_combined}
+use Rattle.rd_orset.specs.DotLaws.{same_dots, contains-absorbed, contains-combined}
 use Rattle.rd_orset.specs.Keeping.{set_of, stays, AreMerged, AreLeft}
 use Rattle.rd_orset.proofs.Between.{any_append}
-use Rattle.rd_orset.proofs.SetsOfDots.{is_at, contains_set_of, key_test}
+use Rattle.rd_orset.proofs.SetsOfDots.{is_at, contains_set_of, key_test, merged_set}
 use Rattle.rd_orset.proofs.OneDot.{contains_one}
+use Rattle.rd_orset.proofs.Changes.{united_is}
+use Rattle.rd_orset.proofs.ElementsInOrder.{taken}
+use Rattle.rd_orset.proofs.Tables.{nth_at}
 
 -- one more
 contains_more : (qs : List Placed) (x : Placed) (k : List ℕ) → set.contains (set_of (qs ++ x ∷ [])) k ≡ (set.contains (set_of qs) k || set.contains (set_of (x ∷ [])) k)
@@ -48,7 +53,7 @@ module _ (r : List ℕ → Bool) (old : List Placed) where
       put true false true false h = refl
       put true false false true h = refl
       put true false false false h = refl
-      put false false true true h = h refl
+      put false false true true h = sym (h refl)
       put false false true false h = refl
       put false false false true h = sym (h refl)
       put false false false false h = refl
@@ -114,11 +119,44 @@ module _ (r : List ℕ → Bool) (old : List Placed) where
       skip r false false true h = refl
       skip r false false false h = refl
 
+-- THE NEXT DOT OF A LIST
+
+same_dot : (p : Placed) (d : Dot) (e : Text) → d ≡ dot_at p → e ≡ p.element → at_dot d e ≡ p
+same_dot p d e is named = λ i. at_dot (is i) (named i)
+
+next_taken : (dots : List Placed) (i : ℕ) → i < length dots → take i dots ++ nth dots i ∷ [] ≡ take (i + 1) dots
+next_taken dots i l = sym (taken dots i (nth dots i) l (nth_at dots i l))
+
+module _ (r : List ℕ → Bool) (old dots now : List Placed) (i : ℕ) (inside : i < length dots) where
+  pub united_more : (next : List Placed) (d : Dot) (e : Text) → r (key_of (nth dots i)) ≡ true → d ≡ dot_at (nth dots i) → e ≡ (nth dots i).element → AreMerged true (λ _. true) r old (take i dots) now
+      → AreMerged true (λ _. true) (λ _. true) now (at_dot d e ∷ []) next → AreMerged true (λ _. true) r old (take (i + 1) dots) next
+  united_more next d e kept is named h more =
+      subst (λ (qs : List Placed). AreMerged true (λ _. true) r old qs next) (next_taken dots i inside)
+      (unite_put r old (take i dots) now next (nth dots i) kept h (subst (λ (p : Placed). AreMerged true (λ _. true) (λ _. true) now (p ∷ []) next) (same_dot (nth dots i) d e is named) more))
+
+  pub united_same : r (key_of (nth dots i)) ≡ false → AreMerged true (λ _. true) r old (take i dots) now → AreMerged true (λ _. true) r old (take (i + 1) dots) now
+  united_same kept h = subst (λ (qs : List Placed). AreMerged true (λ _. true) r old qs now) (next_taken dots i inside) (unite_skip r old (take i dots) now (nth dots i) kept h)
+
+  pub left_more : (next : List Placed) (d : Dot) (e : Text) → r (key_of (nth dots i)) ≡ false → d ≡ dot_at (nth dots i) → e ≡ (nth dots i).element → AreLeft r old (take i dots) now
+      → AreMerged false (λ _. true) (λ _. false) now (at_dot d e ∷ []) next → AreLeft r old (take (i + 1) dots) next
+  left_more next d e kept is named h less =
+      subst (λ (qs : List Placed). AreLeft r old qs next) (next_taken dots i inside)
+      (left_take r old (take i dots) now next (nth dots i) kept h (subst (λ (p : Placed). AreMerged false (λ _. true) (λ _. false) now (p ∷ []) next) (same_dot (nth dots i) d e is named) less))
+
+  pub left_same : r (key_of (nth dots i)) ≡ true → AreLeft r old (take i dots) now → AreLeft r old (take (i + 1) dots) now
+  left_same kept h = subst (λ (qs : List Placed). AreLeft r old qs now) (next_taken dots i inside) (left_skip r old (take i dots) now (nth dots i) kept h)
+
+-- dots are numbered
+pub numbered_at : (ps : List Placed) (i : ℕ) → AreDots ps → i < length ps → IsNumbered (nth ps i)
+numbered_at [] i h l = absurd (omega arith)
+numbered_at (p ∷ ps) zero h l = h.0
+numbered_at (p ∷ ps) (suc i) h l = numbered_at ps i h.2 (omega arith)
+
 -- A DELTA
 
 -- the fresh dots that the context lacks come, and the seen ones go but for the fresh
-pub absorbed_set : (a : Dots) (v : VersionVector) (d : SetDelta) (ps fresh seen mid now : List Placed) → set_of ps ≡ a → set_of fresh ≡ d.fresh → set_of seen ≡ d.seen → AreMerged true (λ _. true) (λ k. not (contained v k)) ps fresh mid
-    → AreLeft (λ k. set.contains d.fresh k) mid seen now → set_of now ≡ set_absorbed a v d
+pub absorbed_set : (a : Dots) (v : VersionVector) (d : SetDelta) (ps fresh seen mid now : List Placed) → set_of ps ≡ a → set_of fresh ≡ d.fresh → set_of seen ≡ d.seen
+    → AreMerged true (λ _. true) (λ k. not (contained v k)) ps fresh mid → AreLeft (λ k. set.contains d.fresh k) mid seen now → set_of now ≡ set_absorbed a v d
 absorbed_set a v d ps fresh seen mid now p q s m l = same_dots _ _ (λ k.
     l.has k ∙ ap (λ x. stays (set.contains d.fresh k) true false x (set.contains (set_of seen) k)) (m.has k)
     ∙ ap (λ t. stays (set.contains d.fresh k) true false (stays true true (not (contained v k)) (set.contains t k) (set.contains (set_of fresh) k)) (set.contains (set_of seen) k)) p
@@ -137,3 +175,26 @@ absorbed_set a v d ps fresh seen mid now p q s m l = same_dots _ _ (λ k.
     go false false true false = refl
     go false true false m = refl
     go false false false m = refl
+
+-- a later delta's fresh dots come, and those that it has seen go but for them
+pub combined_fresh : (first later : SetDelta) (ps fresh seen mid now : List Placed) → set_of ps ≡ first.fresh → set_of fresh ≡ later.fresh → set_of seen ≡ later.seen
+    → AreMerged true (λ _. true) (λ _. true) ps fresh mid → AreLeft (λ k. set.contains later.fresh k) mid seen now → set_of now ≡ (set_combined first later).fresh
+combined_fresh first later ps fresh seen mid now p q s m l = same_dots _ _ (λ k.
+    l.has k ∙ ap (λ x. stays (set.contains later.fresh k) true false x (set.contains (set_of seen) k)) (m.has k)
+    ∙ ap (λ t. stays (set.contains later.fresh k) true false (stays true true true (set.contains t k) (set.contains (set_of fresh) k)) (set.contains (set_of seen) k)) p
+    ∙ ap (λ t. stays (set.contains later.fresh k) true false (stays true true true (set.contains first.fresh k) (set.contains t k)) (set.contains (set_of seen) k)) q
+    ∙ ap (λ t. stays (set.contains later.fresh k) true false (stays true true true (set.contains first.fresh k) (set.contains later.fresh k)) (set.contains t k)) s
+    ∙ go (set.contains first.fresh k) (set.contains later.fresh k) (set.contains later.seen k) ∙ sym (contains-combined first later k))
+  where
+    go : (a f s : Bool) → stays f true false (stays true true true a f) s ≡ (f || (a && not s))
+    go true true true = refl
+    go true true false = refl
+    go true false true = refl
+    go true false false = refl
+    go false true true = refl
+    go false true false = refl
+    go false false true = refl
+    go false false false = refl
+
+pub combined_seen : (first later : SetDelta) (ps seen now : List Placed) → set_of ps ≡ first.seen → set_of seen ≡ later.seen → AreMerged true (λ _. true) (λ _. true) ps seen now → set_of now ≡ (set_combined first later).seen
+combined_seen first later ps seen now p s m = merged_set true (λ _. true) (λ _. true) ps seen now first.seen later.seen p s m ∙ united_is first.seen later.seen

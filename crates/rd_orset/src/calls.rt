@@ -10,7 +10,7 @@ ghost use Rattle.rd_orset.specs.Dots.{is_element, set_joined, set_absorbed, set_
 ghost use Rattle.rd_orset.specs.Keeping.{set_merged};
 
 use crate::dot_list::DotList;
-use crate::dots::{All, Nothing, Rule, has_origin, merged};
+use crate::dots::{All, Rule, has_origin, merged};
 use crate::elements::{
     between, count_elements, elements_at, elements_of, has_element, others, placed_at,
 };
@@ -65,11 +65,13 @@ impl OrSet {
         self.merged_with(alloc, true, &All, other, &All)
     }
 
-    /// The dots that the other lacks.
-    fn without(&self, alloc: Global, other: &OrSet) -> Result<OrSet, Memory>
-        ensures { IfOk result (λ rest. rest ≡ set.difference self.now other.now) }
+    /// Adds the dots of another set. After a refusal the set is as it was.
+    fn unite(&mut self, other: &OrSet) -> Result<(), Memory>
+        ensures ok { OnOk result (self.new ≡ set.union self.old other.now) }
+        ensures err { OnErr result (self.new ≡ self.old) }
     {
-        self.merged_with(alloc, false, &All, other, &Nothing)
+        self.dots.unite(&other.dots, &All)?;
+        Ok(())
     }
 
     /// Adds the dots of another set. After a refusal the set is as it was.
@@ -240,18 +242,19 @@ impl OrSet {
 }
 
 impl SetDelta {
-    /// Two deltas as one: what the later has seen is fresh no more.
-    pub(crate) fn combined(
-        alloc: Global,
-        first: &SetDelta,
-        later: &SetDelta,
-    ) -> Result<SetDelta, Memory>
-        ensures { IfOk result (λ both. both ≡ set_combined first.now later.now) }
+    /// Adds a later delta: what it has seen is fresh no more. After a refusal the delta is as it was.
+    pub(crate) fn extend(&mut self, later: &SetDelta) -> Result<(), Memory>
+        ensures ok { OnOk result (self.new ≡ set_combined self.old later.now) }
+        ensures err { OnErr result (self.new ≡ self.old) }
     {
-        let left = first.fresh.without(alloc, &later.seen)?;
-        let fresh = later.fresh.united(alloc, &left)?;
-        let seen = first.seen.united(alloc, &later.seen)?;
-        Ok(SetDelta { fresh, seen })
+        DotList::unite_both(
+            &mut self.fresh.dots,
+            &later.fresh.dots,
+            &mut self.seen.dots,
+            &later.seen.dots,
+        )?;
+        self.fresh.dots.drop_all(&later.seen.dots, &later.fresh);
+        Ok(())
     }
 
     /// An equal delta.

@@ -8,7 +8,7 @@ ghost use Rattle.rd_orset.specs.Spots.{placed_in, dots_in, AreSpots, ArePlacesBe
 
 mod changes;
 
-use crate::dots::Rule;
+use crate::dots::{All, Rule};
 use changes::{find_spot, put_all, start_of, take_out_all};
 use rd_bytes::{Memory, Text};
 use rd_growing::{copied, find};
@@ -286,10 +286,35 @@ impl DotList {
     pub(crate) fn unite<R: Rule>(&mut self, other: &DotList, rule: &R) -> Result<(), Memory>
         requires mine { AreDots self.old }
         requires theirs { AreDots other.now }
+        ensures dots { AreDots self.new }
         ensures ok { OnOk result (AreMerged true (λ _. true) (R.keeps rule.now) self.old other.now self.new) }
         ensures err { OnErr result (self.new ≡ self.old) }
     {
         put_all(&mut self.texts, &mut self.spots, other, rule)
+    }
+
+    /// Adds to each of two lists the dots of another, each at its place. After a refusal both are as they were.
+    pub(crate) fn unite_both(
+        first: &mut DotList,
+        to_first: &DotList,
+        second: &mut DotList,
+        to_second: &DotList,
+    ) -> Result<(), Memory>
+        requires first { AreDots first.old }
+        requires to_first { AreDots to_first.now }
+        requires second { AreDots second.old }
+        requires to_second { AreDots to_second.now }
+        ensures first_dots { AreDots first.new }
+        ensures second_dots { AreDots second.new }
+        ensures first { OnOk result (AreMerged true (λ _. true) (λ _. true) first.old to_first.now first.new) }
+        ensures second { OnOk result (AreMerged true (λ _. true) (λ _. true) second.old to_second.now second.new) }
+        ensures err { OnErr result ((first.new ≡ first.old) × (second.new ≡ second.old)) }
+    {
+        second.texts.reserve(to_second.len())?;
+        second.spots.reserve(to_second.len())?;
+        put_all(&mut first.texts, &mut first.spots, to_first, &All)?;
+        put_all(&mut second.texts, &mut second.spots, to_second, &All)?;
+        Ok(())
     }
 
     /// Drops the dots of another list, but for those that stay.

@@ -1,4 +1,4 @@
-ghost use Rattle.std.specs.Prelude.{◌≡◌, ℕ, ◌<◌, ◌≤◌, [], ◌∷◌, ◌++◌, List, Bool, true, false, not, nat_eq, length, drop, OnOk, IfOk, if◌then◌else◌};
+ghost use Rattle.std.specs.Prelude.{◌≡◌, ℕ, ◌<◌, ◌≤◌, [], ◌∷◌, ◌++◌, List, Bool, true, not, nat_eq, length, drop, OnOk, IfOk, if◌then◌else◌};
 ghost use Rattle.std.specs.List.{filter, list_any};
 ghost use Rattle.std.specs.FinSet as set;
 ghost use Rattle.rd_vectors.specs.Vectors.{number_at};
@@ -31,17 +31,6 @@ impl Rule for All {
 
     fn keeps(&self, _dots: &DotList, _index: usize) -> bool {
         true
-    }
-}
-
-/// No dot stays.
-pub(crate) struct Nothing;
-
-impl Rule for Nothing {
-    ghost keeps = { λ _ _. false };
-
-    fn keeps(&self, _dots: &DotList, _index: usize) -> bool {
-        false
     }
 }
 

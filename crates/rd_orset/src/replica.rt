@@ -110,8 +110,8 @@ impl Replica for OrSet {
         self.take(mine, delta)
     }
 
-    fn combine(alloc: Global, first: &SetDelta, later: &SetDelta) -> Result<SetDelta, Memory> {
-        SetDelta::combined(alloc, first, later)
+    fn extend_delta(delta: &mut SetDelta, later: &SetDelta) -> Result<(), Memory> {
+        delta.extend(later)
     }
 
     fn copy_delta(alloc: Global, delta: &SetDelta) -> Result<SetDelta, Memory> {

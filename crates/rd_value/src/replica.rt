@@ -172,36 +172,30 @@ impl Replica for Data {
         }
     }
 
-    fn combine(alloc: Global, first: &Delta, later: &Delta) -> Result<Delta, Memory> {
-        match first {
-            Delta::GCounter(first) => match later {
-                Delta::GCounter(later) => Ok(Delta::GCounter(GCounter::combine(
-                    alloc, first, later,
-                )?)),
+    fn extend_delta(delta: &mut Delta, later: &Delta) -> Result<(), Memory> {
+        match delta {
+            Delta::GCounter(change) => match later {
+                Delta::GCounter(later) => GCounter::extend_delta(change, later),
                 _ => unreachable!(),
             },
-            Delta::PnCounter(first) => match later {
-                Delta::PnCounter(later) => Ok(Delta::PnCounter(PnCounter::combine(
-                    alloc, first, later,
-                )?)),
+            Delta::PnCounter(change) => match later {
+                Delta::PnCounter(later) => PnCounter::extend_delta(change, later),
                 _ => unreachable!(),
             },
-            Delta::GSet(first) => match later {
-                Delta::GSet(later) => Ok(Delta::GSet(GSet::combine(alloc, first, later)?)),
+            Delta::GSet(change) => match later {
+                Delta::GSet(later) => GSet::extend_delta(change, later),
                 _ => unreachable!(),
             },
-            Delta::OrSet(first) => match later {
-                Delta::OrSet(later) => Ok(Delta::OrSet(OrSet::combine(alloc, first, later)?)),
+            Delta::OrSet(change) => match later {
+                Delta::OrSet(later) => OrSet::extend_delta(change, later),
                 _ => unreachable!(),
             },
-            Delta::Flag(first) => match later {
-                Delta::Flag(later) => Ok(Delta::Flag(Flag::combine(alloc, first, later)?)),
+            Delta::Flag(change) => match later {
+                Delta::Flag(later) => Flag::extend_delta(change, later),
                 _ => unreachable!(),
             },
-            Delta::LwwRegister(first) => match later {
-                Delta::LwwRegister(later) => Ok(Delta::LwwRegister(LwwRegister::combine(
-                    alloc, first, later,
-                )?)),
+            Delta::LwwRegister(change) => match later {
+                Delta::LwwRegister(later) => LwwRegister::extend_delta(change, later),
                 _ => unreachable!(),
             },
         }

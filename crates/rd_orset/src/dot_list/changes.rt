@@ -74,6 +74,7 @@ pub(super) fn put_all<R: Rule>(
     requires mine { AreDots (dots_in texts.old.items spots.old.items) }
     requires theirs { AreDots dots.now }
     ensures spots { AreSpots texts.new.items spots.new.items }
+    ensures dots { AreDots (dots_in texts.new.items spots.new.items) }
     ensures ok { OnOk result (AreMerged true (λ _. true) (R.keeps rule.now) (dots_in texts.old.items spots.old.items) dots.now (dots_in texts.new.items spots.new.items)) }
     ensures err { OnErr result (dots_in texts.new.items spots.new.items ≡ dots_in texts.old.items spots.old.items) }
     ensures fits { HasRoom (length dots.now) texts.old spots.old → IsOk result }

@@ -22,16 +22,16 @@ loop-index-init g c =
       λ kind origin are. subst (IsDeltaFor R.IsOfOrigin R.delta_fits_kind kind origin) first (are.each c.args.first c.at.result.now c.at.ensures),
     )
 
-pub combine-requires-clause-origin : goal.combine-requires-clause-origin
-combine-requires-clause-origin g c =
+pub extend_delta-requires-clause-origin : goal.extend_delta-requires-clause-origin
+extend_delta-requires-clause-origin g c =
     let d = c.requires.deltas in (
       d.1,
       (c.loop-index.invariant.1 d.0 d.1 d.2).made c.loop-index.combined refl,
       (d.2.each c.loop-index.index c.at-in-loop-index.result.now c.at-in-loop-index.ensures).made c.in-Some-delta.later c.in-Some-delta.is,
     )
 
-pub combine-requires-clause-kind : goal.combine-requires-clause-kind
-combine-requires-clause-kind g c =
+pub extend_delta-requires-clause-kind : goal.extend_delta-requires-clause-kind
+extend_delta-requires-clause-kind g c =
     let d = c.requires.deltas in (
       d.0,
       (c.loop-index.invariant.1 d.0 d.1 d.2).of_kind c.loop-index.combined refl,
@@ -53,7 +53,7 @@ loop-index-preserved g c =
     let R = g.T.Replica in
     let records = c.args.records.now in
     let index = c.loop-index.index in
-    let next : Some (R.combined c.loop-index.combined c.in-Some-delta.later) ≡ Some c.in_ok-combined-in-Some-delta.combined = ap Some (sym c.in_ok-combined-in-Some-delta.ensures) in (
+    let next : Some (R.combined c.loop-index.combined c.in-Some-delta.later) ≡ Some c.extend_delta.new.delta = ap Some (sym c.in_ok-extend_delta.ensures.ok) in (
       c.loop-index.invariant.0
           ∙ joined_at R.combined (Some c.loop-index.combined) records index c.at-in-loop-index.result.now c.at-in-loop-index.ensures
           ∙ ap (λ o. fold (joins R.combined) (both R.combined (Some c.loop-index.combined) o) (drop (index + 1) records)) c.in-Some-delta.is

@@ -1,7 +1,8 @@
-use Rattle.std.proofs.Common.{◌≡◌, ◌<◌, ◌≤◌, true, false, not, ◌&&◌, nat_le, length, rules, ap, sym, ◌∙◌, ℕ}
+use Rattle.std.proofs.Common.{◌≡◌, ◌<◌, ◌≤◌, true, false, not, ◌&&◌, nat_le, length, rules, arith, ap, sym, ◌∙◌, ℕ}
 use Rattle.rd_history.specs.Texts.{contains_text}
 use Rattle.rd_orset.specs.Dots.{Dots, shown_elements}
 use Rattle.rd_orset.proofs.Changes.{shown_is, named_is}
+use Rattle.rd_orset.proofs.ElementsInOrder.{no_more_elements}
 use Rattle.rd_orset.proofs.set.OrSet.is_full_for.Goals as goal
 
 reached : (m n : ℕ) → m ≤ n → nat_le m n ≡ true
@@ -9,6 +10,12 @@ reached m n h = grind rules
 
 below : (m n : ℕ) → n < m → nat_le m n ≡ false
 below m n h = grind rules
+
+pub returns-then-len-lt-MOST_ELEMENTS : goal.returns-then-len-lt-MOST_ELEMENTS
+returns-then-len-lt-MOST_ELEMENTS c =
+    let shown = ap length (shown_is c.self.inside.dots ∙ ap shown_elements c.self.view_is) in
+    let few : length (shown_elements c.args.self.now) < 256 = omega (arith, no_more_elements c.self.inside.dots, shown, c.len.ensures, c.if-len-lt-MOST_ELEMENTS.true) in
+    sym (ap (λ b. b && not (contains_text (shown_elements c.args.self.now) c.args.element.now)) (below 256 (length (shown_elements c.args.self.now)) few))
 
 pub returns-then-count_elements-ge-MOST_ELEMENTS : goal.returns-then-count_elements-ge-MOST_ELEMENTS
 returns-then-count_elements-ge-MOST_ELEMENTS c =

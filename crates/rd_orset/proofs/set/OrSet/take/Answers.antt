@@ -1,11 +1,11 @@
-use Rattle.std.proofs.Common.{ap, ◌∙◌}
-use Rattle.std.specs.FinSet as set
+use Rattle.std.proofs.Common.{ap}
 use Rattle.rd_vectors.specs.Vectors.{number_at}
-use Rattle.rd_orset.specs.Dots.{Dots}
-use Rattle.rd_orset.proofs.Changes.{absorbed_is}
+use Rattle.rd_orset.specs.declared.set.SetDelta.{SetDelta}
+use Rattle.rd_orset.proofs.Uniting.{absorbed_set}
 use Rattle.rd_orset.proofs.set.OrSet.take.Goals as goal
 
 pub returns-clause-ok : goal.returns-clause-ok
 returns-clause-ok c =
-    c.drop-2.view_is ∙ c.in_ok-next.ensures ∙ ap (λ (s : Dots). set.union s c.in_ok-fresh.fresh) c.in_ok-left.ensures
-    ∙ ap (λ (s : Dots). set.union (set.difference c.args.self.now c.args.delta.now.seen) s) c.in_ok-fresh.ensures ∙ absorbed_is c.args.self.now (number_at c.args.mine.now) c.args.delta.now
+    let fresh = ap (λ (d : SetDelta). d.fresh) c.delta.view_is in
+    let seen = ap (λ (d : SetDelta). d.seen) c.delta.view_is in
+    absorbed_set c.args.self.now (number_at c.args.mine.now) c.args.delta.now c.self.inside.dots _ _ c.unite.new.self c.drop_all.new.self c.self.view_is fresh seen c.in_ok-unite.ensures.ok c.drop_all.ensures
