@@ -74,14 +74,6 @@ impl OrSet {
         Ok(())
     }
 
-    /// Adds the dots of another set. After a refusal the set is as it was.
-    fn unite(&mut self, other: &OrSet) -> Result<(), Memory>
-        ensures ok { OnOk result (self.new ≡ set.union self.old other.now) }
-        ensures err { OnErr result (self.new ≡ self.old) }
-    {
-        self.dots.unite(&other.dots, &All)
-    }
-
     /// One dot.
     fn of(alloc: Global, element: &Text, dot: &Dot) -> Result<OrSet, Memory>
         requires { (1 ≤ dot.now.seq) × (dot.now.seq ≤ 2 ^ 62) }
