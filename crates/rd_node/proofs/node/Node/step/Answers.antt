@@ -1,4 +1,4 @@
-use Rattle.std.proofs.Common.{◌≡◌, ◌<◌, sym, subst}
+use Rattle.std.proofs.Common.{◌<◌, sym, subst}
 use Rattle.rd_node.specs.Steps.{IsStepOf, MakesStep, IsUnchanged}
 use Rattle.rd_node.proofs.Keepers.{on_err, unchanged_same}
 use Rattle.rd_node.proofs.Making.{makes_step}
