@@ -1,5 +1,5 @@
 -- An own operation that was made a record of its entry, or refused, is what the model makes of the entry.
-use Rattle.std.proofs.Common.{◌≡◌, ℕ, ◌+◌, ◌<◌, ◌^◌, refl, sym, ap, ◌∙◌, subst, arith, Some, None}
+use Rattle.std.proofs.Common.{◌≡◌, ℕ, ◌+◌, ◌<◌, ◌^◌, sym, subst, arith, None}
 use Rattle.rd_history.specs.History.{History, at}
 use Rattle.rd_history.specs.History.Action.{Operation}
 use Rattle.rd_history.specs.Log.{IsTakenFrom}

@@ -3,21 +3,16 @@
 --     stores_none        a plan that changes no durable key has nothing to store
 --     keys_still, owned_still        the keys, where memory was refused
 --     owned_in_place, steps_in_place        an update in its place keeps what a member keeps, and is the step that would be prepared
-use Rattle.std.proofs.Common.{◌≡◌, ◌≢◌, ℕ, ◌+◌, ◌<◌, ◌≤◌, List, [], length, get_or, set, refl, sym, ap, ◌∙◌, subst, arith, Bool, true, false, Option, Some, None, inl, inr, ◌==◌, eq-eqb}
-use Rattle.std.specs.Prelude.{map, if◌then◌else◌}
+use Rattle.std.proofs.Common.{◌≡◌, ℕ, ◌+◌, ◌<◌, ◌≤◌, List, [], length, get_or, set, refl, sym, ap, ◌∙◌, subst, arith, true, false, Option, Some, None, inl, inr, ◌==◌}
+use Rattle.std.specs.Prelude.{if◌then◌else◌}
 use Rattle.std.specs.Str.{bytes_eq}
 use Rattle.std.proofs.lemmas.Bool.{cases_eq}
 use Rattle.std.proofs.lemmas.List.{get_or_default, set-get_or}
 use Rattle.rd_history.specs.Texts.{Text}
-use Rattle.rd_history.specs.History.{History}
-use Rattle.rd_model.specs.Entry as model
 use Rattle.rd_model.specs.Entry.{is_unchanged}
 use Rattle.rd_model.specs.View.{View}
-use Rattle.rd_model.specs.Node as nodes
 use Rattle.rd_model.specs.Node.{needed}
-use Rattle.rd_model.specs.Step.{to_store}
 use Rattle.rd_model.proofs.Taking.{is_unchanged-same}
-use Rattle.rd_kinds.specs.declared.shown.Shown.{Shown}
 use Rattle.rd_lattice.specs.declared.replica.Replica.{Ghosts}
 use Rattle.rd_lattice.specs.declared.spelled.SpelledData.{Ghosts as Spelling}
 use Rattle.rd_keeper.specs.declared.keeper.Keeper.{Ghosts as Keeping}
@@ -39,13 +34,12 @@ use Rattle.rd_node.specs.declared.plan.Plan.{Plan}
 use Rattle.rd_node.specs.declared.plan.Plan.TheVariants.{Nothing, At}
 use Rattle.rd_node.specs.declared.plan.Prepared.{Prepared}
 use Rattle.rd_node.specs.declared.reply.Fate.TheVariants.{NoStore}
-use Rattle.rd_node.specs.declared.reply.Output.{Output}
 use Rattle.rd_node.specs.declared.reply.Reply.{Reply}
 use Rattle.rd_node.specs.declared.reply.Reply.TheVariants as reply
 use Rattle.rd_node.specs.InPlace.{IsInPlace, output_of}
 use Rattle.rd_node.specs.Opening.{IsOpened}
 use Rattle.rd_node.specs.Outputs.{is_pending}
-use Rattle.rd_node.specs.Planning.{recorded, IsPlanned, entry_in, AreOwned}
+use Rattle.rd_node.specs.Planning.{IsPlanned, entry_in, AreOwned}
 use Rattle.rd_node.specs.Preparing.{IsSoundFor, Prepares}
 use Rattle.rd_node.specs.Steps.{IsStepOf}
 use Rattle.rd_node.specs.Storing.{stored_of, AreSpelled, AreStores}

@@ -35,7 +35,7 @@ fn is_strange<T: Replica>(mine: &Envelope<T>, theirs: &Envelope<T>, id: Id) -> b
     theirs.is_pruned(id) || mine.versions().at(id) < theirs.versions().at(id)
 }
 
-/// An entry merged with another of the same key, unless this is strange or of another kind.
+/// An entry merged with another of the same key, unless this is strange, of another kind, or brings nothing new.
 fn take_entry<T: Replica>(
     alloc: Global,
     mine: &Envelope<T>,
@@ -50,6 +50,9 @@ fn take_entry<T: Replica>(
         → IfOk result (λ taken. StandsAfter T.IsDataOf log taken before (if is_entry_passed_over id before other then before else seen_by id view (merged before other))) }
 {
     if is_strange(mine, theirs, id) || !mine.value().same_kind(theirs.value()) {
+        return Ok(None);
+    }
+    if mine.gains_nothing(theirs) {
         return Ok(None);
     }
     let mut entry = mine.copy(alloc)?;

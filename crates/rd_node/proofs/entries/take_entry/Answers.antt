@@ -18,6 +18,16 @@ returns-then-is_strange-clause-image g c = λ log before other unpruned kinds s 
       | then-is_strange-via-else-is_strange+then-not-same_kind w ↦ let same_kind = w.same_kind.ensures.1 (ap g.T.Replica.kind_of w.value.ensures ∙ kinds ∙ sym (ap g.T.Replica.kind_of w.value-else-is_strange.ensures)) in let other_kind = w.if-not-same_kind.true in absurd (cc (same_kind, other_kind))
     ]
 
+-- nothing is merged that brings nothing
+pub returns-then-gains_nothing-clause-image : goal.returns-then-gains_nothing-clause-image
+returns-then-gains_nothing-clause-image g c = λ log before other unpruned kinds s t exact.
+    let D = g.T.Replica.IsDataOf in
+    let same = strange_is D (parts_of c.args.mine.now) (parts_of c.args.theirs.now) log before other c.args.id unpruned s t in
+    let strange = sym same ∙ sym c.is_strange.ensures ∙ c.if-is_strange.false in
+    let is = c.if-gains_nothing.true in
+    ap (λ b. if b then before else seen_by c.args.id c.args.view (merged before other)) strange
+    ∙ ap (seen_by c.args.id c.args.view) (c.gains_nothing.ensures.merged log before other s t is) ∙ c.gains_nothing.ensures.seen log before c.args.id c.args.view s is
+
 pub returns-clause-image : goal.returns-clause-image
 returns-clause-image g c = λ log before other unpruned kinds s t exact.
     let D = g.T.Replica.IsDataOf in

@@ -2,23 +2,15 @@ use Rattle.std.proofs.Common.{◌≡◌, refl, subst, None}
 use Rattle.rd_history.specs.History.{History}
 use Rattle.rd_history.specs.History.Action.{Operation}
 use Rattle.rd_history.specs.Log.{IsTakenFrom}
-use Rattle.rd_meanings.specs.Refusal.{Refusal}
 use Rattle.rd_meanings.specs.Refusal.Refusal.{Overflow, ClockSpent, SetFull}
 use Rattle.rd_model.specs.Entry.{Entry, with_action}
-use Rattle.rd_model.specs.Node.{Reply as Meant}
-use Rattle.rd_lattice.specs.Refusals.{error_of, IsApplyRefusal}
-use Rattle.rd_lattice.specs.declared.answers.ApplyError.{ApplyError}
+use Rattle.rd_lattice.specs.Refusals.{IsApplyRefusal}
 use Rattle.rd_envelope.specs.declared.envelope.Envelope.{Envelope}
 use Rattle.rd_envelope.specs.Images.{StandsFor}
 use Rattle.rd_envelope.specs.Words.{parts_of}
-use Rattle.rd_node.specs.declared.key.Updated.TheVariants.{Refused}
-use Rattle.rd_node.specs.declared.reply.Reply.{Reply}
 use Rattle.rd_node.specs.declared.reply.Reply.TheVariants as reply
 use Rattle.rd_node.specs.Recording.{IsRecorded, StandsForRecorded}
-use Rattle.rd_node.specs.Replies.{meant}
-use Rattle.rd_node.specs.Updates.{MeansUpdate}
 use Rattle.rd_node.proofs.Applying.{own_record, means_record, means_refusal}
-use Rattle.rd_node.proofs.key.KeyState.update.Given as given
 use Rattle.rd_node.proofs.key.KeyState.update.Goals as goal
 
 pub returns-in-Ok-clause-owned : goal.returns-in-Ok-clause-owned

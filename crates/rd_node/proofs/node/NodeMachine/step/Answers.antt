@@ -1,4 +1,4 @@
-use Rattle.std.proofs.Common.{◌≡◌, ◌<◌, sym, subst}
+use Rattle.std.proofs.Common.{◌<◌, sym, subst}
 use Rattle.rd_machine.specs.Faults.{RoseAt}
 use Rattle.rd_node.specs.Steps.{is_failure, IsStepOf, IsUnchanged}
 use Rattle.rd_node.proofs.Keepers.{on_err, unchanged_same, rose_by}
