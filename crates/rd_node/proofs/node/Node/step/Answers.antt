@@ -1,10 +1,5 @@
-<<<<<<< HEAD
 use Rattle.std.proofs.Common.{◌≡◌, subst}
 use Rattle.rd_node.specs.Steps.{MakesStep, IsUnchanged}
-=======
-use Rattle.std.proofs.Common.{◌<◌, sym, subst}
-use Rattle.rd_node.specs.Steps.{IsStepOf, MakesStep, IsUnchanged}
->>>>>>> b6b29739d920a5778d28de24f9722f382831736c
 use Rattle.rd_node.proofs.Keepers.{on_err, unchanged_same}
 use Rattle.rd_node.proofs.node.Node.step.Goals as goal
 
