@@ -116,7 +116,7 @@ impl<T: SpelledData, K: Keeper + Drop> Node<T, K> {
         ensures { option_copied result ≡ option_map (λ state. state.entry) (find (λ state. bytes_eq state.name key.now) self.now.keys.items) }
     {
         match self.position(key) {
-            Some(index) => Some(&self.keys[index].entry),
+            Some(index) => Some(self.keys[index].entry.envelope()),
             None => None,
         }
     }
@@ -158,7 +158,7 @@ impl<T: SpelledData, K: Keeper + Drop> Node<T, K> {
             plan,
             operations,
             output,
-        } = self.prepare(input)?;
+        } = self.prepare_with_digests(input)?;
         let fate = self.carry(view, plan, operations)?;
         Ok(output.after(fate))
     }
@@ -243,7 +243,7 @@ where
             plan,
             operations,
             output,
-        } = self.prepare(input)?;
+        } = self.prepare_with_digests(input)?;
         let copy = output.copy(self.alloc)?;
         let fate = self.carry(view, plan, operations)?;
         Ok((fate, output.after(fate), copy.after(fate)))
