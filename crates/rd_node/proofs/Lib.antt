@@ -13,6 +13,7 @@ pub mod Mapped
 pub mod Standing
 pub mod Keepers
 pub mod Nodes
+pub mod Again
 pub mod Gossiping
 pub mod Starting
 pub mod Written

@@ -26,7 +26,7 @@ fn write<T: Replica>(state: &mut KeyState<T>, change: Change<T>)
 {
     match change {
         Change::Same => {}
-        Change::Entry(entry) => state.entry = entry,
+        Change::Entry(entry) => state.entry.put(entry),
         Change::Flushed(flushed) => state.flushed = flushed,
     }
 }
@@ -73,7 +73,7 @@ pub(crate) fn current<'a, T: Replica>(
 {
     match change {
         Change::Entry(entry) => entry,
-        _ => &state.entry,
+        _ => state.entry.envelope(),
     }
 }
 

@@ -198,7 +198,7 @@ impl<T: SpelledData, K: Keeper + Drop> Node<T, K> {
             let envelope = None;
             return Ok(Message::ReadAnswer { op, key, envelope });
         };
-        let envelope = copy_with_records(self.alloc, &self.keys[index].entry)?;
+        let envelope = copy_with_records(self.alloc, self.keys[index].entry.envelope())?;
         let key = key.copy(self.alloc)?;
         Ok(Message::ReadAnswer { op, key, envelope })
     }

@@ -138,7 +138,7 @@ fn is_changed<T: Replica>(state: &KeyState<T>, change: &Change<T>) -> bool
     ensures { (logs : Name → History T.Op) (old new : Name → model.Entry T.Op) → LeadsTo T.IsDataOf logs old new state.now change.now → result ≡ not (is_unchanged (old state.now.name) (new state.now.name)) }
 {
     match change {
-        Change::Entry(entry) => !entry.is_unchanged(&state.entry),
+        Change::Entry(entry) => !entry.is_unchanged(state.entry.envelope()),
         _ => false,
     }
 }

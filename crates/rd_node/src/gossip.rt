@@ -19,14 +19,13 @@ ghost use Rattle.rd_node.specs.Gossip.{is_told, HoldsKey, IsComparison};
 
 use crate::key::KeyState;
 use rd_bytes::{Items, Memory, Text};
-use rd_envelope_codec::digest;
 use rd_lattice::{Replica, SpelledData};
 use rd_messages::{Digest, Digests, Entries, Keyed, Message, Post, Posts, Texts};
 use rd_vectors::Id;
 use std::alloc::Global;
 
 /// The digest that is told of a key.
-fn told_of(digests: &[Keyed<Digest>], key: &Text) -> Option<Digest>
+pub(crate) fn told_of(digests: &[Keyed<Digest>], key: &Text) -> Option<Digest>
     ensures { result ≡ option_map (λ told. told.item) (find (λ told. bytes_eq told.key key.now) digests.now) }
 {
     match digests
@@ -38,17 +37,13 @@ fn told_of(digests: &[Keyed<Digest>], key: &Text) -> Option<Digest>
     }
 }
 
-/// Whether a digest is told, and is the one of the key's entry, which is made only then.
-fn is_alike<T: SpelledData>(
-    alloc: Global,
-    state: &KeyState<T>,
-    told: Option<Digest>,
-) -> Result<bool, Memory>
+/// Whether a digest is told, and is the one of the key's entry, which is made only then, if none is kept.
+fn is_alike<T: SpelledData>(state: &KeyState<T>, told: Option<Digest>) -> Result<bool, Memory>
     ensures { (log : History T.Op) (entry : model.Entry T.Op) → StandsFor T.IsDataOf (parts_of state.now.entry) log entry
         → IfOk result (λ alike. alike ≡ is_told told (entry_digest T.byte_of T.history_spelled (T.kind_of state.now.entry.value) entry)) }
 {
     match told {
-        Some(told) => Ok(told == digest(alloc, &state.entry)?),
+        Some(told) => Ok(told == state.entry.digest()?),
         None => Ok(false),
     }
 }
@@ -75,7 +70,6 @@ fn compared(has_records: bool, was_told: bool, is_alike: bool) -> Comparison
 
 /// How a key stands to the digests that another told. Its own digest is made at most once.
 fn compare<T: SpelledData>(
-    alloc: Global,
     state: &KeyState<T>,
     digests: &[Keyed<Digest>],
 ) -> Result<Comparison, Memory>
@@ -84,8 +78,8 @@ fn compare<T: SpelledData>(
         → IfOk result (IsComparison D (map digest_told digests.now) (state_of node (declared_by state.now))) }
 {
     let told = told_of(digests, &state.name);
-    let is_alike = is_alike(alloc, state, told)?;
-    let has_records = state.entry.has_records();
+    let is_alike = is_alike(state, told)?;
+    let has_records = state.entry.envelope().has_records();
     Ok(compared(has_records, told.is_some(), is_alike))
 }
 
@@ -112,10 +106,10 @@ fn news<T: SpelledData>(
     let mut entries = Items::new(alloc);
     let mut wants = Items::new(alloc);
     for state in keys {
-        let comparison = compare(alloc, state, digests)?;
+        let comparison = compare(state, digests)?;
         if comparison.is_news {
             let key = state.name.copy(alloc)?;
-            let item = state.entry.copy(alloc)?;
+            let item = state.entry.envelope().copy(alloc)?;
             entries.push(Keyed { key, item })?;
         }
         if comparison.is_wanted {
@@ -178,9 +172,9 @@ fn digests<T: SpelledData>(alloc: Global, keys: &[KeyState<T>]) -> Result<Digest
 {
     let mut digests = Items::new(alloc);
     for state in keys {
-        if state.entry.has_records() {
+        if state.entry.envelope().has_records() {
             let key = state.name.copy(alloc)?;
-            let item = digest(alloc, &state.entry)?;
+            let item = state.entry.digest()?;
             digests.push(Keyed { key, item })?;
         }
     }

@@ -65,7 +65,7 @@ impl<T: Replica> KeyState<T> {
         ensures applied { IfOk result (λ became. IsApplied T.Replica id op.now self.old became self.new) }
         ensures err { OnErr result (self.new ≡ self.old) }
     {
-        match next_record(alloc, &mut self.entry, &self.log, op, id) {
+        match next_record(alloc, self.entry.change(), &self.log, op, id) {
             Ok(next) => {
                 self.log.add(next);
                 Ok(Applied::Recorded)

@@ -1,6 +1,7 @@
 ghost use Rattle.std.specs.Prelude.{◌≡◌, position};
 ghost use Rattle.std.specs.Str.{bytes_eq};
 
+use crate::held::HeldEntry;
 use crate::recording::next_record;
 use crate::reply::Reply;
 use rd_bytes::{Items, Memory, Text};
@@ -25,7 +26,7 @@ pub struct KeyState<T: Replica> {
     pub(crate) name: Text,
     pub(crate) kind: T::Kind,
     pub(crate) durable: bool,
-    pub(crate) entry: Envelope<T>,
+    pub(crate) entry: HeldEntry<T>,
     pub(crate) log: DeltaLog<T>,
     pub(crate) flushed: VersionVector,
 }
@@ -57,7 +58,7 @@ impl<T: Replica> KeyState<T> {
             name,
             kind: decl.kind,
             durable: decl.durable,
-            entry: Envelope::new(alloc, value),
+            entry: HeldEntry::new(alloc, Envelope::new(alloc, value)),
             log: DeltaLog::new(alloc, id, decl.kind),
             flushed: VersionVector::new(alloc),
         })
@@ -97,14 +98,14 @@ impl<T: Replica> KeyState<T> {
     pub fn entry(&self) -> &Envelope<T>
         ensures { result.now ≡ self.now.entry }
     {
-        &self.entry
+        self.entry.envelope()
     }
 
     /// Whether the operation is one of the key's kind.
     pub(crate) fn fits(&self, op: &T::Op) -> bool
         ensures { result ≡ T.data_type.fits (T.kind_of self.now.entry.value) op.now }
     {
-        self.entry.value().fits(op)
+        self.entry.envelope().value().fits(op)
     }
 
     /// The member's own operation.
@@ -116,7 +117,7 @@ impl<T: Replica> KeyState<T> {
         ensures owned { IfOk result (IsOwn T.Replica id self.now) }
         ensures means { IfOk result (MeansUpdate T.Replica id op.now self.now) }
     {
-        let mut entry = self.entry.copy(alloc)?;
+        let mut entry = self.entry.envelope().copy(alloc)?;
         match next_record(alloc, &mut entry, &self.log, op, id) {
             Ok(next) => Ok(Updated::Recorded { entry, next }),
             Err(ApplyError::Memory) => Err(Memory),
@@ -134,10 +135,11 @@ impl<T: Replica> KeyState<T> {
         ensures image { (digest : T.Kind → Entry T.Op → List ℕ) (log : History T.Op) (held : Entry T.Op) → StandsFor T.IsDataOf (parts_of self.now.entry) log held
             → IfOk result (λ reply. meant reply ≡ value_reply (delta_groups T.data_type digest) (if has_records held then Some (T.data_type.shown (T.kind_of self.now.entry.value) held.history) else None)) }
     {
-        if !self.entry.has_records() {
+        let entry = self.entry.envelope();
+        if !entry.has_records() {
             return Ok(Reply::NotFound);
         }
-        let shown = self.entry.show(alloc)?;
+        let shown = entry.show(alloc)?;
         Ok(Reply::Value(shown))
     }
 }

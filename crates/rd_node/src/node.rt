@@ -119,7 +119,7 @@ impl<T: SpelledData, K: Keeper + Drop> Node<T, K> {
         ensures { option_copied result ≡ option_map (λ state. state.entry) (find (λ state. bytes_eq state.name key.now) self.now.keys.items) }
     {
         match self.position(key) {
-            Some(index) => Some(&self.keys[index].entry),
+            Some(index) => Some(self.keys[index].entry.envelope()),
             None => None,
         }
     }
@@ -156,7 +156,7 @@ impl<T: SpelledData, K: Keeper + Drop> Node<T, K> {
         if let Some(became) = self.update_in_place(input)? {
             return Ok(became.output(self.alloc));
         }
-        let prepared = self.prepare(input)?;
+        let prepared = self.prepare_with_digests(input)?;
         Ok(self.make(prepared)?)
     }
 
@@ -174,7 +174,7 @@ impl<T: SpelledData, K: Keeper + Drop> Node<T, K> {
         if self.steps >= MOST_STEPS {
             return Err(StepError::HistoryFull);
         }
-        let prepared = self.taken(from, message)?;
+        let prepared = self.taken_with_digests(from, message)?;
         Ok(self.make(prepared)?)
     }
 
@@ -276,7 +276,7 @@ where
             plan,
             operations,
             output,
-        } = self.prepare(input)?;
+        } = self.prepare_with_digests(input)?;
         let copy = output.copy(self.alloc)?;
         let fate = self.carry(view, plan, operations)?;
         Ok((fate, output.after(fate), copy.after(fate)))

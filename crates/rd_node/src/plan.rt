@@ -67,7 +67,7 @@ fn record<T: Replica>(state: &mut KeyState<T>, entry: Envelope<T>, next: NextRec
     ensures { state.new ≡ recorded state.old entry next }
 {
     state.log.add(next);
-    state.entry = entry;
+    state.entry.put(entry);
 }
 
 /// Another entry of the key at a place, and the record in its log.

@@ -64,7 +64,7 @@ fn seen<T: Replica>(
 {
     let mut changes = Items::new(alloc);
     for state in keys {
-        let mut entry = state.entry.copy(alloc)?;
+        let mut entry = state.entry.envelope().copy(alloc)?;
         entry.add_seen(id, view);
         changes.push(Change::Entry(entry))?;
     }

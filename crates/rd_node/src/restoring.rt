@@ -117,7 +117,7 @@ fn is_fit<T: Replica>(state: &KeyState<T>, entry: &Envelope<T>, id: Id, given: u
     requires { T.kind_of state.now.entry.value ≡ state.now.kind }
     ensures { IsTrue result ↔ ((state.now.kind ≡ T.kind_of entry.now.value) × (names_others T.mentioned id given (parts_of entry.now) ≡ false)) }
 {
-    state.entry.value().same_kind(entry.value()) && !names_others(entry, id, given)
+    state.entry.envelope().value().same_kind(entry.value()) && !names_others(entry, id, given)
 }
 
 /// The entry that is kept for a key, if it may be loaded.
@@ -175,7 +175,7 @@ fn take<T: Replica>(state: &mut KeyState<T>, entry: Envelope<T>, id: Id, view: u
 {
     let mut entry = entry;
     let _changed = entry.add_seen(id, view);
-    state.entry = entry;
+    state.entry.put(entry);
 }
 
 /// Does so for the key at a place.

@@ -30,7 +30,7 @@ fn own_number<T: Replica>(state: &KeyState<T>, id: Id) -> Seq
     ensures value { result ≡ own_number id state.now }
     ensures range { result ≤ 2 ^ 62 }
 {
-    state.entry.versions().at(id)
+    state.entry.envelope().versions().at(id)
 }
 
 /// Whether the peer was not sent all own records of the key.
@@ -90,7 +90,7 @@ fn add_deltas<T: Replica>(
             Ok(())
         }
         None => {
-            let item = state.entry.copy(alloc)?;
+            let item = state.entry.envelope().copy(alloc)?;
             entries.push(Keyed { key, item })?;
             Ok(())
         }

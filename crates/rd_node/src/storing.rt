@@ -32,7 +32,7 @@ fn add<T: SpelledData>(
     ensures kept { (log : History T.Op) (old new : Entry T.Op) (k : ℕ) → StandsFor T.IsDataOf (parts_of state.now.entry) log old → StandsFor T.IsDataOf (parts_of entry.now) log new
         → k < length (stored_of state.now old new) → OnOk result (IsKept T.Replica T.SpelledData.own state.now.kind log new) }
 {
-    if !state.durable || entry.is_unchanged(&state.entry) {
+    if !state.durable || entry.is_unchanged(state.entry.envelope()) {
         return Ok(());
     }
     let key = state.name.copy(alloc)?;

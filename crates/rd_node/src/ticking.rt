@@ -186,14 +186,15 @@ fn key_tick<T: Replica>(
         → TicksIn node id view members.now → IsDue (delta_groups T.data_type digest) node T.Replica kinds logs id removed.now state.now
         → OnOk result (TellsMore (delta_groups T.data_type digest) node outcomes.old (state.now ∷ []) outcomes.new) }
 {
-    if !knows_any(&state.entry, removed) {
+    let held = state.entry.envelope();
+    if !knows_any(held, removed) {
         return Ok(KeyTick {
             entry: None,
             prunes: Vec::new(alloc),
         });
     }
-    let entry = state.entry.copy(alloc)?;
-    let known = state.entry.known(alloc)?;
+    let entry = held.copy(alloc)?;
+    let known = held.known(alloc)?;
     let prunes = Items::new(alloc);
     let mut ticking = KeyTicking {
         alloc,
@@ -256,7 +257,7 @@ fn write<T: Replica>(state: &mut KeyState<T>, tick: KeyTick<T>)
     let KeyTick { entry, prunes } = tick;
     state.log.add_all(prunes);
     if let Some(entry) = entry {
-        state.entry = entry;
+        state.entry.put(entry);
     }
 }
 

@@ -1,8 +1,10 @@
-use Rattle.std.proofs.Common.{◌≡◌, ap, ◌∙◌}
+use Rattle.std.proofs.Common.{◌≡◌, sym, ap, ◌∙◌, subst}
 use Rattle.std.specs.Prelude.{map, ◌&&◌, ◌||◌, not, is_some}
 use Rattle.rd_model.specs.Entry.{has_records}
 use Rattle.rd_model.specs.Node.{state_of}
 use Rattle.rd_model.specs.Step.{digest_of, named_digest}
+use Rattle.rd_envelope.specs.Images.{StandsFor}
+use Rattle.rd_envelope.specs.Words.{parts_of}
 use Rattle.rd_envelope_codec.specs.Entries.{entry_digest}
 use Rattle.rd_messages.specs.Standing.{digest_told}
 use Rattle.rd_node.specs.Keys.{declared_by}
@@ -16,7 +18,7 @@ returns g c = λ D kinds logs node same holds.
     let state = c.args.state.now in
     let k = state_of node (declared_by state) in
     let ds = map digest_told c.args.digests.now in
-    let has : c.has_records-has_records.result ≡ has_records k.entry = c.has_records-has_records.ensures.image (logs state.name) (node.entries state.name) holds.held.image in
+    let has : c.has_records-has_records.result ≡ has_records k.entry = c.has_records-has_records.ensures.image (logs state.name) (node.entries state.name) (subst (λ entry. StandsFor g.T.Replica.IsDataOf (parts_of entry) (logs state.name) (node.entries state.name)) (sym c.envelope.ensures) holds.held.image) in
     let own : entry_digest S.byte_of S.history_spelled (g.T.Replica.kind_of state.entry.value) (node.entries state.name) ≡ digest_of D k =
     digest_is S.byte_of S.history_spelled g.T.Replica.kind_of g.T.Replica.IsDataOf kinds logs D same node state holds in
     let told : c.told_of-told.result ≡ named_digest D ds state.name = c.told_of-told.ensures ∙ told_named D c.args.digests.now state.name in

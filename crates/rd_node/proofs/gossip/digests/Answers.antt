@@ -5,6 +5,8 @@ use Rattle.rd_model.specs.Entry.{has_records}
 use Rattle.rd_model.specs.Message.{Message}
 use Rattle.rd_model.specs.Node.{state_of}
 use Rattle.rd_model.specs.Step.{digest_of}
+use Rattle.rd_envelope.specs.Images.{StandsFor}
+use Rattle.rd_envelope.specs.Words.{parts_of}
 use Rattle.rd_messages.specs.Standing.{digest_told}
 use Rattle.rd_node.specs.Keys.{declared_by}
 use Rattle.rd_node.specs.Gossip.{HoldsKey, digests_of}
@@ -22,12 +24,12 @@ loop-state-preserved g c = λ D kinds logs node same holds.
     let state = c.state-item.result in
     let within = c.loop-state-test.true in
     let here = subst (HoldsKey R.kind_of R.IsDataOf kinds logs node) (sym c.state-item.is) (holds i state within) in
-    let has : c.has_records.result ≡ has_records (node.entries state.name) = c.has_records.ensures.image (logs state.name) (node.entries state.name) here.held.image in
+    let has : c.has_records.result ≡ has_records (node.entries state.name) = c.has_records.ensures.image (logs state.name) (node.entries state.name) (subst (λ entry. StandsFor R.IsDataOf (parts_of entry) (logs state.name) (node.entries state.name)) (sym c.envelope.ensures) here.held.image) in
     let so_far = c.loop-state.invariant D kinds logs node same holds in
     let more = ap (λ ks. digests_of D (map (λ state. state_of node (declared_by state)) ks)) (one_more keys i state within c.state-item.is) in
     elim c.if-has_records.branch [
       | then-has_records+in_ok-key+in_ok-item+in_ok-push w ↦
-          let own = w.in_ok-item.ensures.image (logs state.name) (node.entries state.name) here.held.image ∙ digest_is S.byte_of S.history_spelled R.kind_of R.IsDataOf kinds logs D same node state here in
+          let own = w.in_ok-item.ensures (logs state.name) (node.entries state.name) here.held.image ∙ digest_is S.byte_of S.history_spelled R.kind_of R.IsDataOf kinds logs D same node state here in
           ap (map digest_told) (w.digests-is ∙ w.in_ok-push.ensures.ok) ∙ map-append digest_told c.loop-state.digests _
           ∙ (λ j. so_far j ++ record { key = w.in_ok-key.ensures j; item = own j } ∷ [])
           ∙ sym (more ∙ chosen_one (λ state. state_of node (declared_by state)) (λ k. has_records k.entry) (λ k. record { key = k.name; item = digest_of D k }) (take i keys) state (sym has ∙ w.if-has_records.true))

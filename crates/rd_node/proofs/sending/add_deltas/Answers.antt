@@ -43,4 +43,4 @@ returns-in_ok-push-in-None-clause-entries g c = λ D kinds logs node sent keeps 
     let made = subst (IsGroupFor {ghosts = R} kinds logs D node c.args.peer state) c.in-None.is (c.in_ok-group.ensures D kinds logs c.args.id node keeps h behind) in
     subst₂ (AllZip (StandsForKeyed R.kind_of R.IsDataOf kinds logs)) (sym c.in_ok-push-in-None.ensures.ok) (ap (λ more. sent ++ more) (sym (entries_of-one D node c.args.peer (state_in node state) behind made)))
     (zip_push (StandsForKeyed R.kind_of R.IsDataOf kinds logs) c.args.entries.now sent (record { key = c.in_ok-key.key; item = c.in_ok-item-in-None.item }) (record { key = state.name; item = node.entries state.name }) zipped
-    (subst₂ (λ key item. StandsForKeyed R.kind_of R.IsDataOf kinds logs (record { key = key; item = item }) (record { key = state.name; item = node.entries state.name })) (sym c.in_ok-key.ensures) (sym c.in_ok-item-in-None.ensures) (record { same = refl; held = h.held.held })))
+    (subst₂ (λ key item. StandsForKeyed R.kind_of R.IsDataOf kinds logs (record { key = key; item = item }) (record { key = state.name; item = node.entries state.name })) (sym c.in_ok-key.ensures) (sym (c.in_ok-item-in-None.ensures ∙ c.envelope.ensures)) (record { same = refl; held = h.held.held })))

@@ -1,4 +1,4 @@
-use Rattle.std.proofs.Common.{◌≡◌, false, [], ◌∷◌, ◌++◌, length, sym, ap, ◌∙◌, arith, Result, Ok, Err}
+use Rattle.std.proofs.Common.{◌≡◌, false, [], ◌∷◌, ◌++◌, length, sym, ap, ◌∙◌, subst, arith, Result, Ok, Err}
 use Rattle.std.specs.Prelude.{map, OnOk}
 use Rattle.std.proofs.lemmas.List.{append-nil}
 use Rattle.rd_history.specs.History.{History}
@@ -20,7 +20,7 @@ none : (g : given.Over) (c : goal.Joined-then-not-state g) (log : History g.row.
     → stored_of c.args.state.now old new ≡ []
 none g c log old new s t = elim c.then-not-state.branch [
   | then-not-state-via-then-not-state w ↦ stored_not c.args.state.now old new w.if-not-state.true
-  | then-not-state-via-else-not-state+then-is_unchanged w ↦ stored_same c.args.state.now old new (sym (w.is_unchanged.ensures.image log old new s t) ∙ w.if-is_unchanged.true)
+  | then-not-state-via-else-not-state+then-is_unchanged w ↦ stored_same c.args.state.now old new (sym (w.is_unchanged.ensures.image log old new (subst (λ entry. StandsFor g.T.Replica.IsDataOf (parts_of entry) log old) (sym w.envelope.ensures) s) t) ∙ w.if-is_unchanged.true)
 ]
 
 pub returns-then-not-state-clause-spelled : goal.returns-then-not-state-clause-spelled
@@ -34,7 +34,7 @@ returns-then-not-state-clause-kept g c = λ log old new k s t below. absurd (let
 pub returns-clause-spelled : goal.returns-clause-spelled
 returns-clause-spelled g c = λ log old new s t.
     let state = c.args.state.now in
-    let other : is_unchanged old new ≡ false = sym (c.is_unchanged.ensures.image log old new s t) ∙ c.if-is_unchanged.false in
+    let other : is_unchanged old new ≡ false = sym (c.is_unchanged.ensures.image log old new (subst (λ entry. StandsFor g.T.Replica.IsDataOf (parts_of entry) log old) (sym c.envelope.ensures) s) t) ∙ c.if-is_unchanged.false in
     let one = stored_one state old new c.if-not-state.false other in
     let bytes = c.from_vec-bytes.ensures ∙ c.in_ok-spell.ensures.image log new t ∙ ap (λ kind. entry_spelled g.T.SpelledData.byte_of g.T.SpelledData.history_spelled kind new) c.requires in
     let item : Stored = record { key = c.in_ok-key.key; bytes = c.from_vec-bytes.result } in

@@ -1,8 +1,12 @@
 use Rattle.std.proofs.Common.{◌++◌, [], ◌≢◌, None, take, length, refl, sym, ap, ◌∙◌, subst, arith}
-use Rattle.std.specs.Prelude.{map}
+use Rattle.std.specs.Prelude.{map, nat_lt}
+use Rattle.std.specs.List.{list_any}
 use Rattle.std.proofs.lemmas.List.{append-nil, take_all}
 use Rattle.rd_history.specs.History.{IsPartOf}
 use Rattle.rd_model.specs.Step.{Ticking}
+use Rattle.rd_vectors.specs.Vectors.{number_at}
+use Rattle.rd_envelope.specs.Images.{StandsFor}
+use Rattle.rd_envelope.specs.Words.{parts_of}
 use Rattle.rd_node.specs.declared.ticking.KeyTick.{KeyTick}
 use Rattle.rd_node.specs.Replies.{delta_groups, meant_at_key}
 use Rattle.rd_node.specs.Sending.{state_in}
@@ -15,13 +19,13 @@ pub loop-identity-init : goal.loop-identity-init
 loop-identity-init g c =
     let R = g.T.Replica in
     let state = c.args.state.now in
-    let is = c.in_ok-entry.ensures in
+    let is = c.in_ok-entry.ensures ∙ c.envelope-held.ensures in
     let none = c.new-prunes.ensures in
     record {
       own = own_first state _ R.kind_of c.args.id c.args.removed.now c.requires is none;
       few = (let e = ap length none in omega arith);
       course = λ digest kinds logs node ticks held part. (
-        course_first state _ R (logs state.name) (node.entries state.name) held.held.held.image held.held.logged is (c.in_ok-known.ensures.image (logs state.name) (node.entries state.name) held.held.held.image) none,
+        course_first state _ R (logs state.name) (node.entries state.name) held.held.held.image held.held.logged is (c.in_ok-known.ensures.image (logs state.name) (node.entries state.name) (subst (λ e. StandsFor R.IsDataOf (parts_of e) (logs state.name) (node.entries state.name)) (sym c.envelope-held.ensures) held.held.held.image)) none,
         sym (append-nil (map meant_at_key c.args.outcomes.now)),
       );
     }
@@ -101,7 +105,7 @@ returns-then-not-knows_any-clause-image g c = λ digest kinds logs node ticks du
     let removed = due.gone in
     let held = due.held in
     let part = due.log in
-    (ticked_none g.T.Replica digest kinds logs node c.args.state.now c.args.id c.args.view c.args.members.now ticks held _ c.args.removed.now (sym removed) (sym c.knows_any.ensures ∙ c.if-not-knows_any.true) refl c.new.ensures.items).0
+    (ticked_none g.T.Replica digest kinds logs node c.args.state.now c.args.id c.args.view c.args.members.now ticks held _ c.args.removed.now (sym removed) (ap (λ entry. list_any (λ r. nat_lt 0 (number_at entry.versions r)) c.args.removed.now) (sym c.envelope-held.ensures) ∙ sym c.knows_any.ensures ∙ c.if-not-knows_any.true) refl c.new.ensures.items).0
 
 pub returns-then-not-knows_any-clause-told : goal.returns-then-not-knows_any-clause-told
 returns-then-not-knows_any-clause-told g c = λ digest kinds logs node ticks due.
@@ -109,5 +113,5 @@ returns-then-not-knows_any-clause-told g c = λ digest kinds logs node ticks due
     let held = due.held in
     let part = due.log in
     let tick : KeyTick g.row.T.Denot g.row.T-Kind.Denot g.row.T-Op.Denot g.row.T-Delta.Denot = record { entry = None; prunes = c.new.result } in
-    let none = (ticked_none g.T.Replica digest kinds logs node c.args.state.now c.args.id c.args.view c.args.members.now ticks held tick c.args.removed.now (sym removed) (sym c.knows_any.ensures ∙ c.if-not-knows_any.true) refl c.new.ensures.items).1 in
+    let none = (ticked_none g.T.Replica digest kinds logs node c.args.state.now c.args.id c.args.view c.args.members.now ticks held tick c.args.removed.now (sym removed) (ap (λ entry. list_any (λ r. nat_lt 0 (number_at entry.versions r)) c.args.removed.now) (sym c.envelope-held.ensures) ∙ sym c.knows_any.ensures ∙ c.if-not-knows_any.true) refl c.new.ensures.items).1 in
     sym (ap (λ l. map meant_at_key c.args.outcomes.now ++ (l ++ [])) none ∙ append-nil (map meant_at_key c.args.outcomes.now))

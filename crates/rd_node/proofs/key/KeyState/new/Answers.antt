@@ -1,5 +1,7 @@
 use Rattle.rd_model.specs.Entry.{empty_entry}
-use Rattle.std.proofs.Common.{refl, ap, ◌∙◌}
+use Rattle.rd_envelope.specs.Images.{StandsFor}
+use Rattle.rd_envelope.specs.Words.{parts_of}
+use Rattle.std.proofs.Common.{refl, sym, ap, ◌∙◌, subst}
 use Rattle.rd_node.proofs.key.KeyState.new.Goals as goal
 
 pub returns-clause-fresh : goal.returns-clause-fresh
@@ -7,11 +9,11 @@ returns-clause-fresh g c =
     let R = g.T.Replica in
     let kind = c.args.decl.now.kind in
     record {
-      kind_is = ap R.kind_of (c.new.ensures.value ∙ c.in_ok-value.ensures) ∙ g.met.T.Replica.kind_empty kind;
-      versions = c.new.ensures.versions;
-      marks = c.new.ensures.markers;
-      log = c.new-2.ensures.value;
-      sent = c.new-3.ensures;
-      image = c.new.ensures.image;
-      logged = λ log histories. c.new-2.ensures.image log empty_entry histories (c.new.ensures.image log histories).taken refl;
+      kind_is = ap (λ entry. R.kind_of entry.value) c.new-2.ensures ∙ ap R.kind_of (c.new.ensures.value ∙ c.in_ok-value.ensures) ∙ g.met.T.Replica.kind_empty kind;
+      versions = ap (λ entry. (parts_of entry).versions) c.new-2.ensures ∙ c.new.ensures.versions;
+      marks = ap (λ entry. (parts_of entry).marks) c.new-2.ensures ∙ c.new.ensures.markers;
+      log = c.new-3.ensures.value;
+      sent = c.new-4.ensures;
+      image = λ log histories. subst (λ entry. StandsFor R.IsDataOf (parts_of entry) log empty_entry) (sym c.new-2.ensures) (c.new.ensures.image log histories);
+      logged = λ log histories. c.new-3.ensures.image log empty_entry histories (c.new.ensures.image log histories).taken refl;
     }

@@ -1,4 +1,4 @@
-use Rattle.std.proofs.Common.{◌≡◌, refl, subst, None}
+use Rattle.std.proofs.Common.{◌≡◌, refl, ◌∙◌, subst, None}
 use Rattle.rd_history.specs.History.{History}
 use Rattle.rd_history.specs.History.Action.{Operation}
 use Rattle.rd_history.specs.Log.{IsTakenFrom}
@@ -21,7 +21,7 @@ returns-in-Ok-clause-owned g c =
     let entry = c.next_record.new.entry in
     let next = c.in-Ok.next in
     own_record R id c.args.op.now state entry next c.requires.logged c.requires.room
-    (subst (λ (old : Envelope g.row.T.Denot g.row.T-Kind.Denot g.row.T-Op.Denot g.row.T-Delta.Denot). IsRecorded R id state.log old entry next) c.in_ok-entry.ensures c.in-Ok.ensures.recorded)
+    (subst (λ (old : Envelope g.row.T.Denot g.row.T-Kind.Denot g.row.T-Op.Denot g.row.T-Delta.Denot). IsRecorded R id state.log old entry next) (c.in_ok-entry.ensures ∙ c.envelope.ensures) c.in-Ok.ensures.recorded)
 
 pub returns-in-Ok-clause-means : goal.returns-in-Ok-clause-means
 returns-in-Ok-clause-means g c =
@@ -33,9 +33,9 @@ returns-in-Ok-clause-means g c =
     let next = c.in-Ok.next in
     means_record R id op state entry next c.requires.logged
     (subst (λ (old : Envelope g.row.T.Denot g.row.T-Kind.Denot g.row.T-Op.Denot g.row.T-Delta.Denot). (log : History g.row.T-Op.Denot) (held : Entry g.row.T-Op.Denot) → StandsFor R.IsDataOf (parts_of old) log held
-    → R.data_type.refusal (R.kind_of old.value) id op held.history ≡ None) c.in_ok-entry.ensures c.in-Ok.ensures.unrefused)
+    → R.data_type.refusal (R.kind_of old.value) id op held.history ≡ None) (c.in_ok-entry.ensures ∙ c.envelope.ensures) c.in-Ok.ensures.unrefused)
     (subst (λ (old : Envelope g.row.T.Denot g.row.T-Kind.Denot g.row.T-Op.Denot g.row.T-Delta.Denot). (log : History g.row.T-Op.Denot) (held : Entry g.row.T-Op.Denot) → StandsFor R.IsDataOf (parts_of old) log held
-    → IsTakenFrom log (with_action held id (Operation op)).history → StandsForRecorded R log id op held entry next) c.in_ok-entry.ensures c.in-Ok.ensures.image)
+    → IsTakenFrom log (with_action held id (Operation op)).history → StandsForRecorded R log id op held entry next) (c.in_ok-entry.ensures ∙ c.envelope.ensures) c.in-Ok.ensures.image)
 
 pub returns-in-Err-Overflow-clause-means : goal.returns-in-Err-Overflow-clause-means
 returns-in-Err-Overflow-clause-means g c =
@@ -45,7 +45,7 @@ returns-in-Err-Overflow-clause-means g c =
     let error = c.in-Err-Overflow.field-0 in
     means_refusal R c.args.id c.args.op.now c.args.self.now error (Overflow share amount) (reply.Overflow share amount) c.in-Err-Overflow.field-0-is refl
     (subst (λ (old : Envelope g.row.T.Denot g.row.T-Kind.Denot g.row.T-Op.Denot g.row.T-Delta.Denot). (log : History g.row.T-Op.Denot) (held : Entry g.row.T-Op.Denot) → StandsFor R.IsDataOf (parts_of old) log held
-    → IsApplyRefusal (R.data_type.refusal (R.kind_of old.value) c.args.id c.args.op.now held.history) error) c.in_ok-entry.ensures c.in-Err-Overflow.ensures.refused)
+    → IsApplyRefusal (R.data_type.refusal (R.kind_of old.value) c.args.id c.args.op.now held.history) error) (c.in_ok-entry.ensures ∙ c.envelope.ensures) c.in-Err-Overflow.ensures.refused)
 
 pub returns-in-Err-ClockSpent-clause-means : goal.returns-in-Err-ClockSpent-clause-means
 returns-in-Err-ClockSpent-clause-means g c =
@@ -53,7 +53,7 @@ returns-in-Err-ClockSpent-clause-means g c =
     let error = c.in-Err-ClockSpent.field-0 in
     means_refusal R c.args.id c.args.op.now c.args.self.now error ClockSpent reply.ClockSpent c.in-Err-ClockSpent.field-0-is refl
     (subst (λ (old : Envelope g.row.T.Denot g.row.T-Kind.Denot g.row.T-Op.Denot g.row.T-Delta.Denot). (log : History g.row.T-Op.Denot) (held : Entry g.row.T-Op.Denot) → StandsFor R.IsDataOf (parts_of old) log held
-    → IsApplyRefusal (R.data_type.refusal (R.kind_of old.value) c.args.id c.args.op.now held.history) error) c.in_ok-entry.ensures c.in-Err-ClockSpent.ensures.refused)
+    → IsApplyRefusal (R.data_type.refusal (R.kind_of old.value) c.args.id c.args.op.now held.history) error) (c.in_ok-entry.ensures ∙ c.envelope.ensures) c.in-Err-ClockSpent.ensures.refused)
 
 pub returns-clause-means : goal.returns-clause-means
 returns-clause-means g c =
@@ -61,4 +61,4 @@ returns-clause-means g c =
     let error = c.in-Err-SetFull.field-0 in
     means_refusal R c.args.id c.args.op.now c.args.self.now error SetFull reply.SetFull c.in-Err-SetFull.field-0-is refl
     (subst (λ (old : Envelope g.row.T.Denot g.row.T-Kind.Denot g.row.T-Op.Denot g.row.T-Delta.Denot). (log : History g.row.T-Op.Denot) (held : Entry g.row.T-Op.Denot) → StandsFor R.IsDataOf (parts_of old) log held
-    → IsApplyRefusal (R.data_type.refusal (R.kind_of old.value) c.args.id c.args.op.now held.history) error) c.in_ok-entry.ensures c.in-Err-SetFull.ensures.refused)
+    → IsApplyRefusal (R.data_type.refusal (R.kind_of old.value) c.args.id c.args.op.now held.history) error) (c.in_ok-entry.ensures ∙ c.envelope.ensures) c.in-Err-SetFull.ensures.refused)

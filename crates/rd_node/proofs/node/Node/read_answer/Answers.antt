@@ -6,6 +6,8 @@ use Rattle.rd_model.specs.Message.{Message as Sent}
 use Rattle.rd_model.specs.Node.{HasKey, key_state, state_of}
 use Rattle.rd_model.specs.Step.{answered_entry}
 use Rattle.rd_model.proofs.Steps.{bytes_eq-tells}
+use Rattle.rd_envelope.specs.Images.{StandsFor}
+use Rattle.rd_envelope.specs.Words.{parts_of}
 use Rattle.rd_messages.specs.declared.message.Message.TheVariants.{ReadAnswer}
 use Rattle.rd_messages.specs.Standing.{StandsForEntry, StandsForMessage}
 use Rattle.rd_node.specs.Replies.{delta_groups}
@@ -38,8 +40,10 @@ returns g c = λ digest kinds logs node s.
     let has = subst (λ name. HasKey node name (R.kind_of at.entry.value)) named (has_key R.kind_of R.IsDataOf kinds logs code node s key c.in-Some.index at found c.index.ensures) in
     let held = subst (λ name. StandsForEntry R.kind_of R.IsDataOf kinds logs name at.entry (node.entries name)) named (held_at R.kind_of R.IsDataOf kinds logs code node s c.in-Some.index at found.within c.index.ensures).held in
     let is = ap (option_map (state_of node)) has.1 in
-    let copy = c.in_ok-envelope.ensures (logs key) (node.entries key) held.image in
     let held_records = has_records (node.entries key) in
+    let copy =
+        c.in_ok-envelope.ensures (logs key) (node.entries key) (subst (λ entry. StandsFor R.IsDataOf (parts_of entry) (logs key) (node.entries key)) (sym c.envelope.ensures) held.image)
+        ∙ ap (λ entry. if held_records then Some entry else None) c.envelope.ensures in
     subst₂ (λ k o. StandsForMessage {ghosts = R} R.kind_of R.IsDataOf kinds logs (ReadAnswer op k o) (Sent.ReadAnswer op key (answered_entry D (key_state node key)))) (sym c.in_ok-key-2.ensures) (sym copy)
     (subst (λ o. StandsForMessage {ghosts = R} R.kind_of R.IsDataOf kinds logs (ReadAnswer op key (if held_records then Some at.entry else None)) (Sent.ReadAnswer op key (answered_entry D o))) (sym is)
     (read_stands R kinds logs op key held_records at.entry (node.entries key) held))

@@ -1,4 +1,4 @@
-use Rattle.std.proofs.Common.{◌≡◌, subst}
+use Rattle.std.proofs.Common.{◌≡◌, ◌∙◌, subst}
 use Rattle.rd_node.specs.Steps.{MakesStep, IsUnchanged}
 use Rattle.rd_node.proofs.Keepers.{on_err, unchanged_same}
 use Rattle.rd_node.proofs.node.Node.step.Goals as goal
@@ -9,12 +9,17 @@ returns-then-self-ge-MOST_STEPS-clause-unchanged g c = unchanged_same c.args.sel
 -- where the entry didn't change in its place, the member is as it was
 pub returns-in_err-prepared-clause-unchanged : goal.returns-in_err-prepared-clause-unchanged
 returns-in_err-prepared-clause-unchanged g c =
-    let before = c.update_in_place.new.self in
-    let same = c.in_ok-became.ensures.otherwise c.in_default.is in
+    let before = c.prepare_with_digests.new.self in
+    let same = c.in_err-prepared.ensures.same ∙ c.in_ok-became.ensures.otherwise c.in_default.is in
     on_err c.from_residual-in_err-prepared.result (subst (λ node. IsUnchanged node before) same (unchanged_same before))
+
+pub returns-in_err-clause-unchanged : goal.returns-in_err-clause-unchanged
+returns-in_err-clause-unchanged g c =
+    let same = c.in_ok-prepared.ensures.same ∙ c.in_ok-became.ensures.otherwise c.in_default.is in
+    subst (λ node. IsUnchanged node c.make.new.self) same c.in_err-make.ensures.unchanged
 
 pub returns-clause-step : goal.returns-clause-step
 returns-clause-step g c =
-    let same = c.in_ok-became.ensures.otherwise c.in_default.is in
+    let same = c.in_ok-prepared.ensures.same ∙ c.in_ok-became.ensures.otherwise c.in_default.is in
     subst (λ node. MakesStep g.T.SpelledData node c.args.input.now c.in_ok-make.output c.make.new.self) same
     (c.in_ok-make.ensures.made c.args.input.now c.in_ok-prepared.ensures.image)
