@@ -1,5 +1,5 @@
-use Rattle.std.proofs.Common.{sym, subst}
-use Rattle.rd_node.specs.Steps.{IsStepOf}
+use Rattle.std.proofs.Common.{◌<◌, ◌∙◌, sym, subst}
+use Rattle.rd_node.specs.Steps.{IsStepOf, MakesStep, IsUnchanged}
 use Rattle.rd_node.proofs.Keepers.{on_err, unchanged_same}
 use Rattle.rd_node.proofs.Making.{makes_step}
 use Rattle.rd_node.proofs.node.Node.step.Goals as goal
@@ -7,13 +7,25 @@ use Rattle.rd_node.proofs.node.Node.step.Goals as goal
 pub returns-then-self-ge-MOST_STEPS-clause-unchanged : goal.returns-then-self-ge-MOST_STEPS-clause-unchanged
 returns-then-self-ge-MOST_STEPS-clause-unchanged g c = unchanged_same c.args.self.now
 
+-- where the entry didn't change in its place, the member is as it was, but for digests that it keeps
 pub returns-in_err-view-clause-unchanged : goal.returns-in_err-view-clause-unchanged
-returns-in_err-view-clause-unchanged g c = on_err c.from_residual.result (unchanged_same c.args.self.now)
+returns-in_err-view-clause-unchanged g c =
+    let before = c.prepare_with_digests.new.self in
+    let same = c.in_err-view.ensures.same ∙ c.in_ok-became.ensures.otherwise c.in_default.is in
+    on_err c.from_residual-in_err-view.result (subst (λ node. IsUnchanged node before) same (unchanged_same before))
+
+pub returns-in_err-fate-clause-unchanged : goal.returns-in_err-fate-clause-unchanged
+returns-in_err-fate-clause-unchanged g c =
+    let same = c.in_ok-view.ensures.same ∙ c.in_ok-became.ensures.otherwise c.in_default.is in
+    on_err c.from_residual-in_err-fate.result (subst (λ node. IsUnchanged node c.carry.new.self) same c.in_err-fate.ensures.unchanged)
 
 pub returns-clause-step : goal.returns-clause-step
 returns-clause-step g c =
-    let old = c.args.self.now in
+    let before = c.prepare_with_digests.new.self in
+    let same = c.in_ok-view.ensures.same ∙ c.in_ok-became.ensures.otherwise c.in_default.is in
     let fate = c.in_ok-fate.fate in
     let new = c.carry.new.self in
-    let step = makes_step g.T.SpelledData old c.in_ok-view.field-0 c.in_ok-view.ensures.sound fate new c.in_ok-fate.ensures.carried c.if-self-ge-MOST_STEPS.false c.args.input.now c.in_ok-view.ensures.image in
-    record { fate = fate; makes = subst (λ output. IsStepOf g.T.SpelledData old c.args.input.now fate output new) (sym c.after.ensures) step }
+    let few = subst (λ node. node.steps < 16384) (sym same) c.if-self-ge-MOST_STEPS.false in
+    let step = makes_step g.T.SpelledData before c.in_ok-view.field-0 c.in_ok-view.ensures.sound fate new c.in_ok-fate.ensures.carried few c.args.input.now c.in_ok-view.ensures.image in
+    subst (λ node. MakesStep g.T.SpelledData node c.args.input.now c.after.result new) same
+    (record { fate = fate; makes = subst (λ output. IsStepOf g.T.SpelledData before c.args.input.now fate output new) (sym c.after.ensures) step })
