@@ -53,7 +53,7 @@ impl Replica for Data {
 
     ghost shown = { values.shown };
 
-    ghost spelling = { λ data. (spelled.byte_of (values.kind_of data), spelled.spelled data) };
+    ghost spelling = { λ value. (spelled.byte_of (values.kind_of value), spelled.spelled value) };
 
     ghost IsDataOf = { values.IsDataOf };
 

@@ -33,7 +33,7 @@ loop-state-preserved g c = record {
             subst (λ ys. AllZip S c.if-comparison.entries ys) (sym (more ∙ chosen_one (λ state. state_of node (declared_by state)) (is_news D ds) keyed_entry (take i keys) state (sym compared.news ∙ w.if-comparison.true)))
             (subst (λ xs. AllZip S xs (news_of D ds (map (λ state. state_of node (declared_by state)) (take i keys)) ++ keyed_entry (state_of node (declared_by state)) ∷ [])) (sym (w.entries-is ∙ w.in_ok-push.ensures.ok))
             (zip_push S c.loop-state.entries (news_of D ds (map (λ state. state_of node (declared_by state)) (take i keys))) keyed (keyed_entry (state_of node (declared_by state))) so_far
-            (keyed_of R.kind_of R.IsDataOf kinds logs node state w.in_ok-key.key w.in_ok-item.item here w.in_ok-key.ensures w.in_ok-item.ensures)))
+            (keyed_of R.kind_of R.IsDataOf kinds logs node state w.in_ok-key.key w.in_ok-item.item here w.in_ok-key.ensures (w.in_ok-item.ensures ∙ w.envelope.ensures))))
         | else-comparison w ↦
             subst (λ ys. AllZip S c.if-comparison.entries ys) (sym (more ∙ chosen_none (λ state. state_of node (declared_by state)) (is_news D ds) keyed_entry (take i keys) state (sym compared.news ∙ w.if-comparison.false)))
             (subst (λ xs. AllZip S xs (news_of D ds (map (λ state. state_of node (declared_by state)) (take i keys)))) (sym w.entries-is) so_far)

@@ -42,8 +42,8 @@ returns g c = λ digest kinds logs node s.
     let is = ap (option_map (state_of node)) has.1 in
     let held_records = has_records (node.entries key) in
     let copy =
-        c.in_ok-envelope.ensures (logs key) (node.entries key) (subst (λ entry. StandsFor R.IsDataOf (parts_of entry) (logs key) (node.entries key)) (sym c.envelope.ensures) held.image)
-        ∙ ap (λ entry. if held_records then Some entry else None) c.envelope.ensures in
+    c.in_ok-envelope.ensures (logs key) (node.entries key) (subst (λ entry. StandsFor R.IsDataOf (parts_of entry) (logs key) (node.entries key)) (sym c.envelope.ensures) held.image)
+    ∙ ap (λ entry. if held_records then Some entry else None) c.envelope.ensures in
     subst₂ (λ k o. StandsForMessage {ghosts = R} R.kind_of R.IsDataOf kinds logs (ReadAnswer op k o) (Sent.ReadAnswer op key (answered_entry D (key_state node key)))) (sym c.in_ok-key-2.ensures) (sym copy)
     (subst (λ o. StandsForMessage {ghosts = R} R.kind_of R.IsDataOf kinds logs (ReadAnswer op key (if held_records then Some at.entry else None)) (Sent.ReadAnswer op key (answered_entry D o))) (sym is)
     (read_stands R kinds logs op key held_records at.entry (node.entries key) held))

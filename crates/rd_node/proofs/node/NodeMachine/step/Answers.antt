@@ -1,4 +1,4 @@
-use Rattle.std.proofs.Common.{◌<◌, sym, subst}
+use Rattle.std.proofs.Common.{◌<◌, ◌∙◌, sym, subst}
 use Rattle.rd_machine.specs.Faults.{RoseAt}
 use Rattle.rd_node.specs.Steps.{is_failure, IsStepOf, IsUnchanged}
 use Rattle.rd_node.proofs.Keepers.{on_err, unchanged_same, rose_by}
@@ -8,28 +8,28 @@ use Rattle.rd_node.proofs.node.NodeMachine.step.Goals as goal
 pub returns-then-self-ge-MOST_STEPS-clause-unchanged : goal.returns-then-self-ge-MOST_STEPS-clause-unchanged
 returns-then-self-ge-MOST_STEPS-clause-unchanged g c = unchanged_same c.args.self.now
 
--- where the entry didn't change in its place, the member is as it was
+-- where the entry didn't change in its place, the member is as it was, but for digests that it keeps
 pub returns-in_err-view-clause-unchanged : goal.returns-in_err-view-clause-unchanged
 returns-in_err-view-clause-unchanged g c =
-    let before = c.update_in_place.new.self in
-    let same = c.in_ok-became.ensures.otherwise c.in_default.is in
+    let before = c.prepare_with_digests.new.self in
+    let same = c.in_err-view.ensures.same ∙ c.in_ok-became.ensures.otherwise c.in_default.is in
     on_err c.from_residual-in_err-view.result (subst (λ node. IsUnchanged node before) same (unchanged_same before))
 
 pub returns-in_err-copy-clause-unchanged : goal.returns-in_err-copy-clause-unchanged
 returns-in_err-copy-clause-unchanged g c =
-    let before = c.update_in_place.new.self in
-    let same = c.in_ok-became.ensures.otherwise c.in_default.is in
+    let before = c.prepare_with_digests.new.self in
+    let same = c.in_ok-view.ensures.same ∙ c.in_ok-became.ensures.otherwise c.in_default.is in
     on_err c.from_residual-in_err-copy.result (subst (λ node. IsUnchanged node before) same (unchanged_same before))
 
 pub returns-in_err-fate-clause-unchanged : goal.returns-in_err-fate-clause-unchanged
 returns-in_err-fate-clause-unchanged g c =
-    let same = c.in_ok-became.ensures.otherwise c.in_default.is in
+    let same = c.in_ok-view.ensures.same ∙ c.in_ok-became.ensures.otherwise c.in_default.is in
     on_err c.from_residual-in_err-fate.result (subst (λ node. IsUnchanged node c.carry.new.self) same c.in_err-fate.ensures.unchanged)
 
 pub returns-clause-steps : goal.returns-clause-steps
 returns-clause-steps g c =
-    let before = c.update_in_place.new.self in
-    let same = c.in_ok-became.ensures.otherwise c.in_default.is in
+    let before = c.prepare_with_digests.new.self in
+    let same = c.in_ok-view.ensures.same ∙ c.in_ok-became.ensures.otherwise c.in_default.is in
     let fate = c.in_ok-fate.fate in
     let new = c.carry.new.self in
     let few = subst (λ node. node.steps < 16384) (sym same) c.if-self-ge-MOST_STEPS.false in
@@ -38,7 +38,7 @@ returns-clause-steps g c =
 
 pub returns-clause-fault : goal.returns-clause-fault
 returns-clause-fault g c =
-    let same = c.in_ok-became.ensures.otherwise c.in_default.is in
+    let same = c.in_ok-view.ensures.same ∙ c.in_ok-became.ensures.otherwise c.in_default.is in
     let fate = c.in_ok-fate.fate in
     let kept = c.in_ok-fate.ensures.carried in
-    subst (λ node. RoseAt (is_failure fate) (g.K.Keeper.faults node.keeper) (g.K.Keeper.faults c.carry.new.self.keeper)) same (rose_by g.K.Keeper kept.items fate c.update_in_place.new.self.keeper c.carry.new.self.keeper kept.kept)
+    subst (λ node. RoseAt (is_failure fate) (g.K.Keeper.faults node.keeper) (g.K.Keeper.faults c.carry.new.self.keeper)) same (rose_by g.K.Keeper kept.items fate c.prepare_with_digests.new.self.keeper c.carry.new.self.keeper kept.kept)
