@@ -1,5 +1,6 @@
 ghost use Rattle.std.specs.Prelude.{◌≡◌, ℕ, ◌+◌, ◌≤◌, ◌++◌, ◌↔◌, max, IsSome, IfSome, OnOk, OnErr, IfOk};
 ghost use Rattle.std.specs.FinMap as map;
+ghost use Rattle.rd_history.specs.Table.{identity_limit};
 ghost use Rattle.rd_meanings.specs.Refusal.{greatest_share};
 ghost use Rattle.rd_bytes.specs.Fields.{Gives};
 ghost use Rattle.rd_vectors.specs.IdSets.{members_in};
@@ -119,6 +120,14 @@ impl Amounts {
     {
         let number = self.numbers.at(id);
         Amount { number }
+    }
+
+    /// Every identity from this on has no amount.
+    pub(crate) fn limit(&self) -> u8
+        ensures above { (i : ℕ) → result ≤ i → number_at self.now i ≡ 0 }
+        ensures range { result ≤ identity_limit }
+    {
+        self.numbers.limit()
     }
 
     /// Keeps the greater amount.

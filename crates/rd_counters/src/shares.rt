@@ -6,7 +6,7 @@ ghost use Rattle.rd_counters.specs.Counter.{counter_applied, counter_delta_of, c
 use crate::amounts::Amount;
 use crate::counter::{GCounter, Share};
 use rd_lattice::{ApplyError, PruneError};
-use rd_vectors::{Dot, IDENTITIES, Id, Memory};
+use rd_vectors::{Dot, Id, Memory};
 
 impl GCounter {
     /// Adds an amount to the share of the dot's origin, and answers that share.
@@ -94,7 +94,7 @@ impl GCounter {
         ensures range { result ≤ 2 ^ 70 }
     {
         let mut total: u128 = 0;
-        for number in 0..IDENTITIES {
+        for number in 0..self.shares.limit() {
             if let Some(id) = Id::new(number) {
                 total += u128::from(self.shares.at(id).number());
             }
