@@ -53,7 +53,7 @@ loop-index-preserved g c =
     let R = g.T.Replica in
     let records = c.args.records.now in
     let index = c.loop-index.index in
-    let next : Some (R.combined c.loop-index.combined c.in-Some-delta.later) ≡ Some c.extend_delta.new.delta = ap Some (sym c.in_ok-extend_delta.ensures.ok) in (
+    let next : Some (R.combined c.loop-index.combined c.in-Some-delta.later) ≡ Some c.extend_delta.new.delta = ap Some (sym c.in_ok-extend_delta-in-Some-delta.ensures.ok) in (
       c.loop-index.invariant.0
           ∙ joined_at R.combined (Some c.loop-index.combined) records index c.at-in-loop-index.result.now c.at-in-loop-index.ensures
           ∙ ap (λ o. fold (joins R.combined) (both R.combined (Some c.loop-index.combined) o) (drop (index + 1) records)) c.in-Some-delta.is
