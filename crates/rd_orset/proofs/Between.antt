@@ -1,22 +1,21 @@
 -- Where the dots of an element stand in a list of dots, and what is put in their place.
-use Rattle.std.proofs.Common.{◌≡◌, ℕ, zero, suc, ◌+◌, ◌<◌, ◌≤◌, ◌⊎◌, inl, inr, ⊎_elim, List, [], ◌∷◌, ◌++◌, length, take, drop, Bool, true, false, cond, not, ◌||◌, refl, ap, sym, ◌∙◌, subst, arith}
+use Rattle.std.proofs.Common.{◌≡◌, ℕ, zero, suc, ◌<◌, ◌≤◌, inl, inr, List, [], ◌∷◌, ◌++◌, length, take, drop, Bool, true, false, cond, not, ◌||◌, refl, ap, sym, ◌∙◌, subst, arith}
 use Rattle.std.specs.List.{filter, list_any}
 use Rattle.std.specs.Str.{bytes_eq}
 use Rattle.std.specs.Ordering.{nat_cmp, ordering_then}
-use Rattle.std.specs.declared.cmp.Ordering.TheVariants.{Less, Equal, Greater}
+use Rattle.std.specs.declared.cmp.Ordering.TheVariants.{Less}
 use Rattle.std.specs.FinSet as set
 use Rattle.std.specs.Prelude.{nat_lt}
 use Rattle.std.proofs.lemmas.List.{take-append-drop}
 use Rattle.std.proofs.lemmas.Bool.Decides.{nat_tests}
 use Rattle.std.specs.Cmp.Lexicographic.{nat_list_cmp_total}
 use Rattle.rd_history.specs.Texts.{Text, text_lt}
-use Rattle.rd_bytes.specs.TextOrder.{text_order}
-use Rattle.rd_bytes.proofs.TextLaws.{order_less, order_equal, order_greater, less_order, lt_trans, lt_one_way, lt_never, lt_same, lt_differ, lt_differ_too, texts_eq}
+use Rattle.rd_bytes.proofs.TextLaws.{less_order, lt_trans, lt_differ, lt_differ_too, texts_eq}
 use Rattle.rd_orset.specs.Placing.{Placed, nth, placed_order, IsBeforeAll, IsNumbered, AreDots}
 use Rattle.rd_orset.specs.Keeping.{IsRunOf, set_of}
 use Rattle.rd_orset.specs.DotLaws.{same_dots}
 use Rattle.rd_orset.proofs.Placings.{before_all}
-use Rattle.rd_orset.proofs.ElementsInOrder.{IsUpto, before_upto, lt_upto}
+use Rattle.rd_orset.proofs.ElementsInOrder.{IsUpto, before_upto}
 use Rattle.rd_orset.proofs.SetsOfDots.{is_at, contains_set_of}
 
 -- THE ORDER OF THE ELEMENTS

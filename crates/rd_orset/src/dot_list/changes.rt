@@ -15,11 +15,7 @@ fn order(spot: &Spot, other: &Spot) -> Ordering
     ensures { result ≡ spot_order spot.now other.now }
 {
     let by_place = spot.place.cmp(&other.place);
-    let by_origin = spot
-        .dot
-        .origin
-        .number()
-        .cmp(&other.dot.origin.number());
+    let by_origin = spot.dot.origin.number().cmp(&other.dot.origin.number());
     let by_seq = spot.dot.seq.cmp(&other.dot.seq);
     by_place.then(by_origin.then(by_seq))
 }

@@ -1,4 +1,4 @@
-use Rattle.std.proofs.Common.{subst, sym, ap, ◌∙◌}
+use Rattle.std.proofs.Common.{sym, ap, ◌∙◌}
 use Rattle.rd_history.specs.Texts.{contains_text}
 use Rattle.rd_growing.proofs.Merging.{present_set}
 use Rattle.rd_growing.proofs.elements.put.Goals as goal

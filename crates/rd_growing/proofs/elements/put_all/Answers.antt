@@ -1,5 +1,4 @@
-use Rattle.std.proofs.Common.{◌≡◌, ◌+◌, ◌-◌, ◌≤◌, ◌++◌, [], ◌∷◌, take, length, vec_len, vec_capacity, List, sym, ap, ◌∙◌, arith}
-use Rattle.rd_history.specs.Texts.{Text, text_set}
+use Rattle.std.proofs.Common.{◌++◌, take, ◌∙◌, arith}
 use Rattle.rd_growing.proofs.Merging.{rising_of_set, no_more, one_more}
 use Rattle.rd_growing.proofs.elements.put_all.Goals as goal
 
@@ -10,9 +9,10 @@ pub put-requires : goal.put-requires
 put-requires c = rising_of_set c.loop-text.texts.items (c.args.texts.now.items ++ take c.loop-text.text-index c.args.others.now) c.loop-text.invariant.0
 
 pub loop-text-preserved : goal.loop-text-preserved
-loop-text-preserved c =
-    (c.in_ok-put.ensures.ok ∙ one_more c.args.texts.now.items c.args.others.now c.loop-text.texts.items c.text-item.result c.loop-text.text-index c.loop-text-test.true c.text-item.is c.loop-text.invariant.0,
-    omega (arith, c.in_ok-put.ensures.grown.0, c.in_ok-put.ensures.grown.1, c.loop-text.invariant.1))
+loop-text-preserved c = (
+  c.in_ok-put.ensures.ok ∙ one_more c.args.texts.now.items c.args.others.now c.loop-text.texts.items c.text-item.result c.loop-text.text-index c.loop-text-test.true c.text-item.is c.loop-text.invariant.0,
+  omega (arith, c.in_ok-put.ensures.grown.0, c.in_ok-put.ensures.grown.1, c.loop-text.invariant.1),
+)
 
 pub returns-clause-rising : goal.returns-clause-rising
 returns-clause-rising c = rising_of_set c.loop-text.texts.items (c.args.texts.now.items ++ take c.loop-text.text-index c.args.others.now) c.loop-text.invariant.0

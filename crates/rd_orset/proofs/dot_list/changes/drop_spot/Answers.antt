@@ -1,4 +1,4 @@
-use Rattle.std.proofs.Common.{◌+◌, List, subst, sym, ap, ◌∙◌, refl}
+use Rattle.std.proofs.Common.{◌+◌, List, subst, ap, ◌∙◌, refl}
 use Rattle.rd_orset.specs.declared.dot_list.Spot.{Spot}
 use Rattle.rd_orset.specs.Spots.{dots_in, IsAlone}
 use Rattle.rd_orset.proofs.Tables.{placed_cut}

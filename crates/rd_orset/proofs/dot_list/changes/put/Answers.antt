@@ -1,5 +1,4 @@
 use Rattle.std.proofs.Common.{◌≡◌, ◌<◌, ◌++◌, List, [], ◌∷◌, length, take, drop, get_or, true, refl, subst, sym, ap, ◌∙◌}
-use Rattle.std.specs.List.{insert}
 use Rattle.rd_history.specs.Texts.{Text}
 use Rattle.rd_orset.specs.declared.dot_list.Spot.{Spot}
 use Rattle.rd_orset.specs.Placing.{Placed, at_dot, AreDots}

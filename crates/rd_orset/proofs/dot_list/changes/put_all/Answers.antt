@@ -1,7 +1,7 @@
-use Rattle.std.proofs.Common.{◌+◌, ◌-◌, ◌≤◌, length, vec_len, vec_capacity, sym, subst, ap, ◌∙◌, arith}
+use Rattle.std.proofs.Common.{◌+◌, ◌-◌, ◌≤◌, length, sym, subst, ◌∙◌, arith}
 use Rattle.rd_vectors.specs.declared.id.Dot.{Dot}
 use Rattle.std.proofs.Common.{◌^◌}
-use Rattle.rd_orset.specs.Spots.{dots_in, HasRoom}
+use Rattle.rd_orset.specs.Spots.{dots_in}
 use Rattle.rd_orset.proofs.Uniting.{unite_start, united_more, united_same, numbered_at}
 use Rattle.rd_orset.proofs.dot_list.changes.put_all.Goals as goal
 use Rattle.rd_orset.proofs.dot_list.changes.put_all.Goals.{then-keeps+in_ok-put, else-keeps}
@@ -35,9 +35,9 @@ loop-index-preserved g c = elim c.if-keeps.branch [
         room = room.1;
       })
   | else-keeps w ↦ rw (w.texts-is, w.spots-is) (record {
-      spots = c.loop-index.invariant.spots;
-      united = united_same (g.R.Rule.keeps c.args.rule.now) (dots_in c.args.texts.now.items c.args.spots.now.items) c.args.dots.now (dots_in c.loop-index.texts.items c.loop-index.spots.items) c.loop-index.index
-          (omega (arith, c.loop-index-test.true, c.len-index-end.ensures)) (sym c.keeps.ensures ∙ w.if-keeps.false) c.loop-index.invariant.united;
-      room = (omega (arith, c.loop-index.invariant.room.0), omega (arith, c.loop-index.invariant.room.1));
-    })
+    spots = c.loop-index.invariant.spots;
+    united = united_same (g.R.Rule.keeps c.args.rule.now) (dots_in c.args.texts.now.items c.args.spots.now.items) c.args.dots.now (dots_in c.loop-index.texts.items c.loop-index.spots.items) c.loop-index.index
+        (omega (arith, c.loop-index-test.true, c.len-index-end.ensures)) (sym c.keeps.ensures ∙ w.if-keeps.false) c.loop-index.invariant.united;
+    room = (omega (arith, c.loop-index.invariant.room.0), omega (arith, c.loop-index.invariant.room.1));
+  })
 ]

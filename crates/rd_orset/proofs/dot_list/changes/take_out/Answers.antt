@@ -1,4 +1,4 @@
-use Rattle.std.proofs.Common.{◌≡◌, ◌<◌, List, [], ◌∷◌, length, get_or, true, false, subst, sym, ap, ◌∙◌}
+use Rattle.std.proofs.Common.{◌≡◌, ◌<◌, List, [], ◌∷◌, length, get_or, true, false, subst, sym}
 use Rattle.rd_history.specs.Texts.{Text}
 use Rattle.rd_growing.specs.Texts.{IsPlace}
 use Rattle.rd_orset.specs.declared.dot_list.Spot.{Spot}

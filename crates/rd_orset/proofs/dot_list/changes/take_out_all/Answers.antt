@@ -10,13 +10,13 @@ loop-index-init g c = record { spots = c.requires.spots; left = left_start (g.R.
 pub loop-index-preserved : goal.loop-index-preserved
 loop-index-preserved g c = elim c.if-not-keeps.branch [
   | then-not-keeps w ↦ rw (w.texts-is, w.spots-is) (record {
-      spots = w.take_out.ensures.spots;
-      left = left_more (g.R.Rule.keeps c.args.rule.now) (dots_in c.args.texts.now.items c.args.spots.now.items) c.args.dots.now (dots_in c.loop-index.texts.items c.loop-index.spots.items) c.loop-index.index
-          (omega (arith, c.loop-index-test.true, c.len-index-end.ensures)) _ w.dot.result w.element.result.now (sym c.keeps.ensures ∙ w.if-not-keeps.true) w.dot.ensures w.element.ensures c.loop-index.invariant.left w.take_out.ensures.left;
-    })
+    spots = w.take_out.ensures.spots;
+    left = left_more (g.R.Rule.keeps c.args.rule.now) (dots_in c.args.texts.now.items c.args.spots.now.items) c.args.dots.now (dots_in c.loop-index.texts.items c.loop-index.spots.items) c.loop-index.index
+        (omega (arith, c.loop-index-test.true, c.len-index-end.ensures)) _ w.dot.result w.element.result.now (sym c.keeps.ensures ∙ w.if-not-keeps.true) w.dot.ensures w.element.ensures c.loop-index.invariant.left w.take_out.ensures.left;
+  })
   | else-not-keeps w ↦ rw (w.texts-is, w.spots-is) (record {
-      spots = c.loop-index.invariant.spots;
-      left = left_same (g.R.Rule.keeps c.args.rule.now) (dots_in c.args.texts.now.items c.args.spots.now.items) c.args.dots.now (dots_in c.loop-index.texts.items c.loop-index.spots.items) c.loop-index.index
-          (omega (arith, c.loop-index-test.true, c.len-index-end.ensures)) (sym c.keeps.ensures ∙ w.if-not-keeps.false) c.loop-index.invariant.left;
-    })
+    spots = c.loop-index.invariant.spots;
+    left = left_same (g.R.Rule.keeps c.args.rule.now) (dots_in c.args.texts.now.items c.args.spots.now.items) c.args.dots.now (dots_in c.loop-index.texts.items c.loop-index.spots.items) c.loop-index.index
+        (omega (arith, c.loop-index-test.true, c.len-index-end.ensures)) (sym c.keeps.ensures ∙ w.if-not-keeps.false) c.loop-index.invariant.left;
+  })
 ]
