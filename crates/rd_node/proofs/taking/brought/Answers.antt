@@ -1,4 +1,4 @@
-use Rattle.std.proofs.Common.{◌≤◌, [], ◌++◌, length, sym, ◌∙◌, subst}
+use Rattle.std.proofs.Common.{◌≤◌, [], ◌++◌, length, ap, sym, ◌∙◌, subst}
 use Rattle.std.specs.List.{AllZip}
 use Rattle.std.specs.Vec.{with_items}
 use Rattle.rd_model.specs.Node.{Node as Member}
@@ -29,6 +29,20 @@ returns-clause-kept g c =
     let k1' = subst (AreMade Kept keys) (sym (items_back Kept keys first one k0 k1)) k1 in
     let k2 = c.in_ok-take_entries.ensures.kept (subst (AreMade Kept keys) (sym c.as_mut_slice-2.ensures.value) k1') in
     subst (AreMade Kept keys) (sym (items_back Kept keys (with_items first one) two k1' k2)) k2
+
+-- each key has one change
+pub any_changed-changed-requires : goal.any_changed-changed-requires
+any_changed-changed-requires g c =
+    let Kept = IsKept g.T.Replica.kind_of c.args.id in
+    let keys = c.args.keys.now in
+    let first = c.in_ok-changes.changes in
+    let one = c.take_groups.new.changes in
+    let two = c.take_entries.new.changes in
+    let k0 = kept_first g.T.Replica.kind_of c.args.id keys first.items c.in_ok-changes.ensures in
+    let k1 = c.in_ok-gaps.ensures.kept (subst (AreMade Kept keys) (sym c.as_mut_slice.ensures.value) k0) in
+    let k1' = subst (AreMade Kept keys) (sym (items_back Kept keys first one k0 k1)) k1 in
+    let k2 = c.in_ok-take_entries.ensures.kept (subst (AreMade Kept keys) (sym c.as_mut_slice-2.ensures.value) k1') in
+    ap length (c.deref-2.ensures.value ∙ items_back Kept keys (with_items first one) two k1' k2) ∙ k2.one_each
 
 pub returns-clause-image : goal.returns-clause-image
 returns-clause-image g c = λ digest kinds logs node sent held_by stands other exchange exact.

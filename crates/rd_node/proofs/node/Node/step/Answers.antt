@@ -13,13 +13,8 @@ returns-in_err-prepared-clause-unchanged g c =
     let same = c.in_err-prepared.ensures.same ∙ c.in_ok-became.ensures.otherwise c.in_default.is in
     on_err c.from_residual-in_err-prepared.result (subst (λ node. IsUnchanged node before) same (unchanged_same before))
 
-pub returns-in_err-clause-unchanged : goal.returns-in_err-clause-unchanged
-returns-in_err-clause-unchanged g c =
-    let same = c.in_ok-prepared.ensures.same ∙ c.in_ok-became.ensures.otherwise c.in_default.is in
-    subst (λ node. IsUnchanged node c.make.new.self) same c.in_err-make.ensures.unchanged
-
 pub returns-clause-step : goal.returns-clause-step
 returns-clause-step g c =
     let same = c.in_ok-prepared.ensures.same ∙ c.in_ok-became.ensures.otherwise c.in_default.is in
-    subst (λ node. MakesStep g.T.SpelledData node c.args.input.now c.in_ok-make.output c.make.new.self) same
+    subst (λ node. MakesStep g.T.SpelledData node c.args.input.now c.in_ok-make.field-0 c.make.new.self) same
     (c.in_ok-make.ensures.made c.args.input.now c.in_ok-prepared.ensures.image)

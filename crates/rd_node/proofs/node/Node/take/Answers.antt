@@ -15,5 +15,5 @@ returns-in_err-prepared-clause-unchanged g c =
 
 pub returns-clause-step : goal.returns-clause-step
 returns-clause-step g c =
-    subst (λ node. MakesStep g.T.SpelledData node (input.Take c.args.from c.args.message.now) c.in_ok-make.output c.make.new.self) c.in_ok-prepared.ensures.same
+    subst (λ node. MakesStep g.T.SpelledData node (input.Take c.args.from c.args.message.now) c.in_ok-make.field-0 c.make.new.self) c.in_ok-prepared.ensures.same
     (c.in_ok-make.ensures.made (input.Take c.args.from c.args.message.now) c.in_ok-prepared.ensures.image)
