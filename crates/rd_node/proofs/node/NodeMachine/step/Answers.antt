@@ -1,4 +1,4 @@
-use Rattle.std.proofs.Common.{◌<◌, ◌∙◌, sym, subst}
+use Rattle.std.proofs.Common.{◌<◌, ◌≤◌, ◌∙◌, sym, subst}
 use Rattle.rd_machine.specs.Faults.{RoseAt}
 use Rattle.rd_node.specs.Steps.{is_failure, IsStepOf, IsUnchanged}
 use Rattle.rd_node.proofs.Keepers.{on_err, unchanged_same, rose_by}
@@ -25,6 +25,11 @@ pub returns-in_err-fate-clause-unchanged : goal.returns-in_err-fate-clause-uncha
 returns-in_err-fate-clause-unchanged g c =
     let same = c.in_ok-view.ensures.same ∙ c.in_ok-became.ensures.otherwise c.in_default.is in
     on_err c.from_residual-in_err-fate.result (subst (λ node. IsUnchanged node c.carry.new.self) same c.in_err-fate.ensures.unchanged)
+
+pub returns-in_err-fate-clause-later : goal.returns-in_err-fate-clause-later
+returns-in_err-fate-clause-later g c =
+    let same = c.in_ok-view.ensures.same ∙ c.in_ok-became.ensures.otherwise c.in_default.is in
+    on_err c.from_residual-in_err-fate.result (subst (λ node. g.K.Keeper.faults node.keeper ≤ g.K.Keeper.faults c.carry.new.self.keeper) same c.in_err-fate.ensures.later)
 
 pub returns-clause-steps : goal.returns-clause-steps
 returns-clause-steps g c =
