@@ -1,5 +1,5 @@
 -- A message is handed to its receiver, and passed where it was the next one due.
-use Rattle.std.proofs.Common.{◌≡◌, ℕ, ◌<◌, ◌≤◌, List, [], ◌∷◌, length, length-append, refl, sym, ap, subst, ◌∙◌, arith, Bool, true, false, Option, Some, None}
+use Rattle.std.proofs.Common.{◌≡◌, ℕ, ◌<◌, ◌≤◌, List, [], ◌∷◌, length-append, refl, sym, ap, subst, ◌∙◌, arith, Bool, true, false, Option, Some, None}
 use Rattle.std.specs.Prelude.{is_some, if◌then◌else◌, ◌==◌, ◌&&◌, option_map}
 use Rattle.std.proofs.lemmas.Option.{slice_get_within}
 use Rattle.rd_history.specs.Table.{identity_limit}
@@ -40,11 +40,11 @@ use Rattle.rd_world.specs.declared.sending.Answered.{Answered}
 use Rattle.rd_world.specs.Channels.{Channel, channel_at, count_on, message_on, passed, extended, ChangesOne}
 use Rattle.rd_world.specs.Lines.{IsHead}
 use Rattle.rd_world.specs.Places.{seat_of, keeper_of}
-use Rattle.rd_world.specs.Sending.{messages_to}
+use Rattle.rd_world.specs.Sending.{messages_to, AreFew}
 use Rattle.rd_world.specs.Standing.{StandsForLink, StandsForWorld}
 use Rattle.rd_world.specs.Steps.{Foretells, Reaches}
 use Rattle.rd_world.specs.Ways.{IsPrefix, Means}
-use Rattle.rd_world.specs.Giving.{IsSame, IsAlikeButLinks, ChangesAt, Refuses, Makes, Gives, gone, full, made, Does, IsAsBefore, delivers}
+use Rattle.rd_world.specs.Giving.{IsSame, IsAlikeButLinks, ChangesAt, Refuses, Makes, Gives, Hands, gone, full, made, Does, IsAsBefore, delivers}
 use Rattle.rd_world.proofs.Changing.{last_sound}
 use Rattle.rd_world.proofs.Answering.{reaches_gone, reaches_full, kept_changed, called_keeps, kept_same, kept_refused}
 use Rattle.rd_world.proofs.Going.{given_at, reaches_made}
@@ -162,7 +162,7 @@ module _ {T K Kind Delta : Type 0} {ghosts : Ghosts T Kind Op Delta} {keeping : 
                 let c = mk.changes in
                 record { views = same.views ∙ c.views; keys = same.keys ∙ c.keys; spare = same.spare ∙ c.spare; sound = c.sound; seat = c.seat; within = c.within; was = c.was; nodes = same.nodes ∙ c.nodes }
 
-            linked : (logs : Text → History Op) (sents : List (sending.Post Op)) → StandsForWorld spelling kinds logs old p.world → StandsForPosts ghosts.kind_of ghosts.IsDataOf kinds logs mk.steps.posts sents → length mk.steps.posts ≤ length mk.before.view.members
+            linked : (logs : Text → History Op) (sents : List (sending.Post Op)) → StandsForWorld spelling kinds logs old p.world → StandsForPosts ghosts.kind_of ghosts.IsDataOf kinds logs mk.steps.posts sents → AreFew mk.before.view (input.Take from message) mk.steps.posts
                 → (a b : ℕ) → a < identity_limit → b < identity_limit → StandsForLink {ghosts = ghosts} kinds logs (channel_at new.links a b) (with_posts (moved_on p.world.links from to index) to sents a b)
             linked logs sents now posts bounded a b ok fine =
                 let sends = mk.steps.sends bounded in
@@ -255,7 +255,7 @@ module _ {T K Kind Delta : Type 0} {ghosts : Ghosts T Kind Op Delta} {keeping : 
 pub nothing_yet : {T K Kind Delta : Type 0} {ghosts : Ghosts T Kind Op Delta} {keeping : Keeping K} (spelling : Spelling T Kind Op Delta) (old : World T K Kind Op Delta ghosts keeping) → IsAsBefore spelling old old
 nothing_yet {keeping = keeping} spelling old = record { kept = λ k. keeper_same keeping (keeper_of old.nodes.items old.spare.items k); stays = λ kinds members decls p m. m }
 
--- what the code has at hand: the message that was found, its copy, and its sketch
+-- what the code has at hand: the message that was found, and its sketch
 module _ {T K Kind Delta : Type 0} {ghosts : Ghosts T Kind Op Delta} {keeping : Keeping K} (spelling : Spelling T Kind Op Delta) (old : World T K Kind Op Delta ghosts keeping) (from to index : ℕ) (small : from < identity_limit) (few : to < identity_limit) (are : AreViews old.views) (here_is : Bool) (contains : here_is ≡ is_member (last_view old.views) to) where
   pub call_absent : here_is ≡ false → (event : Event) → event ≡ record { head = head.Deliver from to index None; answer = answer.Gone; sent = []; finished = None } → Does spelling (delivers ghosts spelling from to index) old old (event ∷ [])
   call_absent absent event line = subst (λ (e : Event). Does spelling (delivers ghosts spelling from to index) old old (e ∷ [])) (sym line) (does_absent spelling old from to index small few (sym contains ∙ absent))
@@ -265,12 +265,10 @@ module _ {T K Kind Delta : Type 0} {ghosts : Ghosts T Kind Op Delta} {keeping : 
     call_unsent none event line =
         subst (λ (e : Event). Does spelling (delivers ghosts spelling from to index) old old (e ∷ [])) (sym line) (does_unsent spelling old from to index small few (last_sound old.views are) (sym contains ∙ present) (sym asks ∙ none))
 
-    module _ (message copy : Message T Kind Op Delta ghosts) (found : asked ≡ Some message) (same : copy ≡ message) (sketch : Sketch) (sketches : sketch ≡ sketch_of message) (alike : (a b : K) → is_some (keeping.table a) ≡ is_some (keeping.table b)) (mid : World T K Kind Op Delta ghosts keeping) (event : Event)
-        (gives : Gives spelling to (head.Deliver from to index (Some sketch)) (input.Take from copy) old mid event) where
+    module _ (message : Message T Kind Op Delta ghosts) (found : asked ≡ Some message) (sketch : Sketch) (sketches : sketch ≡ sketch_of message) (alike : (a b : K) → is_some (keeping.table a) ≡ is_some (keeping.table b)) (mid : World T K Kind Op Delta ghosts keeping) (event : Event)
+        (hands : Hands spelling from to index (head.Deliver from to index (Some sketch)) old mid event) where
       gives_so : Gives spelling to (head.Deliver from to index (Some (sketch_of message))) (input.Take from message) old mid event
-      gives_so =
-          subst (λ (s : Sketch). Gives spelling to (head.Deliver from to index (Some s)) (input.Take from message) old mid event) sketches
-          (subst (λ (c : Message T Kind Op Delta ghosts). Gives spelling to (head.Deliver from to index (Some sketch)) (input.Take from c) old mid event) same gives)
+      gives_so = subst (λ (s : Sketch). Gives spelling to (head.Deliver from to index (Some s)) (input.Take from message) old mid event) sketches (hands message (sym asks ∙ found))
 
       pub call_reply : (r : Reply) → event.answer ≡ answer.Reply r → (new self : World T K Kind Op Delta ghosts keeping) → self ≡ new → IsAlikeButLinks mid new → (index < count_on (channel_at mid.links from to) → ChangesOne (passed index) from to mid.links new.links)
           → Does spelling (delivers ghosts spelling from to index) old self (event ∷ [])

@@ -1,11 +1,15 @@
--- A member sends at most one message to each member of its view in a step.
-use Rattle.std.proofs.Common.{◌≡◌, ℕ, suc, ◌≤◌, ◌<◌, List, [], ◌∷◌, length, map, refl, sym, subst, arith, Bool, true, false, Option, None, Some}
+-- A member sends few messages in a step, and to the receivers of its input alone.
+use Rattle.std.proofs.Common.{◌≡◌, ℕ, ◌≤◌, suc, List, [], ◌∷◌, length, map, refl, sym, ap, ◌∙◌, subst, arith, Bool, true, false, Option, None, Some, get_or}
+use Rattle.std.proofs.lemmas.Bool.{eq-eqb}
 use Rattle.std.proofs.lemmas.List.{length-map}
+use Rattle.std.proofs.lemmas.List.Elements.{All-filter}
+use Rattle.std.proofs.lemmas.List.Folds.{list_all-map, list_any_at}
+use Rattle.std.proofs.lemmas.List.Sums.{AllPass-from_list_all, list_all-from_AllPass}
 use Rattle.std.specs.Prelude.{nat_le, if◌then◌else◌, filter, find, not, ◌==◌, ◌||◌, ◌&&◌}
-use Rattle.std.specs.List.{list_any}
+use Rattle.std.specs.List.{list_any, list_all}
 use Rattle.std.specs.Str.{bytes_eq}
 use Rattle.rd_history.specs.Texts.{Text}
-use Rattle.rd_history.specs.Vector.{members_of}
+use Rattle.rd_history.specs.Vector.{IdentitySet, members_of}
 use Rattle.rd_history.specs.History.{Action}
 use Rattle.rd_meanings.specs.Refusal.{Refusal}
 use Rattle.rd_model.specs.View.{View, Member, identities_of, is_member, leader, others}
@@ -19,9 +23,32 @@ use Rattle.rd_model.specs.Step.{KeyGap, step, step_of_take, has_failed, answered
 use Rattle.rd_model.proofs.Cases.{accepted, updated, updated_needing, updated_unless, got, got_needing, counted_for}
 use Rattle.rd_runs.proofs.Keeping.{if_holds}
 
-some_member : (members : List Member) (i : ℕ) → list_any (λ j. j == i) (map (λ (m : Member). m.identity) members) ≡ true → 0 < length members
-some_member [] i e = absurd (cc e)
-some_member (m ∷ ms) i e = omega arith
+-- RECEIVERS
+
+-- whom a member of a view sends to in a step for an input
+abbrev pub receivers_of : {Op : Type 0} → View → Input Op → IdentitySet
+receivers_of view (Input.Take from message) = λ id. id == from
+receivers_of view (Input.GossipTo to) = λ id. id == to
+receivers_of view _ = is_member view
+
+-- and how many messages at most
+abbrev pub most_asked_of : View → Level → ℕ
+most_asked_of view Level.Local = 0
+most_asked_of view (Level.To number) = length view.members
+most_asked_of view (Level.Majority cap) = length view.members
+most_asked_of view Level.All = length view.members
+
+abbrev pub most_posts_of : {Op : Type 0} → View → Input Op → ℕ
+most_posts_of view (Input.Update key op level) = most_asked_of view level
+most_posts_of view (Input.Get key level) = most_asked_of view level
+most_posts_of view (Input.Take from message) = 1
+most_posts_of view (Input.Install other) = 0
+most_posts_of view Input.Flush = length view.members
+most_posts_of view (Input.GossipTo to) = 1
+most_posts_of view Input.PruneTick = 0
+most_posts_of view (Input.Timeout op) = 0
+
+-- LISTS
 
 shorter : {X : Type 0} (b : Bool) (x : X) (xs : List X) (n : ℕ) → length xs ≤ n → length (if b then x ∷ xs else xs) ≤ suc n
 shorter true x xs n h = omega arith
@@ -31,20 +58,56 @@ filter_shorter : {X : Type 0} (p : X → Bool) (xs : List X) → length (filter 
 filter_shorter p [] = omega arith
 filter_shorter p (x ∷ xs) = shorter (p x) x (filter p xs) (length xs) (filter_shorter p xs)
 
-not_or : (a b : Bool) → (a || not b) ≡ false → b ≡ true
-not_or false true e = refl
-not_or false false e = cc e
-not_or true b e = absurd (cc e)
+all_filtered : {X : Type 0} (p q : X → Bool) (xs : List X) → list_all p xs ≡ true → list_all p (filter q xs) ≡ true
+all_filtered p q xs h = list_all-from_AllPass p (filter q xs) (All-filter q (λ x. p x ≡ true) xs (AllPass-from_list_all p xs h))
+
+-- each item of a list is in it
+all_in : (is : List ℕ) → list_all (λ i. list_any (λ j. j == i) is) is ≡ true
+all_in is =
+    list_all-from_AllPass (λ i. list_any (λ j. j == i) is) is
+    (λ k d within. list_any_at (λ j. j == get_or is k d) is k d within (eq-eqb (get_or is k d) (get_or is k d) refl))
+
+some_number : (b : Bool) (m n : ℕ) → (if b then Some m else None) ≡ Some n → m ≡ n
+some_number true m n e = cc e
+some_number false m n e = absurd (cc e)
+
+at_most : (b : Bool) (n : ℕ) → (if b then 0 else n) ≤ n
+at_most true n = omega arith
+at_most false n = omega arith
+
+to_itself : (i : ℕ) → ((i == i) && true) ≡ true
+to_itself i = ap (λ b. b && true) (eq-eqb i i refl)
+
+module _ {Op : Type 0} where
+  -- no more than so many posts, and to these alone
+  abbrev pub AreFewTo : IdentitySet → ℕ → List (Post Op) → Type 0
+  AreFewTo ids most posts = (length posts ≤ most) × (list_all (λ (post : Post Op). ids post.to) posts ≡ true)
+
+  none_few : (ids : IdentitySet) (most : ℕ) (posts : List (Post Op)) → posts ≡ [] → AreFewTo ids most posts
+  none_few ids most posts e = subst (AreFewTo ids most) (sym e) (omega arith, refl)
+
+  -- at most one post, to this identity
+  abbrev IsOneTo : ℕ → List (Post Op) → Type 0
+  IsOneTo i = AreFewTo (λ id. id == i) 1
+
+  one_to : (i : ℕ) (message : Message Op) → IsOneTo i (record { to = i; message = message } ∷ [])
+  one_to i message = (omega arith, to_itself i)
+
+  -- a post to each of these
+  to_each : (ids : IdentitySet) (message : ℕ → Message Op) (is : List ℕ) (most : ℕ) → length is ≤ most → list_all ids is ≡ true → AreFewTo ids most (map (λ (i : ℕ). record { to = i; message = message i }) is)
+  to_each ids message is most few all =
+      let post : ℕ → Post Op = λ i. record { to = i; message = message i } in
+      (subst (λ n. n ≤ most) (sym (length-map is post)) few, list_all-map (λ (post : Post Op). ids post.to) post is ∙ all)
 
 module _ {Kind Op Shown : Type 0} (D : Replication Kind Op Shown) where
-  one_gossip : (i : ℕ) (entries : List (Keyed (Entry Op))) (wants : List Text) → length (gossip_to D i entries wants) ≤ 1
-  one_gossip i [] [] = omega arith
-  one_gossip i [] (w ∷ wants) = omega arith
-  one_gossip i (e ∷ entries) wants = omega arith
+  one_gossip : (i : ℕ) (entries : List (Keyed (Entry Op))) (wants : List Text) → IsOneTo i (gossip_to D i entries wants)
+  one_gossip i [] [] = (omega arith, refl)
+  one_gossip i [] (w ∷ wants) = (omega arith, to_itself i)
+  one_gossip i (e ∷ entries) wants = (omega arith, to_itself i)
 
-  one_nack : (i : ℕ) (gaps : List KeyGap) → length (nack_to D i gaps) ≤ 1
-  one_nack i [] = omega arith
-  one_nack i (gap ∷ gaps) = omega arith
+  one_nack : (i : ℕ) (gaps : List KeyGap) → IsOneTo i (nack_to D i gaps)
+  one_nack i [] = (omega arith, refl)
+  one_nack i (gap ∷ gaps) = (omega arith, to_itself i)
 
   -- counting an answer sends nothing
   posts_counted : (stepped : Stepped Kind Op Shown) (from : ℕ) (o : Option OpenOperation) → (counted_for D stepped from o).output.posts ≡ stepped.output.posts
@@ -56,109 +119,142 @@ module _ {Kind Op Shown : Type 0} (D : Replication Kind Op Shown) (node : Node K
   abbrev later : Node Kind Op Shown
   later = one_step_later node
 
-  abbrev IsFew : Stepped Kind Op Shown → Type 0
-  IsFew stepped = length stepped.output.posts ≤ length node.view.members
+  abbrev IsFew : IdentitySet → ℕ → Stepped Kind Op Shown → Type 0
+  IsFew ids most stepped = AreFewTo ids most stepped.output.posts
 
-  no_posts : (stepped : Stepped Kind Op Shown) → stepped.output.posts ≡ [] → IsFew stepped
-  no_posts stepped e = subst (λ (posts : List (Post Op)). length posts ≤ length node.view.members) (sym e) (omega arith)
+  abbrev to_members : IdentitySet
+  to_members = is_member node.view
 
-  few_others : length (others node.view node.identity) ≤ length node.view.members
+  abbrev count : ℕ
+  count = length node.view.members
+
+  no_posts : (ids : IdentitySet) (most : ℕ) (stepped : Stepped Kind Op Shown) → stepped.output.posts ≡ [] → IsFew ids most stepped
+  no_posts ids most stepped e = none_few ids most stepped.output.posts e
+
+  few_others : length (others node.view node.identity) ≤ count
   few_others =
       let fewer = filter_shorter (λ (j : ℕ). not (j == node.identity)) (identities_of node.view) in
       let same = length-map node.view.members (λ (m : Member). m.identity) in omega (arith, fewer, same)
 
+  others_in : list_all to_members (others node.view node.identity) ≡ true
+  others_in = all_filtered to_members (λ (j : ℕ). not (j == node.identity)) (identities_of node.view) (all_in (identities_of node.view))
+
   -- each other member is asked once
-  few_asked : (message : Message Op) → length (to_others node message) ≤ length node.view.members
-  few_asked message = subst (λ n. n ≤ length node.view.members) (sym (length-map (others node.view node.identity) (λ (i : ℕ). record { to = i; message = message }))) few_others
+  few_asked : (message : Message Op) → AreFewTo to_members count (to_others node message)
+  few_asked message = to_each to_members (λ i. message) (others node.view node.identity) count few_others others_in
 
   -- UPDATES AND GETS
 
-  few_accepted : (key : Text) (n : ℕ) (fate : Fate) (entry : Entry Op) → IsFew (accepted D later key n fate entry)
+  -- how many are asked where so many have to answer
+  abbrev asked : ℕ → ℕ
+  asked n = if nat_le n 1 then 0 else count
+
+  asked_most : (level : Level) (n : ℕ) → needed level (member_count later) ≡ Some n → asked n ≤ most_asked_of node.view level
+  asked_most Level.Local n e = subst (λ m. (if nat_le m 1 then 0 else count) ≤ 0) (some_number (nat_le 1 (member_count later)) 1 n e) (omega arith)
+  asked_most (Level.To number) n e = at_most (nat_le n 1) count
+  asked_most (Level.Majority cap) n e = at_most (nat_le n 1) count
+  asked_most Level.All n e = at_most (nat_le n 1) count
+
+  few_accepted : (key : Text) (n : ℕ) (fate : Fate) (entry : Entry Op) → IsFew to_members (asked n) (accepted D later key n fate entry)
   few_accepted key n fate entry =
       let after = with_entry later key entry in
-      if_holds IsFew (has_failed fate) (answered after NotStored) _ (no_posts (answered after NotStored) refl)
-      (if_holds IsFew (nat_le n 1) (answered after Done) (opened after key false n (Write node.next_op key entry)) (no_posts (answered after Done) refl) (few_asked (Write node.next_op key entry)))
+      if_holds (IsFew to_members (asked n)) (has_failed fate) (answered after NotStored) _ (no_posts to_members (asked n) (answered after NotStored) refl) (by_number (nat_le n 1))
+    where
+      by_number : (b : Bool) → IsFew to_members (if b then 0 else count) (if b then answered (with_entry later key entry) Done else opened (with_entry later key entry) key false n (Write node.next_op key entry))
+      by_number true = no_posts to_members 0 (answered (with_entry later key entry) Done) refl
+      by_number false = few_asked (Write node.next_op key entry)
 
-  few_unless : (k : KeyState Kind Op) (op : Op) (n : ℕ) (fate : Fate) (o : Option Refusal) → IsFew (updated_unless D later k op n fate o)
+  few_unless : (k : KeyState Kind Op) (op : Op) (n : ℕ) (fate : Fate) (o : Option Refusal) → IsFew to_members (asked n) (updated_unless D later k op n fate o)
   few_unless k op n fate None = few_accepted k.name n fate (with_action k.entry node.identity (Action.Operation op))
-  few_unless k op n fate (Some refusal) = no_posts (answered later (Refused refusal)) refl
+  few_unless k op n fate (Some refusal) = no_posts to_members (asked n) (answered later (Refused refusal)) refl
 
-  few_needing : (k : KeyState Kind Op) (op : Op) (o : Option ℕ) (fate : Fate) → IsFew (updated_needing D later k op o fate)
-  few_needing k op None fate = no_posts (answered later TooFew) refl
-  few_needing k op (Some n) fate = few_unless k op n fate (D.data_type.refusal k.kind node.identity op k.entry.history)
+  few_needing : (k : KeyState Kind Op) (op : Op) (o : Option ℕ) (fate : Fate) (most : ℕ) → ((n : ℕ) → o ≡ Some n → asked n ≤ most) → IsFew to_members most (updated_needing D later k op o fate)
+  few_needing k op None fate most h = no_posts to_members most (answered later TooFew) refl
+  few_needing k op (Some n) fate most h =
+      let few = few_unless k op n fate (D.data_type.refusal k.kind node.identity op k.entry.history) in
+      let more = h n refl in (omega (arith, few.0), few.1)
 
-  few_updated : (o : Option (KeyState Kind Op)) (op : Op) (level : Level) (fate : Fate) → IsFew (updated D later o op level fate)
-  few_updated None op level fate = no_posts (answered later UnknownKey) refl
+  few_updated : (o : Option (KeyState Kind Op)) (op : Op) (level : Level) (fate : Fate) → IsFew to_members (most_asked_of node.view level) (updated D later o op level fate)
+  few_updated None op level fate = no_posts to_members (most_asked_of node.view level) (answered later UnknownKey) refl
   few_updated (Some k) op level fate =
       let number = needed level (member_count later) in
-      if_holds IsFew (D.data_type.fits k.kind op) (updated_needing D later k op number fate) (answered later WrongKind) (few_needing k op number fate) (no_posts (answered later WrongKind) refl)
+      let most = most_asked_of node.view level in
+      if_holds (IsFew to_members most) (D.data_type.fits k.kind op) (updated_needing D later k op number fate) (answered later WrongKind) (few_needing k op number fate most (asked_most level)) (no_posts to_members most (answered later WrongKind) refl)
 
-  few_got_needing : (k : KeyState Kind Op) (o : Option ℕ) → IsFew (got_needing D later k o)
-  few_got_needing k None = no_posts (answered later TooFew) refl
-  few_got_needing k (Some n) =
-      let shown = answered later (value_reply D (shown_of D k)) in
-      if_holds IsFew (nat_le n 1) shown (opened later k.name true n (Read node.next_op k.name)) (no_posts shown refl) (few_asked (Read node.next_op k.name))
+  few_got_needing : (k : KeyState Kind Op) (o : Option ℕ) (most : ℕ) → ((n : ℕ) → o ≡ Some n → asked n ≤ most) → IsFew to_members most (got_needing D later k o)
+  few_got_needing k None most h = no_posts to_members most (answered later TooFew) refl
+  few_got_needing k (Some n) most h = let few = by_number (nat_le n 1) in let more = h n refl in (omega (arith, few.0), few.1)
+    where
+      by_number : (b : Bool) → IsFew to_members (if b then 0 else count) (if b then answered later (value_reply D (shown_of D k)) else opened later k.name true n (Read node.next_op k.name))
+      by_number true = no_posts to_members 0 (answered later (value_reply D (shown_of D k))) refl
+      by_number false = few_asked (Read node.next_op k.name)
 
-  few_got : (o : Option (KeyState Kind Op)) (level : Level) → IsFew (got D later o level)
-  few_got None level = no_posts (answered later UnknownKey) refl
-  few_got (Some k) level = few_got_needing k (needed level (member_count later))
+  few_got : (o : Option (KeyState Kind Op)) (level : Level) → IsFew to_members (most_asked_of node.view level) (got D later o level)
+  few_got None level = no_posts to_members (most_asked_of node.view level) (answered later UnknownKey) refl
+  few_got (Some k) level = few_got_needing k (needed level (member_count later)) (most_asked_of node.view level) (asked_most level)
 
   -- MESSAGES
 
   -- at most one answer, to the sender
-  one_answer : (from : ℕ) (fate : Fate) (message : Message Op) → length (step_of_take D later from fate message).output.posts ≤ 1
+  one_answer : (from : ℕ) (fate : Fate) (message : Message Op) → IsOneTo from (step_of_take D later from fate message).output.posts
   one_answer from fate (Deltas groups entries) = one_nack D from _
   one_answer from fate (Nack keys) = one_gossip D from _ []
   one_answer from fate (Status digests) = one_gossip D from _ _
   one_answer from fate (Gossip entries wants) = one_gossip D from _ []
-  one_answer from fate (Write op key entry) = omega arith
+  one_answer from fate (Write op key entry) = (omega arith, to_itself from)
   one_answer from fate (WriteAck op) =
-      subst (λ (posts : List (Post Op)). length posts ≤ 1) (sym (posts_counted D (answered later Taken) from (find (is_answered_by false op) node.open_operations))) (omega arith)
-  one_answer from fate (WriteNack op) = omega arith
-  one_answer from fate (Read op key) = omega arith
+      none_few (λ id. id == from) 1 (step_of_take D later from fate (WriteAck op)).output.posts (posts_counted D (answered later Taken) from (find (is_answered_by false op) node.open_operations))
+  one_answer from fate (WriteNack op) = (omega arith, refl)
+  one_answer from fate (Read op key) = (omega arith, to_itself from)
   one_answer from fate (ReadAnswer op key entry) =
       let after = after_entries later (keyed_option D key entry) in
-      subst (λ (posts : List (Post Op)). length posts ≤ 1)
-      (sym (posts_counted D (took D later after fate [] []) from (find (λ (o : OpenOperation). is_answered_by true op o && bytes_eq o.key key) after.open_operations))) (omega arith)
+      none_few (λ id. id == from) 1 (step_of_take D later from fate (ReadAnswer op key entry)).output.posts
+      (posts_counted D (took D later after fate [] []) from (find (λ (o : OpenOperation). is_answered_by true op o && bytes_eq o.key key) after.open_operations))
 
-  by_sender : (from : ℕ) (fate : Fate) (message : Message Op) (b : Bool) → is_member node.view from ≡ b → IsFew (if b then step_of_take D later from fate message else answered later NotFromMember)
-  by_sender from fate message true e = let m = some_member node.view.members from e in let one = one_answer from fate message in omega arith
-  by_sender from fate message false e = no_posts (answered later NotFromMember) refl
+  by_sender : (from : ℕ) (fate : Fate) (message : Message Op) → IsFew (λ id. id == from) 1 (step D node (Input.Take from message) fate)
+  by_sender from fate message =
+      if_holds (IsFew (λ id. id == from) 1) (is_member node.view from) (step_of_take D later from fate message) (answered later NotFromMember) (one_answer from fate message) (no_posts (λ id. id == from) 1 (answered later NotFromMember) refl)
 
   -- THE OTHERS
 
-  by_peer : (i : ℕ) (b : Bool) → ((i == node.identity) || not (is_member node.view i)) ≡ b → IsFew (if b then answered later NotAPeer else sent later Done (answer_to D i (status_of D later)))
-  by_peer i true e = no_posts (answered later NotAPeer) refl
-  by_peer i false e = let m = some_member node.view.members i (not_or (i == node.identity) (is_member node.view i) e) in omega arith
+  by_peer : (i : ℕ) (fate : Fate) → IsFew (λ id. id == i) 1 (step D node (Input.GossipTo i) fate)
+  by_peer i fate =
+      if_holds (IsFew (λ id. id == i) 1) ((i == node.identity) || not (is_member node.view i)) (answered later NotAPeer) (sent later Done (answer_to D i (status_of D later))) (no_posts (λ id. id == i) 1 (answered later NotAPeer) refl) (one_to i (status_of D later))
 
   abbrev step_of_install_new : View → Fate → Stepped Kind Op Shown
   step_of_install_new view fate = answered (record later { view = view; entries = λ key. seen_by node.identity view.number (node.entries key) }) (if has_failed fate then NotStored else Installed)
 
-  by_view : (view : View) (fate : Fate) → IsFew (step D node (Input.Install view) fate)
-  by_view view fate = if_holds IsFew (nat_le view.number node.view.number) _ _ (no_posts (answered later OldView) refl) (no_posts (step_of_install_new view fate) refl)
+  by_view : (view : View) (fate : Fate) → IsFew to_members 0 (step D node (Input.Install view) fate)
+  by_view view fate =
+      if_holds (IsFew to_members 0) (nat_le view.number node.view.number) _ _ (no_posts to_members 0 (answered later OldView) refl) (no_posts to_members 0 (step_of_install_new view fate) refl)
 
   abbrev step_of_leader : Fate → Stepped Kind Op Shown
   step_of_leader fate = answered (record later { entries = entry_after_tick D later }) (if has_failed fate then TickedNotStored (outcomes_of D later) else Ticked (outcomes_of D later))
 
-  by_leader : (fate : Fate) → IsFew (step D node Input.PruneTick fate)
-  by_leader fate = if_holds IsFew (not (leader node.view == node.identity)) _ _ (no_posts (answered later (NotLeader (leader node.view))) refl) (no_posts (step_of_leader fate) refl)
+  by_leader : (fate : Fate) → IsFew to_members 0 (step D node Input.PruneTick fate)
+  by_leader fate =
+      if_holds (IsFew to_members 0) (not (leader node.view == node.identity)) _ _ (no_posts to_members 0 (answered later (NotLeader (leader node.view))) refl) (no_posts to_members 0 (step_of_leader fate) refl)
 
   abbrev closed : ℕ → Stepped Kind Op Shown
   closed op = answered (record later { open_operations = filter (λ (o : OpenOperation). not (o.op == op)) node.open_operations }) TimedOut
 
-  by_operation : (op : ℕ) (fate : Fate) → IsFew (step D node (Input.Timeout op) fate)
-  by_operation op fate = if_holds IsFew (list_any (λ (o : OpenOperation). o.op == op) node.open_operations) _ _ (no_posts (closed op) refl) (no_posts (answered later NoSuchOp) refl)
+  by_operation : (op : ℕ) (fate : Fate) → IsFew to_members 0 (step D node (Input.Timeout op) fate)
+  by_operation op fate =
+      if_holds (IsFew to_members 0) (list_any (λ (o : OpenOperation). o.op == op) node.open_operations) _ _ (no_posts to_members 0 (closed op) refl) (no_posts to_members 0 (answered later NoSuchOp) refl)
 
-  pub few_posts : (input : Input Op) (fate : Fate) → IsFew (step D node input fate)
+  by_flush : (fate : Fate) → IsFew to_members count (step D node Input.Flush fate)
+  by_flush fate =
+      let is_late : ℕ → Bool = λ peer. list_any (is_behind D later peer) (key_states later) in
+      let fewer = filter_shorter is_late (others node.view node.identity) in
+      let few = few_others in
+      to_each to_members (λ peer. deltas_for D later peer) (filter is_late (others node.view node.identity)) count (omega arith) (all_filtered to_members is_late (others node.view node.identity) others_in)
+
+  pub few_posts : (input : Input Op) (fate : Fate) → AreFewTo (receivers_of node.view input) (most_posts_of node.view input) (step D node input fate).output.posts
   few_posts (Input.Update key op level) fate = few_updated (key_state later key) op level fate
   few_posts (Input.Get key level) fate = few_got (key_state later key) level
-  few_posts (Input.Take from message) fate = by_sender from fate message (is_member node.view from) refl
+  few_posts (Input.Take from message) fate = by_sender from fate message
   few_posts (Input.Install view) fate = by_view view fate
-  few_posts Input.Flush fate =
-      let behind = filter (λ (peer : ℕ). list_any (is_behind D later peer) (key_states later)) (others node.view node.identity) in
-      let fewer = filter_shorter (λ (peer : ℕ). list_any (is_behind D later peer) (key_states later)) (others node.view node.identity) in
-      let few = few_others in
-      subst (λ n. n ≤ length node.view.members) (sym (length-map behind (λ (peer : ℕ). record { to = peer; message = deltas_for D later peer }))) (omega (arith, fewer, few))
-  few_posts (Input.GossipTo i) fate = by_peer i ((i == node.identity) || not (is_member node.view i)) refl
+  few_posts Input.Flush fate = by_flush fate
+  few_posts (Input.GossipTo i) fate = by_peer i fate
   few_posts Input.PruneTick fate = by_leader fate
   few_posts (Input.Timeout op) fate = by_operation op fate

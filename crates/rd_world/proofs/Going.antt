@@ -1,5 +1,5 @@
 -- A member takes an input in a script: the world of the program then stands for the model's next, and tells the same.
-use Rattle.std.proofs.Common.{◌≡◌, ℕ, suc, ◌+◌, ◌-◌, ◌<◌, ◌≤◌, List, [], ◌∷◌, ◌++◌, length, map, refl, sym, ap, subst, ◌∙◌, arith, Bool, true, false, Some, inl, inr}
+use Rattle.std.proofs.Common.{◌≡◌, ℕ, suc, ◌+◌, ◌-◌, ◌<◌, List, [], ◌∷◌, ◌++◌, length, map, refl, sym, ap, subst, ◌∙◌, arith, Bool, true, false, Some, inl, inr}
 use Rattle.std.specs.Prelude.{All, is_some, if◌then◌else◌, ◌==◌, not, filter}
 use Rattle.std.specs.List.{range_with_len}
 use Rattle.std.proofs.lemmas.Bool.Decides.{eqb_tells}
@@ -10,7 +10,6 @@ use Rattle.rd_history.specs.Table.{identity_limit, with_at}
 use Rattle.rd_history.specs.History.{History, IsExactlyPruned}
 use Rattle.rd_history.specs.Log.{IsTakenFrom}
 use Rattle.rd_history.proofs.HistoryLaws.{with_at_same, with_at_other}
-use Rattle.rd_model.specs.View.{View}
 use Rattle.rd_model.specs.Entry.{Entry, is_unchanged}
 use Rattle.rd_model.specs.DataType.{Replication}
 use Rattle.rd_model.specs.Message as sending
@@ -45,16 +44,16 @@ use Rattle.rd_world.specs.declared.event.SentTo.{SentTo}
 use Rattle.rd_world.specs.Channels.{channel_at}
 use Rattle.rd_world.specs.Keeping.{Given}
 use Rattle.rd_world.specs.Lines.{IsHead, IsLine}
-use Rattle.rd_world.specs.Sending.{told_of}
+use Rattle.rd_world.specs.Sending.{told_of, AreFew}
 use Rattle.rd_world.specs.Standing.{StandsForLink, StandsForWorld, TellsStore}
 use Rattle.rd_world.specs.Steps.{Foretells, HaveAnswered, Reaches}
 use Rattle.rd_world.specs.Ways.{IsPrefix, Throughout, Means}
 use Rattle.rd_world.specs.Giving.{ChangesAt}
 use Rattle.rd_node.proofs.Fates.{entries_same}
 use Rattle.rd_world.proofs.FewPosts.{few_posts}
+use Rattle.rd_world.proofs.FewSent.{few_sent}
 use Rattle.rd_world.proofs.Linking.{same_told}
 use Rattle.rd_world.proofs.Onward.{safe_now, stands_before, way_logs}
-use Rattle.rd_world.proofs.Pairs.{zip_length}
 use Rattle.rd_world.proofs.Standings.{IsAtWork, at_work_there, place_there, stands_after, keeper_before}
 use Rattle.rd_world.proofs.Storing.{NamesApart, IsFine, apart_filtered, states_apart, store_stands}
 use Rattle.rd_world.proofs.Telling.{IsEventAt}
@@ -179,11 +178,10 @@ module _ {T K Kind Delta : Type 0} {ghosts : Ghosts T Kind Op Delta} {keeping : 
         pub image : IsImage spelling kinds logs before fate output after node sent
         image = makes.image kinds logs node sent work.stands input_stands safe
 
-        pub few : length output.posts ≤ length before.view.members
+        pub few : AreFew before.view input output.posts
         few =
-            let a : length output.posts ≡ length (step D node sent (meant_fate fate)).output.posts = zip_length _ output.posts (step D node sent (meant_fate fate)).output.posts image.answers.posts in
-            let b = few_posts D node sent (meant_fate fate) in
-            let c : length node.view.members ≡ length before.view.members = ap (λ (v : View). length v.members) work.stands.view in omega arith
+            let stepped = step D node sent (meant_fate fate) in
+            few_sent kinds logs before.keys.items before.view node.view input sent output.posts stepped.output.posts work.stands.view input_stands image.answers.posts (few_posts D node sent (meant_fate fate))
 
         module _ (foretold : Foretells p (given_at place (answers_of (meant_fate fate)))) where
           pub next_is : next ≡ taken_with D p head event i sent node (at.turns node work.runs) (meant_fate fate)
@@ -201,8 +199,8 @@ module _ {T K Kind Delta : Type 0} {ghosts : Ghosts T Kind Op Delta} {keeping : 
               (subst (λ o. TellsStore ghosts keeping spelling kinds logs o (p.world.stores place)) (keeper_before i place before after old new changes) (now.stores place))))
 
     module _ (input_stands : (logs : Text → History Op) → StandsForWorld spelling kinds logs old p.world → StandsForInput kinds logs before.keys.items input sent) (foretold : Foretells p (given_at place (answers_of (meant_fate fate)))) (kept : Head) (is_head : IsHead kept head) (told_sent : List SentTo)
-        (tells : length output.posts ≤ length before.view.members → told_sent ≡ map told_of output.posts)
-        (linked : (logs : Text → History Op) (sents : List (sending.Post Op)) → StandsForWorld spelling kinds logs old p.world → StandsForPosts ghosts.kind_of ghosts.IsDataOf kinds logs output.posts sents → length output.posts ≤ length before.view.members
+        (tells : AreFew before.view input output.posts → told_sent ≡ map told_of output.posts)
+        (linked : (logs : Text → History Op) (sents : List (sending.Post Op)) → StandsForWorld spelling kinds logs old p.world → StandsForPosts ghosts.kind_of ghosts.IsDataOf kinds logs output.posts sents → AreFew before.view input output.posts
         → (a b : ℕ) → a < identity_limit → b < identity_limit → StandsForLink {ghosts = ghosts} kinds logs (channel_at new.links a b) (with_posts links i sents a b)) where
       stands_made : (logs : Text → History Op) → Throughout D logs members decls next → StandsForWorld spelling kinds logs new next.world
       stands_made logs through =

@@ -17,6 +17,8 @@ pub mod Stays
 pub mod Turns
 pub mod FewPosts
 pub mod Pairs
+pub mod FewSent
+pub mod Outcomes
 pub mod ByPlace
 pub mod SeatChanges
 pub mod Linking

@@ -1,15 +1,19 @@
 -- Links with room for more messages, one message later.
-use Rattle.std.proofs.Common.{◌≡◌, ℕ, ◌+◌, ◌<◌, ◌≤◌, List, [], ◌∷◌, ◌++◌, length, map, get_or, set, refl, sym, ap, subst, ◌∙◌, arith, Bool, true, false, Option, Some, None, inl, inr, Vec, Global, append_assoc}
-use Rattle.std.specs.Prelude.{if◌then◌else◌, slice_get, option_map, ◌==◌, vec_len, vec_capacity, filter}
+use Rattle.std.proofs.Common.{◌≡◌, ℕ, ◌+◌, ◌<◌, ◌≤◌, List, [], ◌∷◌, ◌++◌, length, map, take, get_or, set, refl, sym, ap, subst, ◌∙◌, arith, Bool, true, false, Option, Some, None, inl, inr, ◌⊎◌, Vec, Global, append_assoc}
+use Rattle.std.specs.Prelude.{if◌then◌else◌, slice_get, option_map, ◌==◌, ◌||◌, vec_len, vec_capacity, filter}
 use Rattle.std.proofs.lemmas.Bool.Decides.{eqb_tells}
 use Rattle.std.proofs.lemmas.Option.{slice_get-get_or, slice_get_within}
 use Rattle.std.proofs.lemmas.List.Elements.{filter-append}
 use Rattle.std.proofs.lemmas.List.{map-append}
-use Rattle.std.proofs.lemmas.Bool.{eq-eqb, ne_eqb}
+use Rattle.std.proofs.lemmas.Bool.{eq-eqb, ne_eqb, eqb-true, or_cases}
+use Rattle.std.proofs.lemmas.List.Folds.{list_any_more}
+use Rattle.std.specs.List.{list_any}
+use Rattle.rd_model.specs.View.{Member}
 use Rattle.rd_lattice.specs.declared.replica.Replica.{Ghosts}
 use Rattle.rd_messages.specs.declared.message.Message.{Message}
 use Rattle.rd_messages.specs.declared.message.Post.{Post}
 use Rattle.rd_world.specs.declared.links.Link.{Link}
+use Rattle.rd_history.specs.Vector.{IdentitySet}
 use Rattle.rd_world.specs.Channels.{Channel, channel_of, row_of}
 use Rattle.rd_world.specs.Channels.{extended}
 use Rattle.rd_world.specs.Sending.{HasRoom, messages_to}
@@ -18,24 +22,51 @@ use Rattle.rd_history.proofs.HistoryLaws.{append_nothing}
 use Rattle.rd_world.proofs.Lists.{slice_get-set_same, slice_get-set_other}
 
 module _ {M : Type 0} where
-  pub less_room : (row : Vec (Link M) Global) (more room : ℕ) → room ≤ more → HasRoom more row → HasRoom room row
-  less_room row more room le has k link here = let h = has k link here in omega arith
+  pub less_room : (ids : IdentitySet) (row : Vec (Link M) Global) (more room : ℕ) → room ≤ more → HasRoom ids more row → HasRoom ids room row
+  less_room ids row more room le has k link in_ids here = let h = has k link in_ids here in omega arith
 
   -- the link that is at a place has room
-  pub room_at : (row : Vec (Link M) Global) (room to : ℕ) (old : Link M) → to < length row.items → old ≡ get_or row.items to old → HasRoom room row → vec_len old.messages + room ≤ vec_capacity old.messages
-  room_at row room to old within is has = has to old (slice_get-get_or row.items to old within ∙ ap Some (sym is))
+  pub room_at : (ids : IdentitySet) (row : Vec (Link M) Global) (room to : ℕ) (old : Link M) → to < length row.items → ids to ≡ true → old ≡ get_or row.items to old → HasRoom ids room row → vec_len old.messages + room ≤ vec_capacity old.messages
+  room_at ids row room to old within in_ids is has = has to old in_ids (slice_get-get_or row.items to old within ∙ ap Some (sym is))
 
-  -- one link has a message more
-  pub room_after : (row new : Vec (Link M) Global) (room to : ℕ) (old link : Link M) → to < length row.items → old ≡ get_or row.items to old → new.items ≡ set row.items to link → HasRoom (room + 1) row
-      → vec_len link.messages ≤ vec_len old.messages + 1 → vec_capacity old.messages ≤ vec_capacity link.messages → HasRoom room new
-  room_after row new room to old link within is items has longer kept k other here =
+  -- at another place, and where the capacity and the count at one place are others
+  pub room_set : (ids : IdentitySet) (row new : Vec (Link M) Global) (room less to : ℕ) (link : Link M) → to < length row.items → new.items ≡ set row.items to link → less ≤ room → HasRoom ids room row → (ids to ≡ true → vec_len link.messages + less ≤ vec_capacity link.messages) → HasRoom ids less new
+  room_set ids row new room less to link within items le has here_room k other in_ids here =
       let there : slice_get (set row.items to link) k ≡ Some other = sym (ap (λ (xs : List (Link M)). slice_get xs k) items) ∙ here in
       elim (eqb_tells k to) [
         | inl same ↦
             let this : link ≡ other = (let e : Some link ≡ Some other = sym (slice_get-set_same row.items to link within) ∙ sym (ap (slice_get (set row.items to link)) same.1) ∙ there in cc e) in
-            subst (λ (l : Link M). vec_len l.messages + room ≤ vec_capacity l.messages) this (let h = room_at row (room + 1) to old within is has in omega arith)
-        | inr apart ↦ let h = has k other (sym (slice_get-set_other row.items to k link apart.1) ∙ there) in omega arith
+            subst (λ (l : Link M). vec_len l.messages + less ≤ vec_capacity l.messages) this (here_room (sym (ap ids same.1) ∙ in_ids))
+        | inr apart ↦ let h = has k other in_ids (sym (slice_get-set_other row.items to k link apart.1) ∙ there) in omega arith
       ]
+
+  -- one link has a message more
+  pub room_after : (ids : IdentitySet) (row new : Vec (Link M) Global) (room to : ℕ) (old link : Link M) → to < length row.items → old ≡ get_or row.items to old → new.items ≡ set row.items to link → HasRoom ids (room + 1) row
+      → vec_len link.messages ≤ vec_len old.messages + 1 → vec_capacity old.messages ≤ vec_capacity link.messages → HasRoom ids room new
+  room_after ids row new room to old link within is items has longer kept =
+      room_set ids row new (room + 1) room to link within items (omega arith) has (λ in_ids. let h = room_at ids row (room + 1) to old within in_ids is has in omega arith)
+
+  -- one link has more room
+  pub room_kept : (ids : IdentitySet) (row new : Vec (Link M) Global) (room to : ℕ) (old link : Link M) → to < length row.items → old ≡ get_or row.items to old → new.items ≡ set row.items to link
+      → vec_len link.messages ≡ vec_len old.messages → vec_capacity old.messages ≤ vec_capacity link.messages → HasRoom ids room row → HasRoom ids room new
+  room_kept ids row new room to old link within is items same kept has =
+      room_set ids row new room room to link within items (omega arith) has (λ in_ids. let h = room_at ids row room to old within in_ids is has in omega arith)
+
+  -- the link to one identity has room
+  pub room_made : (row new : Vec (Link M) Global) (room to : ℕ) (link : Link M) → to < length row.items → new.items ≡ set row.items to link → vec_len link.messages + room ≤ vec_capacity link.messages → HasRoom (λ id. id == to) room new
+  room_made row new room to link within items has k other in_ids here =
+      let same : k ≡ to = eqb-true k to in_ids in
+      let there : slice_get (set row.items to link) to ≡ Some other = sym (ap (λ (xs : List (Link M)). slice_get xs to) items) ∙ ap (slice_get new.items) (sym same) ∙ here in
+      let this : link ≡ other = (let e : Some link ≡ Some other = sym (slice_get-set_same row.items to link within) ∙ there in cc e) in
+      subst (λ (l : Link M). vec_len l.messages + room ≤ vec_capacity l.messages) this has
+
+  -- there is no link to it
+  pub room_past : (row : Vec (Link M) Global) (room to : ℕ) → length row.items ≤ to → HasRoom (λ id. id == to) room row
+  room_past row room to past k link in_ids here = absurd (let same : k ≡ to = eqb-true k to in_ids in let within = slice_get_within row.items k link here in omega arith)
+
+  -- room for these, and for one more
+  pub room_more : (ids more all : IdentitySet) (row : Vec (Link M) Global) (room : ℕ) → ((k : ℕ) → all k ≡ true → (ids k ≡ true) ⊎ (more k ≡ true)) → HasRoom ids room row → HasRoom more room row → HasRoom all room row
+  room_more ids more all row room either has has_more k link in_all here = elim (either k in_all) [ inl e ↦ has k link e here | inr e ↦ has_more k link e here ]
 
   pub extended_none : (b : ℕ) (o : Option (Channel M)) → o ≡ option_map (extended []) o
   extended_none b None = refl
@@ -70,23 +101,22 @@ module _ {T Kind Op Delta : Type 0} {ghosts : Ghosts T Kind Op Delta} where
   ]
 
 module _ {M : Type 0} where
-  -- the first links have room for so many messages
-  abbrev pub HasRoomBelow : ℕ → ℕ → Vec (Link M) Global → Type 0
-  HasRoomBelow count room row = (k : ℕ) (link : Link M) → k < count → slice_get row.items k ≡ Some link → vec_len link.messages + room ≤ vec_capacity link.messages
+  -- room for the members so far, and for one more
+  pub room_for_more : (members : List Member) (i : ℕ) (member : Member) → i < length members → member ≡ get_or members i member → (row : Vec (Link M) Global) (room : ℕ) → HasRoom (λ id. list_any (λ (m : Member). m.identity == id) (take i members)) room row → HasRoom (λ id. id == member.identity) room row
+      → HasRoom (λ id. list_any (λ (m : Member). m.identity == id) (take (i + 1) members)) room row
+  room_for_more members i member within is row room has one =
+      room_more (λ id. list_any (λ (m : Member). m.identity == id) (take i members)) (λ id. id == member.identity) (λ id. list_any (λ (m : Member). m.identity == id) (take (i + 1) members)) row room
+      (λ k in_all. elim (or_cases (list_any (λ (m : Member). m.identity == k) (take i members)) ((get_or members i member).identity == k) (sym (list_any_more (λ (m : Member). m.identity == k) members i member within) ∙ in_all)) [
+        | inl e ↦ inl e
+        | inr e ↦ inr (eq-eqb k member.identity (sym (ap (λ (m : Member). m.identity) is ∙ eqb-true (get_or members i member).identity k e)))
+      ]) has one
 
-  pub room_below : (row new : Vec (Link M) Global) (count room : ℕ) (old link : Link M) → count < length row.items → old ≡ get_or row.items count old → new.items ≡ set row.items count link → HasRoomBelow count room row
-      → vec_len link.messages + room ≤ vec_capacity link.messages → HasRoomBelow (count + 1) room new
-  room_below row new count room old link within is items has here k other below e =
-      let there : slice_get (set row.items count link) k ≡ Some other = sym (ap (λ (xs : List (Link M)). slice_get xs k) items) ∙ e in
-      elim (eqb_tells k count) [
-        | inl same ↦
-            let this : link ≡ other = (let e' : Some link ≡ Some other = sym (slice_get-set_same row.items count link within) ∙ sym (ap (slice_get (set row.items count link)) same.1) ∙ there in cc e') in
-            subst (λ (l : Link M). vec_len l.messages + room ≤ vec_capacity l.messages) this here
-        | inr apart ↦ has k other (let ne = apart.1 in omega arith) (sym (slice_get-set_other row.items count k link apart.1) ∙ there)
-      ]
-
-  pub room_all : (row : Vec (Link M) Global) (count room : ℕ) → length row.items ≤ count → HasRoomBelow count room row → HasRoom room row
-  room_all row count room all has k link e = has k link (let within = slice_get_within row.items k link e in omega arith) e
+  pub room_for_members : (members taken : List Member) → taken ≡ members → (row : Vec (Link M) Global) (room : ℕ) → HasRoom (λ id. list_any (λ (m : Member). m.identity == id) taken) room row → HasRoom (λ id. list_any (λ j. j == id) (map (λ (m : Member). m.identity) members)) room row
+  room_for_members members taken same row room has k link in_ids = has k link (ap (list_any (λ (m : Member). m.identity == k)) same ∙ sym (any_map members) ∙ in_ids)
+    where
+      any_map : (ms : List Member) → list_any (λ j. j == k) (map (λ (m : Member). m.identity) ms) ≡ list_any (λ (m : Member). m.identity == k) ms
+      any_map [] = refl
+      any_map (m ∷ ms) = ap (λ b. (m.identity == k) || b) (any_map ms)
 
   -- a link whose messages are the same is seen as before
   pub same_row : (row : Vec (Link M) Global) (index : ℕ) (old : Link M) (messages : Vec M Global) → old ≡ get_or row.items index old → messages.items ≡ old.messages.items → map channel_of (set row.items index (record old { messages = messages })) ≡ row_of row

@@ -3,7 +3,6 @@ use Rattle.std.proofs.Common.{◌≡◌, ℕ, refl, ◌∙◌, Bool, true, false
 use Rattle.std.specs.Prelude.{if◌then◌else◌, nat_lt, length, fold, filter, not, ◌==◌}
 use Rattle.rd_model.specs.View.{place_of, leader, identities_of}
 use Rattle.rd_model.specs.DataType.{Replication}
-use Rattle.rd_model.specs.Node as nodes
 use Rattle.rd_model.specs.Node.{Fate, Input}
 use Rattle.rd_model.specs.Node.Fate.{NoStore, Stored, StoreFailed}
 use Rattle.rd_model.specs.Step.{is_full}
@@ -12,8 +11,6 @@ use Rattle.rd_model.specs.World.Event.{InputAt}
 use Rattle.rd_model.specs.Script as script
 use Rattle.rd_model.specs.Script.{Playing, Head, told, did, given, take_turn, output_lines, with_call, next_answer, deliver, last_number, posted, has_met_full, unless_full, deliver_last, exchange, sweep, tick, is_older, install_last}
 use Rattle.rd_runs.proofs.Keeping.{if_holds}
-use Rattle.rd_kinds.specs.declared.operation.Op.{Op}
-use Rattle.rd_kinds.specs.declared.shown.Shown.{Shown}
 use Rattle.rd_world.specs.Settling.{gossips, installs, sweeps_twice}
 use Rattle.rd_world.specs.Ways.{IsPrefix}
 use Rattle.rd_world.proofs.Onward.{prefix_same, prefix_trans}

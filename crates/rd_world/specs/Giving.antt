@@ -1,7 +1,7 @@
 -- What comes of an input that is given to an identity.
 --     IsSame, IsAlikeButLinks        nothing is changed, or the links alone
 --     ChangesAt        the member at one place is changed, and of the rest at most the links
---     Gives        no member has the identity, or the member is full, or it made its step
+--     Gives, Hands        no member has the identity, or the member is full, or it made its step
 --     Refuses        memory was wanted
 --     Does, IsAsBefore        what a call of one event does to a world, and what it leaves after want of memory
 use Rattle.std.specs.Prelude.{◌≡◌, ℕ, ◌<◌, false, List, [], length, set, Some, None}
@@ -10,13 +10,16 @@ use Rattle.rd_lattice.specs.declared.spelled.SpelledData.{Ghosts as Spelling}
 use Rattle.rd_keeper.specs.declared.keeper.Keeper.{Ghosts as Keeping}
 use Rattle.rd_views.specs.Sound.{IsView, last_view}
 use Rattle.rd_node.specs.declared.node.Node.{Node}
+use Rattle.rd_messages.specs.declared.message.Message.{Message}
 use Rattle.rd_node.specs.declared.input.Input.{Input}
+use Rattle.rd_node.specs.declared.input.Input.TheVariants as input
 use Rattle.rd_node.specs.Steps.{replication, IsUnchanged}
 use Rattle.rd_world.specs.declared.event.Head.{Head}
 use Rattle.rd_world.specs.declared.event.Answer.TheVariants as answer
 use Rattle.rd_world.specs.declared.event.Event.{Event}
 use Rattle.rd_world.specs.declared.sending.Answered.{Answered}
 use Rattle.rd_world.specs.declared.world.World.{World}
+use Rattle.rd_world.specs.Channels.{channel_at, message_on}
 use Rattle.rd_world.specs.Keeping.{Given, KeepsAt, IsKept}
 use Rattle.rd_world.specs.Lines.{are_damaged}
 use Rattle.rd_world.specs.Places.{item_at, seat_of, keeper_of}
@@ -73,6 +76,10 @@ module _ {T K Kind Op Delta : Type 0} {ghosts : Ghosts T Kind Op Delta} {keeping
     gone : seat_of (last_view old.views) i ≡ None → IsSame old new → event ≡ record { head = head; answer = answer.Gone; sent = []; finished = None } → Gives i head input old new event
     full : (r : Refuses i old new) → r.before.steps ≡ 16384 → event ≡ record { head = head; answer = answer.HistoryFull; sent = []; finished = None } → Gives i head input old new event
     made : (answered : Answered) → Makes i input answered old new → event ≡ record { head = head; answer = answer.Reply answered.reply; sent = answered.sent; finished = answered.finished } → Gives i head input old new event
+
+  -- the input is the message of this number on the link between these identities
+  abbrev pub Hands : (from to index : ℕ) → Head → (old new : World T K Kind Op Delta ghosts keeping) → Event → Type 0
+  Hands from to index head old new event = (message : Message T Kind Op Delta ghosts) → message_on (channel_at old.links from to) index ≡ Some message → Gives to head (input.Take from message) old new event
 
 module _ {T K Kind Delta : Type 0} {ghosts : Ghosts T Kind Op Delta} {keeping : Keeping K} (spelling : Spelling T Kind Op Delta) where
   -- the keepers gave some answers, and with these the script goes so

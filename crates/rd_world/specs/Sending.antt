@@ -1,9 +1,14 @@
 -- A member's step, whose messages go to the ends of its links.
 --     HasRoom        links that take so many messages more without memory
+--     receivers, most_posts, AreFew        whom a step for an input sends to, and how many messages at most
 --     Sends        each message of a member goes to the end of its channel
---     IsStepOnRow, IsStepOnLinks        a member makes a step of its contract, and what it says is sent and told
-use Rattle.std.specs.Prelude.{◌≡◌, ℕ, ◌+◌, ◌≤◌, List, map, filter, length, option_map, slice_get, Some, Vec, vec_len, vec_capacity, ◌==◌, if◌then◌else◌}
+--     IsStepOnRow, IsStepOnLinks, TakesOnLinks        a member makes a step of its contract, and what it says is sent and told
+--     IsToldAs        the event of what a member answered
+use Rattle.std.specs.Prelude.{◌≡◌, ℕ, ◌+◌, ◌≤◌, List, map, filter, length, option_map, slice_get, Some, Vec, vec_len, vec_capacity, ◌==◌, if◌then◌else◌, true, [], None, Result, Ok, Err}
+use Rattle.std.specs.List.{list_all}
 use Rattle.std.specs.declared.alloc.Global.{Global}
+use Rattle.rd_history.specs.Vector.{IdentitySet}
+use Rattle.rd_model.specs.View.{View, is_member}
 use Rattle.rd_lattice.specs.declared.replica.Replica.{Ghosts}
 use Rattle.rd_lattice.specs.declared.spelled.SpelledData.{Ghosts as Spelling}
 use Rattle.rd_keeper.specs.declared.keeper.Keeper.{Ghosts as Keeping}
@@ -11,18 +16,26 @@ use Rattle.rd_messages.specs.declared.message.Message.{Message}
 use Rattle.rd_messages.specs.declared.message.Post.{Post}
 use Rattle.rd_messages.specs.Sketches.{sketch_of}
 use Rattle.rd_node.specs.declared.node.Node.{Node}
+use Rattle.rd_quorum.specs.declared.level.Level.{Level}
+use Rattle.rd_quorum.specs.declared.level.Level.TheVariants.{Local, To, Majority, All}
 use Rattle.rd_node.specs.declared.input.Input.{Input}
+use Rattle.rd_node.specs.declared.input.Input.TheVariants as input
 use Rattle.rd_node.specs.declared.reply.Fate.{Fate}
+use Rattle.rd_node.specs.declared.reply.StepError.{StepError}
+use Rattle.rd_node.specs.declared.reply.StepError.TheVariants.{HistoryFull, Memory}
 use Rattle.rd_node.specs.Steps.{IsStepOf}
 use Rattle.rd_world.specs.declared.links.Link.{Link}
+use Rattle.rd_world.specs.declared.event.Answer.TheVariants as answer
+use Rattle.rd_world.specs.declared.event.Event.{Event}
+use Rattle.rd_world.specs.declared.event.Head.{Head}
 use Rattle.rd_world.specs.declared.event.SentTo.{SentTo}
 use Rattle.rd_world.specs.declared.sending.Answered.{Answered}
-use Rattle.rd_world.specs.Channels.{Channel, Channels, channel_at, extended}
+use Rattle.rd_world.specs.Channels.{Channel, Channels, channel_at, message_on, extended}
 
 module _ {M : Type 0} where
-  -- each link of a member can take so many messages without memory
-  abbrev pub HasRoom : ℕ → Vec (Link M) Global → Type 0
-  HasRoom room row = (k : ℕ) (link : Link M) → slice_get row.items k ≡ Some link → vec_len link.messages + room ≤ vec_capacity link.messages
+  -- each link of a member to one of these can take so many messages without memory
+  abbrev pub HasRoom : IdentitySet → ℕ → Vec (Link M) Global → Type 0
+  HasRoom ids room row = (k : ℕ) (link : Link M) → ids k ≡ true → slice_get row.items k ≡ Some link → vec_len link.messages + room ≤ vec_capacity link.messages
 
 module _ {T Kind Op Delta : Type 0} {ghosts : Ghosts T Kind Op Delta} where
   -- the messages that go to a member
@@ -38,18 +51,59 @@ module _ {T Kind Op Delta : Type 0} {ghosts : Ghosts T Kind Op Delta} where
   Sends from posts old new =
       (a b : ℕ) → channel_at new a b ≡ (if a == from then option_map (extended (messages_to posts b)) (channel_at old a b) else channel_at old a b)
 
+-- who asks no other member sends nothing
+abbrev pub most_asked : View → Level → ℕ
+most_asked view Local = 0
+most_asked view (To number) = length view.members
+most_asked view (Majority cap) = length view.members
+most_asked view All = length view.members
+
+module _ {T Kind Op Delta : Type 0} {ghosts : Ghosts T Kind Op Delta} where
+  -- whom a member of a view sends to in a step for an input
+  abbrev pub receivers : View → Input T Kind Op Delta ghosts → IdentitySet
+  receivers view (input.Take from message) = λ id. id == from
+  receivers view (input.GossipTo to) = λ id. id == to
+  receivers view _ = is_member view
+
+  -- how many messages it sends at most
+  abbrev pub most_posts : View → Input T Kind Op Delta ghosts → ℕ
+  most_posts view (input.Update key op level) = most_asked view level
+  most_posts view (input.Get key level) = most_asked view level
+  most_posts view (input.Take from message) = 1
+  most_posts view (input.Install other) = 0
+  most_posts view input.Flush = length view.members
+  most_posts view (input.GossipTo to) = 1
+  most_posts view input.PruneTick = 0
+  most_posts view (input.Timeout op) = 0
+
+  -- no more messages than that, and to these alone
+  pub record AreFew (view : View) (given : Input T Kind Op Delta ghosts) (posts : List (Post T Kind Op Delta ghosts)) : Type 0 where
+    pub few : length posts ≤ most_posts view given
+    pub received : list_all (λ (post : Post T Kind Op Delta ghosts). receivers view given post.to) posts ≡ true
+
 module _ {T K Kind Op Delta : Type 0} {ghosts : Ghosts T Kind Op Delta} {keeping : Keeping K} (spelling : Spelling T Kind Op Delta) where
-  -- the member made the step with some fate, and its posts are sent and told if there is at most one for each member of its view
+  -- the member made the step with some fate, and its posts are sent and told if they are few for the input
   pub record IsStepOnRow (before : Node T K Kind Op Delta ghosts keeping) (input : Input T Kind Op Delta ghosts) (answered : Answered) (after : Node T K Kind Op Delta ghosts keeping) (old new : List (Channel (Message T Kind Op Delta ghosts))) : Type 0 where
     pub fate : Fate
     pub posts : List (Post T Kind Op Delta ghosts)
     pub makes : IsStepOf spelling before input fate (record { reply = answered.reply; posts = posts; finished = answered.finished }) after
-    pub sends : length posts ≤ length before.view.members → (b : ℕ) → slice_get new b ≡ option_map (extended (messages_to posts b)) (slice_get old b)
-    pub tells : length posts ≤ length before.view.members → answered.sent ≡ map told_of posts
+    pub sends : AreFew before.view input posts → (b : ℕ) → slice_get new b ≡ option_map (extended (messages_to posts b)) (slice_get old b)
+    pub tells : AreFew before.view input posts → answered.sent ≡ map told_of posts
 
   pub record IsStepOnLinks (before : Node T K Kind Op Delta ghosts keeping) (input : Input T Kind Op Delta ghosts) (answered : Answered) (after : Node T K Kind Op Delta ghosts keeping) (from : ℕ) (old new : Channels (Message T Kind Op Delta ghosts)) : Type 0 where
     pub fate : Fate
     pub posts : List (Post T Kind Op Delta ghosts)
     pub makes : IsStepOf spelling before input fate (record { reply = answered.reply; posts = posts; finished = answered.finished }) after
-    pub sends : length posts ≤ length before.view.members → Sends from posts old new
-    pub tells : length posts ≤ length before.view.members → answered.sent ≡ map told_of posts
+    pub sends : AreFew before.view input posts → Sends from posts old new
+    pub tells : AreFew before.view input posts → answered.sent ≡ map told_of posts
+
+  -- the input was the message of this number on the link from an identity
+  abbrev pub TakesOnLinks : Node T K Kind Op Delta ghosts keeping → (from index : ℕ) → Answered → Node T K Kind Op Delta ghosts keeping → (at : ℕ) → (old new : Channels (Message T Kind Op Delta ghosts)) → Type 0
+  TakesOnLinks before from index answered after at old new =
+      (message : Message T Kind Op Delta ghosts) → message_on (channel_at old from at) index ≡ Some message → IsStepOnLinks before (input.Take from message) answered after at old new
+
+-- the event of what a member answered, unless memory was wanted
+abbrev pub IsToldAs : Head → Result Answered StepError → Event → Type 0
+IsToldAs head (Ok answered) event = event ≡ record { head = head; answer = answer.Reply answered.reply; sent = answered.sent; finished = answered.finished }
+IsToldAs head (Err HistoryFull) event = event ≡ record { head = head; answer = answer.HistoryFull; sent = []; finished = None }
+IsToldAs head (Err Memory) event = ⊥

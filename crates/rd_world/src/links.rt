@@ -60,10 +60,12 @@ impl<M: Drop> Links<M> {
     pub fn message(&self, from: Id, to: Id, index: usize) -> Option<&M>
         ensures { option_copied result ≡ message_on (channel_at self.now from to) index }
     {
-        match self.link(from, to) {
-            Some(link) => link.messages.get(index),
-            None => None,
-        }
+        message_in(
+            &self.rows,
+            usize::from(from.number()),
+            usize::from(to.number()),
+            index,
+        )
     }
 
     /// The number of the next message due on a link.
@@ -104,6 +106,24 @@ impl<M: Drop> Links<M> {
         if sender < self.rows.len() {
             pass_in(&mut self.rows[sender], usize::from(to.number()), index);
         }
+    }
+}
+
+/// The message of a number on the link from one identity to another, if it was sent.
+pub(crate) fn message_in<M>(
+    rows: &[Vec<Link<M>>],
+    from: usize,
+    to: usize,
+    index: usize,
+) -> Option<&M>
+    ensures { option_copied result ≡ message_on (channel_at (map row_of rows.now) from to) index }
+{
+    match rows.get(from) {
+        Some(row) => match row.get(to) {
+            Some(link) => link.messages.get(index),
+            None => None,
+        },
+        None => None,
     }
 }
 

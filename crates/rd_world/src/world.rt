@@ -1,20 +1,21 @@
-ghost use Rattle.std.specs.Prelude.{◌≡◌, ℕ, ◌+◌, ◌<◌, ◌≤◌, ◌++◌, ◌∷◌, List, [], map, length, vec_len, vec_capacity, option_copied, option_to_list, MatchResult, None};
+ghost use Rattle.std.specs.Prelude.{◌≡◌, ℕ, ◌+◌, ◌<◌, ◌≤◌, ◌++◌, ◌∷◌, List, [], map, length, vec_len, vec_capacity, option_copied, option_to_list, MatchResult, None, true, is_some};
 ghost use Rattle.rd_model.specs.Script.{IsStep};
 ghost use Rattle.rd_node.specs.Members.{AreDistinct};
 ghost use Rattle.rd_views.specs.Sound.{last_view};
 ghost use Rattle.rd_world.specs.declared.event.Head.TheVariants as head;
+ghost use Rattle.rd_world.specs.Channels.{channel_at, message_on};
 ghost use Rattle.rd_world.specs.Keeping.{AreSeated};
 ghost use Rattle.rd_world.specs.Places.{item_at, first_keeper, keepers_of};
 
 use crate::event::{Answer, Event, Head};
 use crate::links::Links;
-use crate::sending::{Answered, step_on};
+use crate::sending::{event_of, step_on, take_on};
 use crate::start::{Parts, StartError, clear_all, first_parts, put_by, refusal, seat_first};
 use rd_bytes::{Items, Memory};
 use rd_keeper::Keeper;
 use rd_kinds::Op;
 use rd_lattice::{Replica, SpelledData};
-use rd_node::{Input, KeyDecl, Message, Node, StepError};
+use rd_node::{Input, KeyDecl, Message, Node};
 use rd_vectors::Id;
 use rd_views::ViewList;
 use std::alloc::Global;
@@ -133,7 +134,7 @@ impl<T: SpelledData, K: Keeper + Drop> World<T, K> {
 }
 
 impl<T: SpelledData<Op = Op>, K: Keeper + Drop> World<T, K> {
-    ghost use Rattle.rd_world.specs.Giving.{Gives, Refuses, Does, IsAsBefore, delivers};
+    ghost use Rattle.rd_world.specs.Giving.{Gives, Hands, Refuses, Does, IsAsBefore, delivers};
     ghost use Rattle.rd_world.specs.Steps.{Plays, MakesStep};
     ghost use Rattle.rd_script.specs.declared.script.Step.TheVariants as form;
 
@@ -145,23 +146,27 @@ impl<T: SpelledData<Op = Op>, K: Keeper + Drop> World<T, K> {
             return Ok(line(self.alloc, head, Answer::Gone));
         };
         match &mut self.nodes[usize::from(place)] {
-            Some(node) => match step_on(self.alloc, node, &mut self.links, at, input) {
-                Ok(answered) => {
-                    let Answered {
-                        reply,
-                        sent,
-                        finished,
-                    } = answered;
-                    Ok(Event {
-                        head,
-                        answer: Answer::Reply(reply),
-                        sent,
-                        finished,
-                    })
-                }
-                Err(StepError::HistoryFull) => Ok(line(self.alloc, head, Answer::HistoryFull)),
-                Err(StepError::Memory) => Err(Memory),
-            },
+            Some(node) => {
+                let outcome = step_on(self.alloc, node, &mut self.links, at, input);
+                event_of(self.alloc, head, outcome)
+            }
+            None => Ok(line(self.alloc, head, Answer::Gone)),
+        }
+    }
+
+    /// Hands the message of this number on a link to the member of an identity, where it lies.
+    fn hand(&mut self, from: Id, to: Id, index: usize, head: Head) -> Result<Event, Memory>
+        requires { is_some (message_on (channel_at self.old.links from to) index) ≡ true }
+        ensures { MatchResult result (Hands T.SpelledData.own from to index head self.old self.new) (λ _. Refuses to self.old self.new) }
+    {
+        let Some(place) = self.views.last().place_of(to) else {
+            return Ok(line(self.alloc, head, Answer::Gone));
+        };
+        match &mut self.nodes[usize::from(place)] {
+            Some(node) => {
+                let outcome = take_on(self.alloc, node, &mut self.links, from, to, index);
+                event_of(self.alloc, head, outcome)
+            }
             None => Ok(line(self.alloc, head, Answer::Gone)),
         }
     }
@@ -195,8 +200,7 @@ impl<T: SpelledData<Op = Op>, K: Keeper + Drop> World<T, K> {
             index,
             sketch: Some(message.sketch()),
         };
-        let message = message.copy(self.alloc)?;
-        let event = self.give(to, head, &Input::Take { from, message })?;
+        let event = self.hand(from, to, index, head)?;
         if let Answer::Reply(_) = &event.answer {
             self.links.pass(from, to, index);
         }

@@ -1,25 +1,23 @@
-use Rattle.std.proofs.Common.{◌∙◌, ◌<◌, length, refl, arith, length-set}
-use Rattle.std.specs.Vec.{with_item}
-use Rattle.rd_world.specs.declared.links.Link.{Link}
-use Rattle.rd_world.proofs.Rooms.{room_below, room_all, same_row}
+use Rattle.std.proofs.Common.{ℕ, ◌<◌, ◌≤◌, ◌∙◌, length, arith, subst, ap}
+use Rattle.std.specs.Prelude.{◌==◌}
+use Rattle.rd_model.specs.View.{Member}
+use Rattle.rd_world.specs.Sending.{HasRoom}
+use Rattle.std.proofs.lemmas.List.{take_all}
+use Rattle.rd_world.proofs.Rooms.{room_for_more, room_for_members}
 use Rattle.rd_world.proofs.sending.reserve.Goals as goal
 
-pub loop-index-preserved : goal.loop-index-preserved
-loop-index-preserved g c =
-    let row = c.loop-index.row in
-    let old = c.index_mut-link.result.now in
-    let link : Link g.row.M.Denot = record old { messages = c.reserve.new.self } in
-    let index = c.loop-index.index in
-    let within : index < length row.items = omega (arith, row.ok.0, c.loop-index.invariant.count, c.args.row.now.ok.0) in
+pub loop-member-preserved : goal.loop-member-preserved
+loop-member-preserved g c =
+    let members = c.members-member-items.result.now in
+    let within : c.loop-member.member-index < length members = omega (arith, c.loop-member-test.true) in
     record {
-      same = same_row row index old c.reserve.new.self c.index_mut-link.ensures.value c.reserve.ensures.items ∙ c.loop-index.invariant.same;
-      count = length-set row.items index link ∙ c.loop-index.invariant.count;
-      room = room_below row (with_item row index link) index c.args.room old link within c.index_mut-link.ensures.value refl c.loop-index.invariant.room c.in_ok-reserve.ensures.ok;
+      same = c.reserve_on.ensures.same ∙ c.loop-member.invariant.same;
+      room = room_for_more members c.loop-member.member-index c.member-item.result within c.member-item.is c.reserve_on.new.row c.args.room (c.reserve_on.ensures.others _ c.loop-member.invariant.room)
+          (subst (λ (to : ℕ). HasRoom (λ id. id == to) c.args.room c.reserve_on.new.row) (ap (λ (m : Member). m.identity) c.member.view_is) c.in_ok-reserve_on.ensures.room);
     }
 
-pub returns-in_err-reserve-clause-same : goal.returns-in_err-reserve-clause-same
-returns-in_err-reserve-clause-same g c =
-    same_row c.loop-index.row c.loop-index.index c.index_mut-link.result.now c.reserve.new.self c.index_mut-link.ensures.value c.reserve.ensures.items ∙ c.loop-index.invariant.same
-
 pub returns-clause-room : goal.returns-clause-room
-returns-clause-room g c = room_all c.loop-index.row c.loop-index.index c.args.room (omega (arith, c.loop-index.invariant.count, c.args.row.now.ok.0)) c.loop-index.invariant.room
+returns-clause-room g c =
+    let members = c.members-member-items.result.now in
+    let all : length members ≤ c.loop-member.member-index = omega (arith, c.loop-member-test.false) in
+    room_for_members c.args.view.now.members _ (take_all c.loop-member.member-index members all ∙ c.members-member-items.ensures.members) c.loop-member.row c.args.room c.loop-member.invariant.room

@@ -1,7 +1,10 @@
-use Rattle.std.proofs.Common.{◌≡◌, length}
+use Rattle.std.proofs.Common.{◌≡◌, take}
+use Rattle.std.specs.Prelude.{◌==◌}
+use Rattle.std.specs.List.{list_any}
+use Rattle.rd_views.specs.Views.{Member}
 use Rattle.rd_world.specs.Channels.{row_of}
-use Rattle.rd_world.proofs.Rooms.{HasRoomBelow}
+use Rattle.rd_world.specs.Sending.{HasRoom}
 use Rattle.rd_world.proofs.sending.reserve.Given as goal
 
-abbrev pub invariant-loop-index : goal.invariant-loop-index
-invariant-loop-index g l = record { same : row_of l.row ≡ row_of l.initial.row; count : length l.row.items ≡ length l.initial.row.items; room : HasRoomBelow l.index l.room l.row }
+abbrev pub invariant-loop-member : goal.invariant-loop-member
+invariant-loop-member g l = record { same : row_of l.row ≡ row_of l.initial.row; room : HasRoom (λ id. list_any (λ (member : Member). member.identity == id) (take l.member-index l.member-items)) l.room l.row }

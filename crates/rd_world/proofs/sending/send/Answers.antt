@@ -1,5 +1,6 @@
 use Rattle.std.proofs.Common.{◌≡◌, ◌∙◌, sym, ap, subst, refl, arith, List, length, map, ◌+◌, ◌-◌, ◌++◌, [], ◌∷◌}
-use Rattle.std.specs.Prelude.{is_ok, slice_get, option_map}
+use Rattle.std.specs.Prelude.{is_ok, slice_get, option_map, true}
+use Rattle.std.specs.List.{list_all}
 use Rattle.std.proofs.lemmas.Iterator.Adapters.{YieldsList-from_vec}
 use Rattle.std.proofs.lemmas.Iterator.Consumers.{YieldsList-end}
 use Rattle.rd_messages.specs.declared.message.Post.{Post}
@@ -29,14 +30,15 @@ all_yielded {A = A} xs ys e = sym (same xs) ∙ e
     same (z ∷ zs) = ap (λ ws. z ∷ ws) (same zs)
 
 pub returns-clause-row : goal.returns-clause-row
-returns-clause-row g c = λ room has within.
+returns-clause-row g c = λ ids room has within all.
     let posts = c.args.posts.items in
     let ends = YieldsList-end (YieldsList-from_vec posts c.into_iter-post-iterator.ensures.into_iter_gives.0 (c.into_iter-post-iterator.ensures.into_iter_gives.1 ∙ c.args.posts.ok.0)) c.loop-post.yielded c.loop-post.post-iterator c.loop-post.yielded_by c.next.result c.next.new.self c.in-None.is c.next.ensures.steps in
     let whole : c.loop-post.yielded ≡ posts = all_yielded c.loop-post.yielded posts ends.0 in
     let count : length c.loop-post.yielded ≡ length posts = ap length whole in
     λ b.
     subst (λ (these : List (Post g.row.T.Denot g.row.T-Kind.Denot g.row.T-Op.Denot g.row.T-Delta.Denot g.T.Replica)). slice_get (row_of c.loop-post.row) b ≡ option_map (extended (messages_to these b)) (slice_get (row_of c.args.row.now) b)) whole
-    (c.loop-post.invariant.row.sent (room - length posts) (less_room c.args.row.now room (room - length posts + length c.loop-post.yielded) (omega arith) has) b)
+    (c.loop-post.invariant.row.sent ids (room - length posts) (less_room ids c.args.row.now room (room - length posts + length c.loop-post.yielded) (omega arith) has)
+    (subst (λ (these : List (Post g.row.T.Denot g.row.T-Kind.Denot g.row.T-Op.Denot g.row.T-Delta.Denot g.T.Replica)). list_all (λ (post : Post g.row.T.Denot g.row.T-Kind.Denot g.row.T-Op.Denot g.row.T-Delta.Denot g.T.Replica). ids post.to) these ≡ true) (sym whole) all) b)
 
 pub returns-clause-told : goal.returns-clause-told
 returns-clause-told g c = λ has.

@@ -22,7 +22,7 @@ returns-in_default g c =
     (ap option_copied c.in_default.is) c.undelivered-in_default.result c.undelivered-in_default.ensures
 
 pub returns-in_err-event : goal.returns-in_err-event
-returns-in_err-event g c = match_err _ _ c.from_residual-in_err-event.result c.from_residual-in_err-event.ensures.0 (as_before g.T.SpelledData g.met.K.Keeper.tells_alike c.args.self.now c.give.new.self c.args.to c.in_err-event.ensures)
+returns-in_err-event g c = match_err _ _ c.from_residual.result c.from_residual.ensures.0 (as_before g.T.SpelledData g.met.K.Keeper.tells_alike c.args.self.now c.hand.new.self c.args.to c.in_err-event.ensures)
 
 pub returns : goal.returns
 returns g c =
@@ -31,10 +31,10 @@ returns g c =
     elim c.match-event.branch [
       | in-Reply w ↦
           call_reply g.T.SpelledData c.args.self.now c.args.from c.args.to c.args.index small few c.last.ensures.sound c.contains.result (c.contains.ensures ∙ ap (λ v. is_member v c.args.to) c.last.ensures.last) c.if-not-contains.false (option_copied c.message.result) c.message.ensures
-          c.in-Some.message.now c.in_ok-message.message (ap option_copied c.in-Some.is) c.in_ok-message.ensures c.sketch.result c.sketch.ensures g.met.K.Keeper.tells_alike c.give.new.self c.in_ok-event.event c.in_ok-event.ensures
+          c.in-Some.message.now (ap option_copied c.in-Some.is) c.sketch.result c.sketch.ensures g.met.K.Keeper.tells_alike c.hand.new.self c.in_ok-event.event c.in_ok-event.ensures
           w.in-Reply.field-0 w.in-Reply.is _ c.match-event.self w.self-is (record { views = refl; keys = refl; spare = refl; nodes = refl }) w.pass.ensures
       | in_default-answer w ↦
           call_other g.T.SpelledData c.args.self.now c.args.from c.args.to c.args.index small few c.last.ensures.sound c.contains.result (c.contains.ensures ∙ ap (λ v. is_member v c.args.to) c.last.ensures.last) c.if-not-contains.false (option_copied c.message.result) c.message.ensures
-          c.in-Some.message.now c.in_ok-message.message (ap option_copied c.in-Some.is) c.in_ok-message.ensures c.sketch.result c.sketch.ensures g.met.K.Keeper.tells_alike c.give.new.self c.in_ok-event.event c.in_ok-event.ensures
-          w.in_default-answer.not-Reply c.give.new.self c.match-event.self w.self-is (record { views = refl; keys = refl; spare = refl; nodes = refl; links = refl })
+          c.in-Some.message.now (ap option_copied c.in-Some.is) c.sketch.result c.sketch.ensures g.met.K.Keeper.tells_alike c.hand.new.self c.in_ok-event.event c.in_ok-event.ensures
+          w.in_default-answer.not-Reply c.hand.new.self c.match-event.self w.self-is (record { views = refl; keys = refl; spare = refl; nodes = refl; links = refl })
     ]

@@ -1,8 +1,9 @@
 use Rattle.std.proofs.Common.{◌∙◌, ◌<◌, sym, ap, refl, arith, length, Some, None}
 use Rattle.rd_views.specs.Sound.{last_view}
-use Rattle.rd_world.specs.Giving.{gone, full, made}
+use Rattle.rd_world.specs.Giving.{ChangesAt, gone}
 use Rattle.rd_world.proofs.ByPlace.{few_places}
-use Rattle.rd_world.proofs.Changing.{seat_found, last_sound, item_found, never_empty, seated_set, same_id, full_err}
+use Rattle.rd_world.proofs.Changing.{seat_found, last_sound, item_found, never_empty, seated_set, same_id}
+use Rattle.rd_world.proofs.Outcomes.{match_each, outcome_gives, outcome_refuses}
 use Rattle.rd_world.proofs.world.World.give.Goals as goal
 
 pub returns-in_default : goal.returns-in_default
@@ -21,84 +22,32 @@ invariant_of-self-in-Some-index_mut-clause-seated g c =
     let seat = seat_found world.views c.args.at c.last.result.now c.place_of.result (Some c.in-Some.place) c.last.ensures.last c.place_of.ensures c.in-Some.is in
     let small = few_places (last_view world.views) (last_sound world.views c.last.ensures.sound) c.args.at c.in-Some.place seat in
     let within : c.from.result < length world.nodes.items = omega (arith, world.nodes.ok.0, world.eight_nodes) in
-    seated_set world.views world.nodes.items world.spare.items world.seated c.from.result c.in-Some-index_mut.node c.step_on.new.node within (item_found world.nodes.items c.from.result c.index_mut.result.now (Some c.in-Some-index_mut.node) within c.index_mut.ensures.value c.in-Some-index_mut.is)
-    (same_id g.T.SpelledData c.in-Some-index_mut.node c.step_on.new.node c.args.input.now c.args.at world.links c.step_on.new.links c.step_on.result c.step_on.ensures.ok c.step_on.ensures.err)
+    seated_set world.views world.nodes.items world.spare.items world.seated c.from.result c.in-Some-index_mut.node c.step_on-outcome.new.node within (item_found world.nodes.items c.from.result c.index_mut.result.now (Some c.in-Some-index_mut.node) within c.index_mut.ensures.value c.in-Some-index_mut.is)
+    (same_id g.T.SpelledData c.in-Some-index_mut.node c.step_on-outcome.new.node c.args.input.now c.args.at world.links c.step_on-outcome.new.links c.step_on-outcome.result c.step_on-outcome.ensures.ok c.step_on-outcome.ensures.err)
 
-pub returns-in-Ok : goal.returns-in-Ok
-returns-in-Ok g c =
+pub returns-in-Some-index_mut : goal.returns-in-Some-index_mut
+returns-in-Some-index_mut g c =
     let world = c.args.self.now in
     let sound = last_sound world.views c.last.ensures.sound in
     let seat = seat_found world.views c.args.at c.last.result.now c.place_of.result (Some c.in-Some.place) c.last.ensures.last c.place_of.ensures c.in-Some.is in
     let small = few_places (last_view world.views) sound c.args.at c.in-Some.place seat in
     let within : c.from.result < length world.nodes.items = omega (arith, world.nodes.ok.0, world.eight_nodes) in
-    made c.in-Ok.answered
-    (record {
-      place = c.from.result;
-      before = c.in-Some-index_mut.node;
-      after = c.step_on.new.node;
-      changes = record {
-        views = refl;
-        keys = refl;
-        spare = refl;
-        sound = sound;
-        seat = seat ∙ ap Some (sym c.from.ensures);
-        within = within;
-        was = item_found world.nodes.items c.from.result c.index_mut.result.now (Some c.in-Some-index_mut.node) within c.index_mut.ensures.value c.in-Some-index_mut.is;
-        nodes = refl;
-      };
-      steps = c.in-Ok.ensures.ok;
-    }) refl
-
-pub returns-in-Err-HistoryFull : goal.returns-in-Err-HistoryFull
-returns-in-Err-HistoryFull g c =
-    let world = c.args.self.now in
-    let sound = last_sound world.views c.last.ensures.sound in
-    let seat = seat_found world.views c.args.at c.last.result.now c.place_of.result (Some c.in-Some.place) c.last.ensures.last c.place_of.ensures c.in-Some.is in
-    let small = few_places (last_view world.views) sound c.args.at c.in-Some.place seat in
-    let within : c.from.result < length world.nodes.items = omega (arith, world.nodes.ok.0, world.eight_nodes) in
-    full
-    (record {
-      place = c.from.result;
-      before = c.in-Some-index_mut.node;
-      after = c.step_on.new.node;
-      changes = record {
-        views = refl;
-        keys = refl;
-        spare = refl;
-        sound = sound;
-        seat = seat ∙ ap Some (sym c.from.ensures);
-        within = within;
-        was = item_found world.nodes.items c.from.result c.index_mut.result.now (Some c.in-Some-index_mut.node) within c.index_mut.ensures.value c.in-Some-index_mut.is;
-        nodes = refl;
-      };
-      links = c.in-Err-HistoryFull.ensures.err.1;
-      unchanged = c.in-Err-HistoryFull.ensures.err.0;
-    }) (c.step_on.ensures.full (full_err c.step_on.result c.in-Err-HistoryFull.field-0 c.in-Err-HistoryFull.is c.in-Err-HistoryFull.field-0-is)) c.line-in-Err-HistoryFull.ensures
-
-pub returns-in-Err-Memory : goal.returns-in-Err-Memory
-returns-in-Err-Memory g c =
-    let world = c.args.self.now in
-    let sound = last_sound world.views c.last.ensures.sound in
-    let seat = seat_found world.views c.args.at c.last.result.now c.place_of.result (Some c.in-Some.place) c.last.ensures.last c.place_of.ensures c.in-Some.is in
-    let small = few_places (last_view world.views) sound c.args.at c.in-Some.place seat in
-    let within : c.from.result < length world.nodes.items = omega (arith, world.nodes.ok.0, world.eight_nodes) in
+    let changes : ChangesAt c.args.at c.from.result c.in-Some-index_mut.node c.step_on-outcome.new.node world _ =
     record {
-      place = c.from.result;
-      before = c.in-Some-index_mut.node;
-      after = c.step_on.new.node;
-      changes = record {
-        views = refl;
-        keys = refl;
-        spare = refl;
-        sound = sound;
-        seat = seat ∙ ap Some (sym c.from.ensures);
-        within = within;
-        was = item_found world.nodes.items c.from.result c.index_mut.result.now (Some c.in-Some-index_mut.node) within c.index_mut.ensures.value c.in-Some-index_mut.is;
-        nodes = refl;
-      };
-      links = c.in-Err-Memory.ensures.err.1;
-      unchanged = c.in-Err-Memory.ensures.err.0;
-    }
+      views = refl;
+      keys = refl;
+      spare = refl;
+      sound = sound;
+      seat = seat ∙ ap Some (sym c.from.ensures);
+      within = within;
+      was = item_found world.nodes.items c.from.result c.index_mut.result.now (Some c.in-Some-index_mut.node) within c.index_mut.ensures.value c.in-Some-index_mut.is;
+      nodes = refl;
+    } in
+    match_each _ _ c.event_of.result
+    (λ event is.
+    outcome_gives g.T.SpelledData c.args.at c.from.result c.in-Some-index_mut.node c.step_on-outcome.new.node world _ changes c.args.head c.step_on-outcome.result c.event_of.result c.event_of.ensures c.step_on-outcome.ensures.full c.step_on-outcome.ensures.err c.args.input.now
+    c.step_on-outcome.ensures.ok event is)
+    (λ e is. outcome_refuses g.T.SpelledData c.args.at c.from.result c.in-Some-index_mut.node c.step_on-outcome.new.node world _ changes c.args.head c.step_on-outcome.result c.event_of.result c.event_of.ensures c.step_on-outcome.ensures.full c.step_on-outcome.ensures.err e is)
 
 pub returns-in-None : goal.returns-in-None
 returns-in-None g c =
