@@ -8,7 +8,6 @@ use rd_trial_parts::{
 use rd_value::Data;
 use rd_vectors::Memory;
 use std::alloc::Global;
-use std::marker::Brand;
 use std::sync::ledger::{Blank, Ledger};
 use std::test::Fail;
 
@@ -61,18 +60,19 @@ fn is_told(alloc: Global, row: [&str; 4], found: [u8; 20]) -> Result<bool, Fail>
     Ok(found.as_slice() == bytes_of(alloc, sha1)?.as_slice())
 }
 
-/// The entry of a row is asked three times, and once as that of another.
+/// The entry of a row keeps its digest, and drops it when it becomes that of another row.
 fn check(alloc: Global, row: [&str; 4], other: [&str; 4]) -> Result<(), Fail> {
     let envelope = envelope_of(alloc, row)?;
     let later = envelope_of(alloc, other)?;
     let made = digest(alloc, &later)?;
-    let (three, fourth, _) = four_questions::<Brand>(alloc, Blank::new(1), envelope, later)?;
-    for told in three {
-        if !is_told(alloc, row, told)? {
-            return Err("another digest".into());
-        }
+    let mut digested = Digested::new(alloc, envelope);
+    digested.keep()?;
+    if !digested.is_kept() || !is_told(alloc, row, digested.told()?)? {
+        return Err("another digest".into());
     }
-    if fourth != made || !is_told(alloc, other, fourth)? {
+    *digested.change() = later;
+    let told = digested.told()?;
+    if digested.is_kept() || told != made || !is_told(alloc, other, told)? {
         return Err("the digest before the change".into());
     }
     Ok(())
