@@ -1,5 +1,5 @@
 -- A script that has come some way along the entries in run order, and the next entry.
-use Rattle.std.proofs.Common.{Bool, ◌≡◌, ◌≢◌, ℕ, suc, ◌+◌, List, [], ◌∷◌, ◌++◌, length, map, refl, sym, ap, subst, ◌∙◌, arith, Option, Some, None, ⊎_elim, length-append}
+use Rattle.std.proofs.Common.{◌≡◌, ◌≢◌, ℕ, suc, ◌+◌, List, [], ◌∷◌, ◌++◌, length, map, refl, sym, ap, subst, ◌∙◌, arith, Option, Some, None, ⊎_elim, length-append}
 use Rattle.std.specs.Prelude.{if◌then◌else◌, is_some, option_map, IsTrue}
 use Rattle.std.proofs.lemmas.List.{append_assoc, append-nil, map-append}
 use Rattle.rd_history.specs.Table.{with_at}
@@ -36,7 +36,12 @@ module _ {Kind Op Shown : Type 0} where
   fate_lines p place Stored = refl
   fate_lines p place StoreFailed = refl
 
-module _ {Kind Op Shown : Type 0} (D : Replication Kind Op Shown) (world : World Kind Op Shown) (histories : ℕ → List (Entry Op Shown)) (placed : List (Placed Op Shown)) (keeping : Keeping) where
+  fate_events : (p : Playing Kind Op Shown) (place : ℕ) (fate : Fate) → (after_fate p place fate).events ≡ p.events
+  fate_events p place NoStore = refl
+  fate_events p place Stored = refl
+  fate_events p place StoreFailed = refl
+
+module _ {Kind Op Shown : Type 0} (D : Replication Kind Op Shown) (world : World Kind Op Shown) (histories : ℕ → List (Entry Op Shown)) (placed : List (Placed Op Shown)) (keeping : Keeping Op) where
   abbrev pub base : ℕ → ℕ → ℕ
   base a b = length (messages_on world.links a b)
 
@@ -49,6 +54,7 @@ module _ {Kind Op Shown : Type 0} (D : Replication Kind Op Shown) (world : World
     pub sent : (a b : ℕ) → messages_on p.world.links a b ≡ messages_on world.links a b ++ map (λ (m : Passed Op). m.message) (posted_to b (entries_at a done))
     pub keepers : (place : ℕ) → IsKept keeping p (answered_in world.view rest place) place
     pub lines : p.lines ≡ []
+    pub events : p.events ++ events_of due rest ≡ keeping.early ++ events_of (sent_so_far world) placed
     pub far : run D p.world (events_of due rest) ≡ run D world (events_of (sent_so_far world) placed)
 
   option_step : (es : List (Entry Op Shown)) (e : Entry Op Shown) (o : Option (Node Kind Op Shown))
@@ -164,6 +170,7 @@ module _ {Kind Op Shown : Type 0} (D : Replication Kind Op Shown) (world : World
               sent = λ a b. ap (λ (v : World Kind Op Shown). messages_on v.links a b) comes ∙ next_sent w same messages a b;
               keepers = λ place. kept_as keeping fated (record given_now { lines = [] }) (answered_in world.view rest place) place refl refl (keepers_are place);
               lines = refl;
+              events = ap (λ es. (es ++ event x.entry.fate ∷ []) ++ events_of due' rest) (fate_events p its_place x.entry.fate) ∙ append_assoc p.events (event x.entry.fate ∷ []) (events_of due' rest) ∙ ap (λ es. p.events ++ es) (sym events) ∙ along.events;
               far = ap (λ v. run D v (events_of due' rest)) (comes ∙ sym happens_so) ∙ ap (run D p.world) (sym events) ∙ along.far;
             };
           })

@@ -1,5 +1,5 @@
 -- The worked scripts with client threads: a section of each, by computation, and all others, by trying every move.
-use Rattle.std.proofs.Common.{refl, [], ◌∷◌, false}
+use Rattle.std.proofs.Common.{refl, [], ◌∷◌}
 use Rattle.std.specs.Prelude.{codes}
 use Rattle.std.specs.Fmt.{digits}
 use Rattle.json.specs.Print.{escape_byte}

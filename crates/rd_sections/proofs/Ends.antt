@@ -11,10 +11,10 @@ use Rattle.rd_model.specs.World.{World, run}
 use Rattle.rd_model.specs.World.Event.{InputAt}
 use Rattle.rd_model.specs.Script.{Playing, Told, Head, Answer, played, last_of, told}
 use Rattle.rd_sections.proofs.Givens.{given_to}
-use Rattle.rd_sections.specs.Sections.{Command, Client, Made, Section, Move, Line, step_of, member_of, pending_op, node_full, has_room, running, some_full, world_of, goes_on, may_command, may_time_out, may_call_timeout, may_come, may_all_come, is_over, made_by, with_client, commanded, commanded_by, timed_out, timed_out_made, timed_out_op, heard, moved, moved_all, client_line, client_lines, section_lines, has_ended}
-use Rattle.rd_sections.specs.Sections.Move.{NextCommand, NextMessage, ItsTimeout}
+use Rattle.rd_sections.specs.Sections.{Command, Client, Made, Section, Move, step_of, member_of, pending_op, node_full, world_of, goes_on, may_command, may_come, may_all_come, is_over, made_by, with_client, commanded, commanded_by, moved, moved_all, client_line, client_lines, section_lines, has_ended}
+use Rattle.rd_sections.specs.Sections.Move.{NextCommand}
 use Rattle.rd_sections.specs.Histories.{Entry, Placed, entries_at, events_of, sent_so_far, replayed, AreHistories}
-use Rattle.rd_sections.specs.Paths.{ClientStep, until, IsInputOf, head_of, LacksView, IsStepOf, IsReplied, IsAnsweredBy, answered_in, TimesOut}
+use Rattle.rd_sections.specs.Paths.{ClientStep, IsInputOf, head_of, LacksView, IsAnsweredBy, answered_in, TimesOut}
 use Rattle.rd_sections.proofs.Exploring.{some_of}
 use Rattle.rd_sections.proofs.NextDue.{same_or_not}
 use Rattle.rd_sections.proofs.Moves.{command_plays, command_gone, command_lacks, given_full, Keeping, IsKept, kept_as}
@@ -48,7 +48,7 @@ module _ {Kind Op Shown : Type 0} where
       (lines_of w (suc first) cs ps (omega (arith, l))
       (λ k client steps e f. let n : suc first + k ≡ first + suc k = omega arith in ap (λ n. map (client_line w n) client.made) n ∙ h (suc k) client steps e f))
 
-module _ {Kind Op Shown : Type 0} (D : Replication Kind Op Shown) (world : World Kind Op Shown) (histories : ℕ → List (Entry Op Shown)) (placed : List (Placed Op Shown)) (keeping : Keeping) (all : AreHistories D world histories)
+module _ {Kind Op Shown : Type 0} (D : Replication Kind Op Shown) (world : World Kind Op Shown) (histories : ℕ → List (Entry Op Shown)) (placed : List (Placed Op Shown)) (keeping : Keeping Op) (all : AreHistories D world histories)
     (runs_in : (i : ℕ) (n : Node Kind Op Shown) → world.nodes i ≡ Some n → IsTrue (is_member world.view i)) (paths : List (List (ClientStep Op Shown))) where
   abbrev At : ℕ → Client Op Shown → List (Placed Op Shown) → List (ClientStep Op Shown) → Type 0
   At c client entries steps = ClientAt D world histories placed keeping all runs_in c client entries steps
@@ -70,12 +70,13 @@ module _ {Kind Op Shown : Type 0} (D : Replication Kind Op Shown) (world : World
     pub over : is_over (moved_all D s moves) ≡ true
     pub lines : section_lines (moved_all D s moves) ≡ flat_map (map (λ (step : ClientStep Op Shown). step.line)) paths
     pub keepers : (place : ℕ) → IsKept keeping (moved_all D s moves).playing [] place
+    pub events : (moved_all D s moves).playing.events ≡ keeping.early ++ events_of (sent_so_far world) placed
     pub comes : (moved_all D s moves).playing.world ≡ run D world (events_of (sent_so_far world) placed)
 
   pub ends_more : (s t : Section Kind Op Shown) (m : Move) → may_come s m ≡ true → moved D s m ≡ t → Ends t → Ends s
   ends_more s t m may is end =
       let e : Ends (moved D s m) = subst Ends (sym is) end in
-      record { moves = m ∷ e.moves; lawful = both_true (may_come s m) (may_all_come D (moved D s m) e.moves) may e.lawful; over = e.over; lines = e.lines; keepers = e.keepers; comes = e.comes }
+      record { moves = m ∷ e.moves; lawful = both_true (may_come s m) (may_all_come D (moved D s m) e.moves) may e.lawful; over = e.over; lines = e.lines; keepers = e.keepers; events = e.events; comes = e.comes }
 
   -- another client comes
   pub put_client : (s : Section Kind Op Shown) (c : ℕ) (client client' : Client Op Shown) (p : Playing Kind Op Shown) (done rest done' rest' : List (Placed Op Shown)) → State s done rest → slice_get s.clients c ≡ Some client
@@ -136,7 +137,7 @@ module _ {Kind Op Shown : Type 0} (D : Replication Kind Op Shown) (world : World
 
   same_told : (p : Playing Kind Op Shown) (due : ℕ → ℕ → ℕ) (done rest : List (Placed Op Shown)) (head : Head Op) (answer : Answer Shown) → Along D world histories placed keeping p due done rest → Along D world histories placed keeping (record (told p head answer) { lines = [] }) due done rest
   same_told p due done rest head answer along =
-      record { going = along.going; whole = along.whole; nodes = along.nodes; due_is = along.due_is; sent = along.sent; keepers = λ place. kept_as keeping p (record (told p head answer) { lines = [] }) (answered_in world.view rest place) place refl refl (along.keepers place); lines = refl; far = along.far }
+      record { going = along.going; whole = along.whole; nodes = along.nodes; due_is = along.due_is; sent = along.sent; keepers = λ place. kept_as keeping p (record (told p head answer) { lines = [] }) (answered_in world.view rest place) place refl refl (along.keepers place); lines = refl; events = along.events; far = along.far }
 
   -- WHAT MAY FOLLOW
 

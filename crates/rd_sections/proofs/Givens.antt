@@ -1,5 +1,5 @@
 -- What a script gives to a member, by the member, by the message and by the view.
-use Rattle.std.proofs.Common.{◌≡◌, ℕ, List, [], ◌∷◌, ap, Option, Some, None}
+use Rattle.std.proofs.Common.{◌≡◌, ℕ, [], ◌∷◌, Option, Some, None}
 use Rattle.std.specs.Prelude.{if◌then◌else◌, option_map, option_and_then}
 use Rattle.rd_model.specs.View.{View}
 use Rattle.rd_model.specs.DataType.{Replication}

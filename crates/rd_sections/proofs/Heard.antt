@@ -8,7 +8,7 @@ use Rattle.std.proofs.lemmas.List.{append-nil}
 use Rattle.rd_model.specs.View.{is_member, identities_of}
 use Rattle.rd_model.specs.DataType.{Replication}
 use Rattle.rd_model.specs.Message.{Post}
-use Rattle.rd_model.specs.Node.{Node, OpenOperation, Input, Output, Reply, Fate, one_step_later}
+use Rattle.rd_model.specs.Node.{Node, OpenOperation, Input, Reply, Fate, one_step_later}
 use Rattle.rd_model.specs.Step.{step, is_full}
 use Rattle.rd_model.specs.World.{World}
 use Rattle.rd_sections.specs.Sections.{Section, Made, node_full, is_open, running, some_full, world_of, are_posts_heard, has_ended, goes_on, pending_op}
@@ -16,7 +16,7 @@ use Rattle.rd_sections.specs.Histories.{Entry, Placed, RiseAbove, posted_to, tak
 use Rattle.rd_sections.specs.Paths.{until, member_until, some_full_until, has_taken, are_posts_taken, has_ended_until}
 use Rattle.rd_sections.proofs.NextDue.{same_or_not}
 use Rattle.rd_sections.proofs.RunOrder.{entries_here, entries_else, taken-append}
-use Rattle.rd_sections.proofs.Untils.{until_late, until-append, until_begins, rise_last, replayed-append, full_stays, closed_since, number_below}
+use Rattle.rd_sections.proofs.Untils.{steps_first, until_late, until-append, until_begins, rise_last, replayed-append, full_stays, closed_since, number_below}
 use Rattle.rd_sections.proofs.Along.{Along, base}
 use Rattle.rd_sections.proofs.Moves.{Keeping}
 use Rattle.rd_operations.proofs.Lists.{any_more, both_true, or_left, or_right, or_more, not_true}
@@ -74,10 +74,6 @@ module _ {Op Shown : Type 0} where
   Late u rest = AllByRecursion (λ (y : Placed Op Shown). u < y.entry.stamp) rest
 
 module _ {Kind Op Shown : Type 0} (D : Replication Kind Op Shown) where
-  pub steps_first : (n : Node Kind Op Shown) (es fs : List (Entry Op Shown)) → AreSteps D n (es ++ fs) → AreSteps D n es
-  steps_first n [] fs h = tt
-  steps_first n (e ∷ es) fs h = (h.0, h.1, h.2, steps_first (step D n e.input e.fate).node es fs h.3)
-
   -- a timeout that is answered so found the operation open
   pub times_out_open : (n : Node Kind Op Shown) (op : ℕ) (fate : Fate) → (step D n (Input.Timeout op) fate).output.reply ≡ Reply.TimedOut → is_open op (Some n) ≡ true
   times_out_open n op fate e = by (list_any (λ (o : OpenOperation). o.op == op) n.open_operations) refl e
@@ -88,7 +84,7 @@ module _ {Kind Op Shown : Type 0} (D : Replication Kind Op Shown) where
       by true is e = is
       by false is e = absurd (cc e)
 
-  module _ (world : World Kind Op Shown) (histories : ℕ → List (Entry Op Shown)) (placed : List (Placed Op Shown)) (keeping : Keeping) (all : AreHistories D world histories)
+  module _ (world : World Kind Op Shown) (histories : ℕ → List (Entry Op Shown)) (placed : List (Placed Op Shown)) (keeping : Keeping Op) (all : AreHistories D world histories)
       (runs_in : (i : ℕ) (n : Node Kind Op Shown) → world.nodes i ≡ Some n → IsTrue (is_member world.view i)) where
     -- what is kept of a command that was answered by an entry
     pub record IsMadeBy (made : Made Op Shown) (i : ℕ) (e : Entry Op Shown) : Type 0 where
@@ -115,7 +111,7 @@ module _ {Kind Op Shown : Type 0} (D : Replication Kind Op Shown) where
       steps_done i b is =
           let at = all.steps i (runs_in i b is) in
           let same : at.0 ≡ b = cc (sym at.1 ∙ is) in
-          steps_first b (done_at i) (entries_at i rest) (subst (AreSteps D b) (sym (along.whole i (runs_in i b is))) (subst (λ n. AreSteps D n (histories i)) same at.2))
+          steps_first D b (done_at i) (entries_at i rest) (subst (AreSteps D b) (sym (along.whole i (runs_in i b is))) (subst (λ n. AreSteps D n (histories i)) same at.2))
 
       runs_same : (j : ℕ) → is_some ((world_of s).nodes j) ≡ is_some (world.nodes j)
       runs_same j = ap is_some (along.nodes j) ∙ by (world.nodes j)

@@ -11,6 +11,11 @@ pub mod Untils
 pub mod Moves
 pub mod Along
 pub mod Asked
+pub mod Asking
+pub mod Away
+pub mod Standing
+pub mod Unfinished
+pub mod Beginnings
 pub mod Heard
 pub mod GivesUp
 pub mod Positions
@@ -18,6 +23,10 @@ pub mod Ends
 pub mod Sectioning
 pub mod Ordering
 pub mod PathSections
+pub mod KnownTimeouts
+pub mod KnownPaths
+pub mod KnowingMore
 pub mod InViews
 pub mod SmallPath
+pub mod SmallKnown
 pub mod CodeOrder

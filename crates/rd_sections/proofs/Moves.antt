@@ -1,6 +1,6 @@
 -- What a command, a timeout or a message plays where its fate and what comes of it are known beforehand.
 use Rattle.std.proofs.Common.{◌≡◌, ◌≢◌, ℕ, suc, ◌+◌, ◌<◌, List, [], ◌∷◌, ◌++◌, length, refl, sym, ap, subst, ◌∙◌, arith, Bool, true, false, Some, None, ⊎_elim, Option}
-use Rattle.std.specs.Prelude.{⊤, ◌==◌, if◌then◌else◌, nat_lt, slice_get, is_some, option_map, ◌-◌, map}
+use Rattle.std.specs.Prelude.{⊤, if◌then◌else◌, nat_lt, slice_get, is_some, option_map, ◌-◌, map}
 use Rattle.std.specs.List.{range_with_len}
 use Rattle.std.proofs.lemmas.Bool.Decides.{nat_tests}
 use Rattle.rd_history.proofs.HistoryLaws.{with_at_other}
@@ -23,10 +23,11 @@ use Rattle.rd_sections.proofs.RunOrder.{is_same, is_other}
 
 -- KEEPERS
 
--- what the keepers answer, and up to which call of each place
-pub record Keeping : Type 0 where
+-- what the keepers answer, and up to which call of each place; and the events of before the section
+pub record Keeping (Op : Type 0) : Type 0 where
   pub answers : KeeperAnswers
   pub ends : ℕ → ℕ
+  pub early : List (Event Op)
 
 -- these are the answers from one call on
 abbrev pub Follow : KeeperAnswers → ℕ → ℕ → List Bool → Type 0
@@ -64,50 +65,50 @@ module _ {Kind Op Shown : Type 0} where
   HasAnswer p place StoreFailed = next_answer p place ≡ false
 
   -- the keeper of a place goes on with these answers
-  pub record IsKept (keeping : Keeping) (p : Playing Kind Op Shown) (bs : List Bool) (place : ℕ) : Type 0 where
+  pub record IsKept (keeping : Keeping Op) (p : Playing Kind Op Shown) (bs : List Bool) (place : ℕ) : Type 0 where
     pub same : p.answers ≡ keeping.answers
     pub follow : Follow keeping.answers place (p.calls place) bs
     pub ends : p.calls place + length bs ≡ keeping.ends place
 
   -- that depends on its answers and its calls alone
-  pub kept_as : (keeping : Keeping) (p q : Playing Kind Op Shown) (bs : List Bool) (place : ℕ) → q.answers ≡ p.answers → q.calls ≡ p.calls → IsKept keeping p bs place → IsKept keeping q bs place
+  pub kept_as : (keeping : Keeping Op) (p q : Playing Kind Op Shown) (bs : List Bool) (place : ℕ) → q.answers ≡ p.answers → q.calls ≡ p.calls → IsKept keeping p bs place → IsKept keeping q bs place
   kept_as keeping p q bs place answers calls is =
       let e = is.ends in
       let n : q.calls place ≡ p.calls place = ap (λ (f : ℕ → ℕ). f place) calls in
       record { same = answers ∙ is.same; follow = subst (λ (f : ℕ → ℕ). Follow keeping.answers place (f place) bs) (sym calls) is.follow; ends = omega (arith, e, n) }
 
-  answer_there : (keeping : Keeping) (p : Playing Kind Op Shown) (place : ℕ) (fate : Fate) (more : List Bool) → IsKept keeping p (answer_of fate ++ more) place → HasAnswer p place fate
+  answer_there : (keeping : Keeping Op) (p : Playing Kind Op Shown) (place : ℕ) (fate : Fate) (more : List Bool) → IsKept keeping p (answer_of fate ++ more) place → HasAnswer p place fate
   answer_there keeping p place NoStore more is = tt
   answer_there keeping p place Stored more is = ap (λ (f : KeeperAnswers). f place (p.calls place)) is.same ∙ is.follow.0
   answer_there keeping p place StoreFailed more is = ap (λ (f : KeeperAnswers). f place (p.calls place)) is.same ∙ is.follow.0
 
-  pub has_answer : (keeping : Keeping) (p : Playing Kind Op Shown) (view : View) (x : Placed Op Shown) (rest : List (Placed Op Shown)) → ((place : ℕ) → IsKept keeping p (answered_in view (x ∷ rest) place) place) → HasAnswer p (place_of view x.at) x.entry.fate
+  pub has_answer : (keeping : Keeping Op) (p : Playing Kind Op Shown) (view : View) (x : Placed Op Shown) (rest : List (Placed Op Shown)) → ((place : ℕ) → IsKept keeping p (answered_in view (x ∷ rest) place) place) → HasAnswer p (place_of view x.at) x.entry.fate
   has_answer keeping p view x rest keeps =
       answer_there keeping p (place_of view x.at) x.entry.fate (answered_in view rest (place_of view x.at)) (subst (λ bs. IsKept keeping p bs (place_of view x.at)) (answered_here view x rest) (keeps (place_of view x.at)))
 
-  call_here : (keeping : Keeping) (p : Playing Kind Op Shown) (place : ℕ) (b : Bool) (more : List Bool) → IsKept keeping p (b ∷ more) place → IsKept keeping (with_call p place) more place
+  call_here : (keeping : Keeping Op) (p : Playing Kind Op Shown) (place : ℕ) (b : Bool) (more : List Bool) → IsKept keeping p (b ∷ more) place → IsKept keeping (with_call p place) more place
   call_here keeping p place b more is =
       let now : (with_call p place).calls place ≡ suc (p.calls place) = with_at_is p.calls place (suc (p.calls place)) place refl in
       let e = is.ends in
       record { same = is.same; follow = subst (λ n. Follow keeping.answers place n more) (sym now) is.follow.1; ends = omega (arith, e, now) }
 
-  called_here : (keeping : Keeping) (p : Playing Kind Op Shown) (place : ℕ) (fate : Fate) (more : List Bool) → IsKept keeping p (answer_of fate ++ more) place → IsKept keeping (after_fate p place fate) more place
+  called_here : (keeping : Keeping Op) (p : Playing Kind Op Shown) (place : ℕ) (fate : Fate) (more : List Bool) → IsKept keeping p (answer_of fate ++ more) place → IsKept keeping (after_fate p place fate) more place
   called_here keeping p place NoStore more is = is
   called_here keeping p place Stored more is = call_here keeping p place true more is
   called_here keeping p place StoreFailed more is = call_here keeping p place false more is
 
-  call_else : (keeping : Keeping) (p : Playing Kind Op Shown) (place other : ℕ) (bs : List Bool) → other ≢ place → IsKept keeping p bs other → IsKept keeping (with_call p place) bs other
+  call_else : (keeping : Keeping Op) (p : Playing Kind Op Shown) (place other : ℕ) (bs : List Bool) → other ≢ place → IsKept keeping p bs other → IsKept keeping (with_call p place) bs other
   call_else keeping p place other bs isnt is =
       let now : (with_call p place).calls other ≡ p.calls other = with_at_other p.calls place (suc (p.calls place)) other isnt in
       let e = is.ends in
       record { same = is.same; follow = subst (λ n. Follow keeping.answers other n bs) (sym now) is.follow; ends = omega (arith, e, now) }
 
-  called_else : (keeping : Keeping) (p : Playing Kind Op Shown) (place other : ℕ) (fate : Fate) (bs : List Bool) → other ≢ place → IsKept keeping p bs other → IsKept keeping (after_fate p place fate) bs other
+  called_else : (keeping : Keeping Op) (p : Playing Kind Op Shown) (place other : ℕ) (fate : Fate) (bs : List Bool) → other ≢ place → IsKept keeping p bs other → IsKept keeping (after_fate p place fate) bs other
   called_else keeping p place other NoStore bs isnt is = is
   called_else keeping p place other Stored bs isnt is = call_else keeping p place other bs isnt is
   called_else keeping p place other StoreFailed bs isnt is = call_else keeping p place other bs isnt is
 
-  pub keeps_on : (keeping : Keeping) (p : Playing Kind Op Shown) (view : View) (x : Placed Op Shown) (rest : List (Placed Op Shown)) → ((place : ℕ) → IsKept keeping p (answered_in view (x ∷ rest) place) place)
+  pub keeps_on : (keeping : Keeping Op) (p : Playing Kind Op Shown) (view : View) (x : Placed Op Shown) (rest : List (Placed Op Shown)) → ((place : ℕ) → IsKept keeping p (answered_in view (x ∷ rest) place) place)
       → (place : ℕ) → IsKept keeping (after_fate p (place_of view x.at) x.entry.fate) (answered_in view rest place) place
   keeps_on keeping p view x rest keeps place = ⊎_elim
       (λ (is : place ≡ place_of view x.at). subst (λ q. IsKept keeping (after_fate p (place_of view x.at) x.entry.fate) (answered_in view rest q) q) (sym is)

@@ -1,18 +1,18 @@
 -- Where the next message of a link stands after a section.
 use Rattle.std.proofs.Common.{◌≡◌, ◌≢◌, ◌⊎◌, inl, inr, ⊎_elim, ℕ, suc, ◌<◌, ◌≤◌, refl, sym, ap, subst, ◌∙◌, true, false, true≢false, Bool, List, [], ◌∷◌, ◌++◌, length, Option, None, Some, arith}
-use Rattle.std.specs.Prelude.{◌&&◌, not, ◌==◌, if◌then◌else◌, nat_lt, slice_get, is_some}
+use Rattle.std.specs.Prelude.{◌&&◌, not, ◌==◌, slice_get, is_some}
 use Rattle.std.specs.List.{list_any}
 use Rattle.std.proofs.lemmas.Bool.Decides.{Decides-eqb}
 use Rattle.rd_history.specs.Table.{with_at}
 use Rattle.rd_history.proofs.HistoryLaws.{with_at_other}
 use Rattle.rd_history.proofs.CutLaws.{with_at_is}
-use Rattle.rd_model.specs.View.{View, place_of}
+use Rattle.rd_model.specs.View.{View}
 use Rattle.rd_model.specs.DataType.{Replication}
 use Rattle.rd_model.specs.Message.{Message, Post}
 use Rattle.rd_model.specs.Node.{Node, Input, Fate}
 use Rattle.rd_model.specs.Node.Fate.{NoStore}
 use Rattle.rd_model.specs.Step.{step, is_full}
-use Rattle.rd_model.specs.World.{World, Event, Link, Links, views_of, message_at, with_link, with_post, with_posts, moved_on, happens, stores}
+use Rattle.rd_model.specs.World.{World, Event, Link, Links, views_of, message_at, with_link, with_post, with_posts, moved_on, happens}
 use Rattle.rd_model.specs.World.Event.{InputAt, Delivery}
 use Rattle.rd_model.specs.Script.{Playing, Head, played, deliver, told, Answer, last_of}
 use Rattle.rd_operations.proofs.Lists.{first_true, second_true}

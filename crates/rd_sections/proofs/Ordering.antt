@@ -107,7 +107,7 @@ module _ {Op Shown : Type 0} where
         there z t (zero, e) = let same : y ≡ z = cc e in absurd (let a = later z t in let b = ap (λ (w : Placed Op Shown). w.entry.stamp) (sym is_first ∙ same) in omega (arith, a, b))
         there z t (suc k, e) = (k, e)
 
-module _ {Kind Op Shown : Type 0} (D : Replication Kind Op Shown) (world : World Kind Op Shown) (histories : ℕ → List (Entry Op Shown)) (placed : List (Placed Op Shown)) (keeping : Keeping) (all : AreHistories D world histories)
+module _ {Kind Op Shown : Type 0} (D : Replication Kind Op Shown) (world : World Kind Op Shown) (histories : ℕ → List (Entry Op Shown)) (placed : List (Placed Op Shown)) (keeping : Keeping Op) (all : AreHistories D world histories)
     (runs_in : (i : ℕ) (n : Node Kind Op Shown) → world.nodes i ≡ Some n → IsTrue (is_member world.view i)) where
   abbrev IsStep : ℕ → Command Op → ClientStep Op Shown → Type 0
   IsStep c command step = IsStepOf D world histories c command step

@@ -1,5 +1,5 @@
 -- What clients did is a section.
-use Rattle.std.proofs.Common.{Bool, ◌≡◌, ◌⊎◌, inl, inr, ⊎_elim, ℕ, zero, suc, List, [], ◌∷◌, map, refl, sym, ap, subst, ◌∙◌, arith, true, false, true≢false, Option, Some, None, ◌+◌}
+use Rattle.std.proofs.Common.{◌≡◌, ◌⊎◌, inl, inr, ⊎_elim, ℕ, zero, suc, List, [], ◌∷◌, ◌++◌, map, refl, sym, ap, subst, ◌∙◌, arith, true, false, true≢false, Option, Some, None, ◌+◌}
 use Rattle.std.specs.Prelude.{◌==◌, not, slice_get, is_some, option_map, IsTrue}
 use Rattle.std.specs.List.{AllByRecursion}
 use Rattle.std.proofs.lemmas.Bool.Decides.{Decides-eqb}
@@ -13,7 +13,7 @@ use Rattle.rd_model.specs.Node.{Node, Input}
 use Rattle.rd_model.specs.World.{World, views_of}
 use Rattle.rd_model.specs.Script.{Playing}
 use Rattle.rd_sections.specs.Sections.{Command, new_client, member_of, opened, moved_all}
-use Rattle.rd_sections.specs.Histories.{Entry, Placed, entries_at, replayed, AreHistories, IsRunOrder}
+use Rattle.rd_sections.specs.Histories.{Entry, Placed, entries_at, events_of, sent_so_far, replayed, AreHistories, IsRunOrder}
 use Rattle.rd_sections.specs.Paths.{ClientStep, IsInputOf, IsTake, IsStepOf, IsPath, ArePaths, HasEntryAt, HasSection}
 use Rattle.rd_sections.proofs.Exploring.{some_of}
 use Rattle.rd_sections.proofs.RunOrder.{is_same, messages_on, first_going}
@@ -25,7 +25,7 @@ use Rattle.rd_sections.proofs.Positions.Position.{Ready}
 use Rattle.rd_sections.proofs.Ordering.{filter_in, sorted_filter, in_entries, entries_in, AtStep, EntryOf, timeout_is, replied_at, path_left}
 use Rattle.rd_sections.proofs.Ends.{State, get_within}
 use Rattle.rd_sections.proofs.Sectioning.{all_end, IsKnown}
-use Rattle.rd_sections.proofs.Moves.{Keeping, IsKept, Follow, follows}
+use Rattle.rd_sections.proofs.Moves.{Keeping, IsKept, follows}
 use Rattle.rd_operations.proofs.Lists.{to_filter, first_true, second_true, both_true, not_true}
 
 taking : {Op : Type 0} (input : Input Op) → IsTake input → takes input ≡ true
@@ -46,7 +46,7 @@ get_mapped f [] k x e = absurd (cc e)
 get_mapped f (y ∷ xs) zero x e = let same : y ≡ x = cc e in ap (λ z. Some (f z)) same
 get_mapped f (y ∷ xs) (suc k) x e = get_mapped f xs k x e
 
-module _ {Kind Op Shown : Type 0} (D : Replication Kind Op Shown) (world : World Kind Op Shown) (histories : ℕ → List (Entry Op Shown)) (placed : List (Placed Op Shown)) (keeping : Keeping) (all : AreHistories D world histories)
+module _ {Kind Op Shown : Type 0} (D : Replication Kind Op Shown) (world : World Kind Op Shown) (histories : ℕ → List (Entry Op Shown)) (placed : List (Placed Op Shown)) (keeping : Keeping Op) (all : AreHistories D world histories)
     (runs_in : (i : ℕ) (n : Node Kind Op Shown) → world.nodes i ≡ Some n → IsTrue (is_member world.view i)) (order : IsRunOrder world.view histories placed)
     (clients : List (List (Command Op))) (paths : List (List (ClientStep Op Shown))) (are : ArePaths D world histories clients paths) where
   abbrev EntryIn : Placed Op Shown → List (Command Op) → List (ClientStep Op Shown) → Type 0
@@ -179,10 +179,10 @@ module _ {Kind Op Shown : Type 0} (D : Replication Kind Op Shown) (world : World
   abbrev in_world : Playing Kind Op Shown → Playing Kind Op Shown
   in_world p = record p { world = world }
 
-  pub paths_have_section : (p : Playing Kind Op Shown) → keeping ≡ record { answers = p.answers; ends = calls_after (in_world p) placed } → HaveAnswered (in_world p) placed → HasSection D (in_world p) placed clients paths
+  pub paths_have_section : (p : Playing Kind Op Shown) → keeping ≡ record { answers = p.answers; ends = calls_after (in_world p) placed; early = p.events } → HaveAnswered (in_world p) placed → HasSection D (in_world p) placed clients paths
   paths_have_section p keeps answered =
       let first = opened (in_world p) clients in
-      let answered' : (place : ℕ) → IsKept (record { answers = p.answers; ends = calls_after (in_world p) placed }) first.playing (answered_in world.view placed place) place =
+      let answered' : (place : ℕ) → IsKept (record { answers = p.answers; ends = calls_after (in_world p) placed; early = p.events }) first.playing (answered_in world.view placed place) place =
       λ place. record { same = refl; follow = follows p.answers place (p.calls place) (answered_in world.view placed place) (answered place); ends = refl } in
       let along : Along D world histories placed keeping first.playing first.due [] placed =
       record {
@@ -193,6 +193,7 @@ module _ {Kind Op Shown : Type 0} (D : Replication Kind Op Shown) (world : World
         sent = λ a b. sym (append-nil (messages_on world.links a b));
         keepers = subst (λ k. (place : ℕ) → IsKept k first.playing (answered_in world.view placed place) place) (sym keeps) answered';
         lines = refl;
+        events = ap (λ (k : Keeping Op). k.early ++ events_of (sent_so_far world) placed) (sym keeps);
         far = refl;
       } in
       let state : State D world histories placed keeping all runs_in paths first [] placed =
@@ -225,5 +226,6 @@ module _ {Kind Op Shown : Type 0} (D : Replication Kind Op Shown) (world : World
         lines = ends.lines;
         answers = (kept 0).same;
         calls = λ place. let e : (moved_all D first ends.moves).playing.calls place + 0 ≡ calls_after (in_world p) placed place = (kept place).ends in sym (plus_none _) ∙ e;
+        events = ends.events ∙ ap (λ (k : Keeping Op). k.early ++ events_of (sent_so_far world) placed) keeps;
         world = ends.comes;
       }

@@ -1,5 +1,5 @@
 -- A script without thread steps has one run, and one report.
-use Rattle.std.proofs.Common.{◌≡◌, ℕ, suc, refl, sym, ap, subst, ◌∙◌, Bool, List, [], ◌∷◌, ◌++◌, map, Option, None, Some}
+use Rattle.std.proofs.Common.{◌≡◌, ℕ, suc, refl, sym, ap, subst, ◌∙◌, List, [], ◌∷◌, ◌++◌, map, Option, None, Some}
 use Rattle.std.specs.Prelude.{flat_map, option_map, decimal}
 use Rattle.rd_history.specs.Texts.{Text}
 use Rattle.rd_model.specs.DataType.{Replication}

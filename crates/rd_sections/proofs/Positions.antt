@@ -8,7 +8,7 @@ use Rattle.rd_model.specs.World.{World}
 use Rattle.rd_model.specs.Script.{Answer, last_of}
 use Rattle.rd_sections.specs.Sections.{Command, Client, Made, Section, member_of, pending_op, ending_of, goes_on, gives_up}
 use Rattle.rd_sections.specs.Histories.{Entry, Placed, replayed, AreHistories}
-use Rattle.rd_sections.specs.Paths.{ClientStep, until, IsInputOf, head_of, LacksView, IsTake, IsStepOf, IsReplied, IsAnsweredBy, IsTimedOut, TimesOut, member_until, some_full_until, are_posts_taken, has_ended_until, HasGivenUp}
+use Rattle.rd_sections.specs.Paths.{ClientStep, IsStepOf, IsReplied, IsAnsweredBy, TimesOut, some_full_until, are_posts_taken, has_ended_until, HasGivenUp}
 use Rattle.rd_sections.proofs.Along.{Along}
 use Rattle.rd_sections.proofs.Heard.{Late, IsMadeBy, goes_on_now}
 use Rattle.rd_sections.proofs.GivesUp.{gives_up_now}
@@ -56,7 +56,7 @@ module _ {Shown : Type 0} where
   pending_reply (Reply.Pending o) op e = let same : o ≡ op = cc e in ap Reply.Pending same
   pending_reply r op e = absurd (cc e)
 
-module _ {Kind Op Shown : Type 0} (D : Replication Kind Op Shown) (world : World Kind Op Shown) (histories : ℕ → List (Entry Op Shown)) (placed : List (Placed Op Shown)) (keeping : Keeping) (all : AreHistories D world histories)
+module _ {Kind Op Shown : Type 0} (D : Replication Kind Op Shown) (world : World Kind Op Shown) (histories : ℕ → List (Entry Op Shown)) (placed : List (Placed Op Shown)) (keeping : Keeping Op) (all : AreHistories D world histories)
     (runs_in : (i : ℕ) (n : Node Kind Op Shown) → world.nodes i ≡ Some n → IsTrue (is_member world.view i)) where
   -- these entries begin with that of an index, if there is one
   abbrev pub Stands : ℕ → Option ℕ → List (Placed Op Shown) → List (Placed Op Shown) → Type 0

@@ -13,7 +13,7 @@ use Rattle.rd_model.specs.World.Event.{InputAt}
 use Rattle.rd_model.specs.Script.{Playing, Head, Answer, played, last_of}
 use Rattle.rd_model.specs.Step.{is_full}
 use Rattle.rd_sections.proofs.Givens.{given_to}
-use Rattle.rd_sections.specs.Sections.{Command, Client, Made, Section, Move, Line, step_of, member_of, pending_op, ending_of, has_room, running, world_of, goes_on, may_time_out, may_call_timeout, may_come, is_over, made_by, with_client, timed_out, timed_out_made, timed_out_op, heard, moved, client_line, client_lines, section_lines, gives_up}
+use Rattle.rd_sections.specs.Sections.{Command, Client, Made, Section, step_of, member_of, pending_op, ending_of, has_room, running, world_of, goes_on, may_time_out, may_call_timeout, may_come, made_by, with_client, timed_out, timed_out_made, timed_out_op, heard, moved, client_line, gives_up}
 use Rattle.rd_sections.specs.Sections.Move.{NextCommand, NextMessage, ItsTimeout}
 use Rattle.rd_sections.specs.Histories.{Entry, Placed, Passed, posted_to, entries_at, RiseAbove, replayed, AreHistories, IsFromClients}
 use Rattle.rd_sections.specs.Paths.{ClientStep, until, IsInputOf, head_of, IsTake, IsReplied}
@@ -30,7 +30,7 @@ use Rattle.rd_sections.proofs.Positions.Position.{Ready, Due}
 use Rattle.rd_sections.proofs.Ends.{State, Ends, ends_more, put_client, may_next, command_moves, Stops, ahead, get_within, all_by_get, lines_of, no_more}
 use Rattle.rd_operations.proofs.Lists.{both_true}
 
-module _ {Kind Op Shown : Type 0} (D : Replication Kind Op Shown) (world : World Kind Op Shown) (histories : ℕ → List (Entry Op Shown)) (placed : List (Placed Op Shown)) (keeping : Keeping) (all : AreHistories D world histories)
+module _ {Kind Op Shown : Type 0} (D : Replication Kind Op Shown) (world : World Kind Op Shown) (histories : ℕ → List (Entry Op Shown)) (placed : List (Placed Op Shown)) (keeping : Keeping Op) (all : AreHistories D world histories)
     (runs_in : (i : ℕ) (n : Node Kind Op Shown) → world.nodes i ≡ Some n → IsTrue (is_member world.view i)) (paths : List (List (ClientStep Op Shown))) where
   abbrev Goes : Section Kind Op Shown → List (Placed Op Shown) → List (Placed Op Shown) → Type 0
   Goes s done rest = State D world histories placed keeping all runs_in paths s done rest
@@ -106,6 +106,7 @@ module _ {Kind Op Shown : Type 0} (D : Replication Kind Op Shown) (world : World
               ∙ told_lines k at.0.made at.2.past at.2.lines
               ∙ ap (map (λ (step : ClientStep Op Shown). step.line)) (sym (at.2.whole ∙ ap (λ l. at.2.past ++ l) none ∙ append-nil at.2.past)));
           keepers = state.along.keepers;
+          events = sym (append-nil s.playing.events) ∙ state.along.events;
           comes = state.along.far;
         }
 

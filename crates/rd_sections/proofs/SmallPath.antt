@@ -15,23 +15,23 @@ use Rattle.rd_sections.specs.Paths.{ClientStep, IsStepOf, IsPath, IsTake, ArePat
 use Rattle.rd_sections.proofs.NextDue.{same_or_not}
 use Rattle.rd_sections.proofs.RunOrder.{is_other}
 
-abbrev D : Replication (Unit {0}) (Unit {0}) ℕ
+abbrev pub D : Replication (Unit {0}) (Unit {0}) ℕ
 D = record {
   data_type = record { fits = λ k o. true; refusal = λ k i o H. None; blocked = λ k o r H. None; shown = λ k H. 0 };
   digest = λ k e. [];
   log_length = 50;
 }
 
-abbrev keys : List (KeyDecl (Unit {0}))
+abbrev pub keys : List (KeyDecl (Unit {0}))
 keys = record { name = 97 ∷ []; kind = tt; durable = true } ∷ []
 
-abbrev world : World (Unit {0}) (Unit {0}) ℕ
+abbrev pub world : World (Unit {0}) (Unit {0}) ℕ
 world = start 2 keys
 
 abbrev node_at : ℕ → Node (Unit {0}) (Unit {0}) ℕ
 node_at i = loaded_node keys i (first_view 2) no_entries
 
-abbrev write : Input (Unit {0})
+abbrev pub write : Input (Unit {0})
 write = Input.Update (97 ∷ []) tt (Level.Majority 0)
 
 abbrev s0 : Stepped (Unit {0}) (Unit {0}) ℕ
@@ -49,28 +49,28 @@ s2 = step D s0.node (Input.Take 1 (Message.WriteNack 0)) Fate.NoStore
 abbrev s3 : Stepped (Unit {0}) (Unit {0}) ℕ
 s3 = step D s2.node (Input.Timeout 0) Fate.NoStore
 
-abbrev e0 : Entry (Unit {0}) ℕ
+abbrev pub e0 : Entry (Unit {0}) ℕ
 e0 = record { client = 0; input = write; fate = Fate.Stored; output = s0.output; stamp = 1 }
 
-abbrev e1 : Entry (Unit {0}) ℕ
+abbrev pub e1 : Entry (Unit {0}) ℕ
 e1 = record { client = 0; input = Input.Take 0 question; fate = Fate.StoreFailed; output = s1.output; stamp = 2 }
 
-abbrev e2 : Entry (Unit {0}) ℕ
+abbrev pub e2 : Entry (Unit {0}) ℕ
 e2 = record { client = 0; input = Input.Take 1 (Message.WriteNack 0); fate = Fate.NoStore; output = s2.output; stamp = 3 }
 
-abbrev e3 : Entry (Unit {0}) ℕ
+abbrev pub e3 : Entry (Unit {0}) ℕ
 e3 = record { client = 0; input = Input.Timeout 0; fate = Fate.NoStore; output = s3.output; stamp = 4 }
 
-abbrev histories : ℕ → List (Entry (Unit {0}) ℕ)
+abbrev pub histories : ℕ → List (Entry (Unit {0}) ℕ)
 histories i = if i == 0 then e0 ∷ e2 ∷ e3 ∷ [] else (if i == 1 then e1 ∷ [] else [])
 
 abbrev placed : List (Placed (Unit {0}) ℕ)
 placed = record { at = 0; entry = e0 } ∷ record { at = 1; entry = e1 } ∷ record { at = 0; entry = e2 } ∷ record { at = 0; entry = e3 } ∷ []
 
-abbrev clients : List (List (Command (Unit {0})))
+abbrev pub clients : List (List (Command (Unit {0})))
 clients = (Command.Update 0 (97 ∷ []) tt (Level.Majority 0) ∷ []) ∷ []
 
-abbrev the_step : ClientStep (Unit {0}) ℕ
+abbrev pub the_step : ClientStep (Unit {0}) ℕ
 the_step =
     record {
       line = record { client = Some 0; head = Head.UpdateHead 0 (97 ∷ []); answer = Answer.Replied (Reply.Pending 0); posts = e0.output.posts; ended = Some (Ending.TimedOut 0) };
@@ -83,16 +83,16 @@ the_step =
 abbrev paths : List (List (ClientStep (Unit {0}) ℕ))
 paths = (the_step ∷ []) ∷ []
 
-by_place : (P : ℕ → Type 0) → P 0 → P 1 → ((i : ℕ) → i ≢ 0 → i ≢ 1 → P i) → (i : ℕ) → P i
+pub by_place : (P : ℕ → Type 0) → P 0 → P 1 → ((i : ℕ) → i ≢ 0 → i ≢ 1 → P i) → (i : ℕ) → P i
 by_place P zeroth first others i = ⊎_elim (λ (is : i ≡ 0). subst P (sym is) zeroth) (λ isnt. ⊎_elim (λ (is : i ≡ 1). subst P (sym is) first) (λ isnt'. others i isnt isnt') (same_or_not i 1)) (same_or_not i 0)
 
-nothing_else : (i : ℕ) → i ≢ 0 → i ≢ 1 → histories i ≡ []
+pub nothing_else : (i : ℕ) → i ≢ 0 → i ≢ 1 → histories i ≡ []
 nothing_else i a b = ap (λ t. if t then e0 ∷ e2 ∷ e3 ∷ [] else (if i == 1 then e1 ∷ [] else [])) (is_other i 0 a) ∙ ap (λ t. if t then e1 ∷ [] else []) (is_other i 1 b)
 
-no_member : (i : ℕ) → i ≢ 0 → i ≢ 1 → is_member (first_view 2) i ≡ true → ⊥
+pub no_member : (i : ℕ) → i ≢ 0 → i ≢ 1 → is_member (first_view 2) i ≡ true → ⊥
 no_member i a b m = true≢false (sym m ∙ ap (λ t. t || ((1 == i) || false)) (is_other 0 i (λ e. a (sym e))) ∙ ap (λ t. t || false) (is_other 1 i (λ e. b (sym e))))
 
-are_histories : AreHistories D world histories
+pub are_histories : AreHistories D world histories
 are_histories =
     record {
       steps = by_place (λ i. IsTrue (is_member world.view i) → (member : Node (Unit {0}) (Unit {0}) ℕ) × (world.nodes i ≡ Some member) × AreSteps D member (histories i))
@@ -154,7 +154,7 @@ is_step =
       forward = omega arith;
     }
 
-are_paths : ArePaths D world histories clients paths
+pub are_paths : ArePaths D world histories clients paths
 are_paths =
     record {
       as_many = refl;

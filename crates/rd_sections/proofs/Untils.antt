@@ -16,7 +16,7 @@ use Rattle.rd_operations.proofs.Opening.{opening_tells}
 
 module _ {Op Shown : Type 0} where
   -- kept or not
-  until_in : (u : ℕ) (e : Entry Op Shown) (es : List (Entry Op Shown)) → e.stamp ≤ u → until u (e ∷ es) ≡ e ∷ until u es
+  pub until_in : (u : ℕ) (e : Entry Op Shown) (es : List (Entry Op Shown)) → e.stamp ≤ u → until u (e ∷ es) ≡ e ∷ until u es
   until_in u e es h = ap (λ b. cond b (e ∷ until u es) (until u es)) (le-leb e.stamp u h)
 
   until_out : (u : ℕ) (e : Entry Op Shown) (es : List (Entry Op Shown)) → u < e.stamp → until u (e ∷ es) ≡ until u es
@@ -82,8 +82,12 @@ module _ {Kind Op Shown : Type 0} (D : Replication Kind Op Shown) where
   steps_after n [] fs h = h
   steps_after n (e ∷ es) fs h = steps_after (step D n e.input e.fate).node es fs h.3
 
+  pub steps_first : (n : Node Kind Op Shown) (es fs : List (Entry Op Shown)) → AreSteps D n (es ++ fs) → AreSteps D n es
+  steps_first n [] fs h = tt
+  steps_first n (e ∷ es) fs h = (h.0, h.1, h.2, steps_first (step D n e.input e.fate).node es fs h.3)
+
   -- a full member makes no more steps
-  full_ends : (n : Node Kind Op Shown) (fs : List (Entry Op Shown)) → AreSteps D n fs → is_full n ≡ true → fs ≡ []
+  pub full_ends : (n : Node Kind Op Shown) (fs : List (Entry Op Shown)) → AreSteps D n fs → is_full n ≡ true → fs ≡ []
   full_ends n [] h full = refl
   full_ends n (f ∷ fs) h full = absurd (true≢false (sym full ∙ h.0))
 

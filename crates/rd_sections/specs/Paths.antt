@@ -5,7 +5,7 @@ use Rattle.rd_model.specs.View.{View, place_of}
 use Rattle.rd_model.specs.DataType.{Replication}
 use Rattle.rd_model.specs.Message.{Post}
 use Rattle.rd_model.specs.Node.{KeyDecl, Node, Input, Fate, Reply}
-use Rattle.rd_model.specs.World.{World, views_of, start, run, IsRun}
+use Rattle.rd_model.specs.World.{World, views_of, run, IsRun}
 use Rattle.rd_model.specs.Script.{Playing, Answer, Head, answers_between}
 use Rattle.rd_sections.specs.Sections.{Command, Section, Move, Line, answers, member_of, node_full, is_open, running, pending_op, ending_of, IsSection, section_lines}
 use Rattle.rd_sections.specs.Histories.{Entry, Placed, Passed, posted_to, taken_from, replayed, AreHistories, IsRunOrder, events_of, sent_so_far}
@@ -182,7 +182,7 @@ module _ {Kind Op Shown : Type 0} (before : Playing Kind Op Shown) (placed : Lis
   HaveAnswered = (place : ℕ) → answers_between before.answers place (before.calls place) (calls_after place) ≡ answered_in before.world.view placed place
 
 module _ {Kind Op Shown : Type 0} (D : Replication Kind Op Shown) where
-  -- the section that paths are of: it has their lines, and calls the keepers as the entries tell
+  -- the section that paths are of: it has their lines and the entries' events, and calls the keepers as the entries tell
   pub record HasSection (before : Playing Kind Op Shown) (placed : List (Placed Op Shown)) (clients : List (List (Command Op))) (paths : List (List (ClientStep Op Shown))) : Type 0 where
     pub moves : List Move
     pub end : Section Kind Op Shown
@@ -190,6 +190,7 @@ module _ {Kind Op Shown : Type 0} (D : Replication Kind Op Shown) where
     pub lines : section_lines end ≡ flat_map (map (λ (step : ClientStep Op Shown). step.line)) paths
     pub answers : end.playing.answers ≡ before.answers
     pub calls : (place : ℕ) → end.playing.calls place ≡ calls_after before placed place
+    pub events : end.playing.events ≡ before.events ++ events_of (sent_so_far before.world) placed
     pub world : end.playing.world ≡ run D before.world (events_of (sent_so_far before.world) placed)
 
   abbrev pub PathsHaveSections : Type 0

@@ -1,5 +1,5 @@
 -- Worked scripts with client threads, and their reports.
-use Rattle.std.specs.Prelude.{◌≡◌, ℕ, List, [], ◌∷◌, ◌++◌, Bool, false, codes, flat_map}
+use Rattle.std.specs.Prelude.{◌≡◌, ℕ, List, [], ◌∷◌, ◌++◌, codes, flat_map}
 use Rattle.rd_history.specs.Texts.{Text}
 use Rattle.rd_kinds.specs.declared.kind.Kind.{Kind}
 use Rattle.rd_kinds.specs.declared.operation.Op.{Op}

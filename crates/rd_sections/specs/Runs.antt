@@ -1,5 +1,5 @@
 -- Scripts with thread steps: their runs and reports. Plain steps leave no choice, a section does.
-use Rattle.std.specs.Prelude.{◌≡◌, ℕ, suc, List, [], ◌∷◌, ◌++◌, map, flat_map, Bool, Option, None, Some, codes, decimal, option_map}
+use Rattle.std.specs.Prelude.{◌≡◌, ℕ, suc, List, [], ◌∷◌, ◌++◌, map, flat_map, Option, None, Some, codes, decimal, option_map}
 use Rattle.rd_history.specs.Texts.{Text}
 use Rattle.rd_model.specs.DataType.{Replication}
 use Rattle.rd_model.specs.Node.{KeyDecl}

@@ -11,6 +11,7 @@ ghost use Rattle.rd_sections.specs.Sections.{Command, Move, Section, Line, IsSec
 ghost use Rattle.rd_sections.specs.Histories.{Entry, Placed, AreHistories, IsRunOrder, LeadTo, events_of, sent_so_far};
 ghost use Rattle.rd_sections.specs.Queues.{sent, Waits, IsDue};
 ghost use Rattle.rd_sections.specs.Paths.{PathsHaveSections};
+ghost use Rattle.rd_sections.specs.Knowing.{KnownPathsArePaths};
 ghost use Rattle.rd_sections.specs.Runs.{RunStep, IsRunStep, PlaysAll, HasReport};
 
 /// What a script with client threads plays is a run, whatever the schedule and whatever the keepers answer.
@@ -56,4 +57,10 @@ pub fn messages_are_due<E, X>()
 /// are those of the entries: its calls of each keeper are the next ones, as many as the entries tell.
 pub fn paths_have_sections<Kind, Operation, Shown>()
     ensures { (D : Replication Kind Operation Shown) → PathsHaveSections D }
+{}
+
+/// What clients did, as they knew it, is what the histories tell: where each claim speaks of the entries that the client
+/// had come to see, it holds of the entries up to the client's stamp.
+pub fn known_paths_are_paths<Kind, Operation, Shown>()
+    ensures { (D : Replication Kind Operation Shown) → KnownPathsArePaths D }
 {}

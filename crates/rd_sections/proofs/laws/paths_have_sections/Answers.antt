@@ -7,5 +7,5 @@ use Rattle.rd_sections.proofs.laws.paths_have_sections.Goals as goal
 
 pub returns : goal.returns
 returns g c = λ D members keys before histories placed clients paths is_run all order are answered.
-    paths_have_section D before.world histories placed (record { answers = before.answers; ends = calls_after before placed }) all
+    paths_have_section D before.world histories placed (record { answers = before.answers; ends = calls_after before placed; early = before.events }) all
     (subst InView (sym is_run.leads) (run_in D (start members keys) before.events (start_in D members keys))) order clients paths are before refl answered
