@@ -40,7 +40,7 @@ step 1 rule 5: {"do":"update","at":64}
 step 1 rule 5: {"do":"update","op":"set"}
 step 1 rule 5: {"do":"update","op":["add"],"element":7}
 step 1 rule 5: {"do":"update","op":"set","level":null}
-step 1 rule 5: {"do":"threads","clients":[]}
+step 1 rule 5: {"do":"thread","clients":[]}
 step 2 rule 6: {"do":"round"},{"do":"round","at":0}
 step 1 rule 6: {"do":"get","at":64}
 step 1 rule 6: {"do":"get","at":64,"level":null}
@@ -125,6 +125,8 @@ step 1 rule 12: {"do":"update","op":"increment","at":0,"key":"n","by":1,"level":
 step 1 rule 12: {"do":"update","op":"add","at":0,"key":"n","element":"a","level":{"majority":1,"cap":1}}
 step 1 rule 12: {"do":"update","op":"enable","at":0,"key":"n","level":0}
 step 1 rule 12: {"do":"update","op":"assign","at":0,"key":"n","text":"a","now":0,"level":{"to":0}}
+step 1 rule 14: {"do":"threads","clients":[[{"do":"flush","at":0}]]}
+step 2 rule 14: {"do":"round"},{"do":"threads","clients":[[{"do":"get","at":0,"key":"n","times":1024}]]},{}
 8 1 1: {"do":"get","at":0,"key":"not-declared"}
 8 1 0: "#;
 
@@ -187,7 +189,7 @@ fn told(alloc: Global, text: &str) -> Result<String, Fail> {
     Ok(told)
 }
 
-fn operation_line(alloc: Global, op: &Op) -> Result<String, Fail> {
+pub fn operation_line(alloc: Global, op: &Op) -> Result<String, Fail> {
     let line = match op {
         Op::Increment(by) => format!(in alloc; "increment {by}")?,
         Op::Decrement(by) => format!(in alloc; "decrement {by}")?,
@@ -203,7 +205,7 @@ fn operation_line(alloc: Global, op: &Op) -> Result<String, Fail> {
 }
 
 // A level after a space, and nothing for the local one.
-fn level_tail(alloc: Global, level: Level) -> Result<String, Fail> {
+pub fn level_tail(alloc: Global, level: Level) -> Result<String, Fail> {
     let tail = match level {
         Level::Local => String::new(alloc),
         Level::To(number) => format!(in alloc; " to {number}")?,
@@ -213,7 +215,7 @@ fn level_tail(alloc: Global, level: Level) -> Result<String, Fail> {
     Ok(tail)
 }
 
-fn link(alloc: Global, from: Id, to: Id) -> Result<String, Fail> {
+pub fn link(alloc: Global, from: Id, to: Id) -> Result<String, Fail> {
     let link = format!(in alloc; "{} {}", from.number(), to.number())?;
     Ok(link)
 }
@@ -255,7 +257,7 @@ fn line(alloc: Global, step: &Step) -> Result<String, Fail> {
 }
 
 // A script of eight members and one key with these steps.
-fn with_steps(alloc: Global, steps: &str) -> Result<String, Fail> {
+pub fn with_steps(alloc: Global, steps: &str) -> Result<String, Fail> {
     let text = format!(in alloc;
         "{{\"members\":8,\"keys\":[{{\"key\":\"n\",\"kind\":\"gcounter\"}}],\"steps\":[{steps}]}}"
     )?;

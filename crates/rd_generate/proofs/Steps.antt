@@ -8,7 +8,8 @@ use Rattle.rd_script.specs.declared.script.Step.{Step}
 use Rattle.rd_script.specs.declared.script.Step.TheVariants.{Update, Flush, Gossip, Round, Remove, Settle}
 use Rattle.rd_script.specs.Levels.{level_of}
 use Rattle.rd_script.specs.Operations.{element_of, assign_of, op_of}
-use Rattle.rd_script.specs.Reading.{update_of, flush_of, gossip_of, round_of, remove_of, settle_of, step_of}
+use Rattle.rd_script.specs.Forms.{update_of, flush_of, gossip_of, round_of, remove_of, settle_of, plain_of}
+use Rattle.rd_script.specs.Reading.{run_step_of, step_of}
 use Rattle.rd_script.specs.WellFormed.{IsStep}
 use Rattle.rd_generate.specs.Generated.{item_named, generated_step}
 use Rattle.rd_generate.specs.Texts.{whole, step_members, step_data}
@@ -28,7 +29,7 @@ module _ (at : ℕ) (small : at ≤ 63) where
   at_is = (le-leb 0 at (omega arith), le-leb at 63 small)
 
   increment_said : (by : ℕ) → 1 ≤ by → by ≤ 4094 → IsSaid (Update at (codes "hits") (op.Increment by) Local)
-  unfolding step_of update_of op_of level_of
+  unfolding step_of run_step_of plain_of update_of op_of level_of
   increment_said by low high =
       let least : nat_le 1 by ≡ true = le-leb 1 by low in
       let most : nat_le by (2 ^ 63 - 1) ≡ true = le-leb by (2 ^ 63 - 1) (omega arith) in
@@ -40,7 +41,7 @@ module _ (at : ℕ) (small : at ≤ 63) where
       }
 
   decrement_said : (by : ℕ) → 1 ≤ by → by ≤ 4094 → IsSaid (Update at (codes "bal") (op.Decrement by) Local)
-  unfolding step_of update_of op_of level_of
+  unfolding step_of run_step_of plain_of update_of op_of level_of
   decrement_said by low high =
       let least : nat_le 1 by ≡ true = le-leb 1 by low in
       let most : nat_le by (2 ^ 63 - 1) ≡ true = le-leb by (2 ^ 63 - 1) (omega arith) in
@@ -52,7 +53,7 @@ module _ (at : ℕ) (small : at ≤ 63) where
       }
 
   add_said : (element : List ℕ) → length element ≤ 64 → IsUtf8 element → IsSaid (Update at (codes "cart") (op.Add element) Local)
-  unfolding step_of update_of op_of element_of level_of
+  unfolding step_of run_step_of plain_of update_of op_of element_of level_of
   add_said element short utf8 =
       let is_short : nat_le (length element) 64 ≡ true = le-leb (length element) 64 short in
       record {
@@ -62,7 +63,7 @@ module _ (at : ℕ) (small : at ≤ 63) where
       }
 
   remove_said : (element : List ℕ) → length element ≤ 64 → IsUtf8 element → IsSaid (Update at (codes "cart") (op.Remove element) Local)
-  unfolding step_of update_of op_of element_of level_of
+  unfolding step_of run_step_of plain_of update_of op_of element_of level_of
   remove_said element short utf8 =
       let is_short : nat_le (length element) 64 ≡ true = le-leb (length element) 64 short in
       record {
@@ -72,7 +73,7 @@ module _ (at : ℕ) (small : at ≤ 63) where
       }
 
   assign_said : (text : List ℕ) (now : ℕ) → length text ≤ 64 → IsUtf8 text → now ≤ 4094 → IsSaid (Update at (codes "note") (op.Assign text now) Local)
-  unfolding step_of update_of op_of assign_of level_of
+  unfolding step_of run_step_of plain_of update_of op_of assign_of level_of
   assign_said text now short utf8 high =
       let is_short : nat_le (length text) 64 ≡ true = le-leb (length text) 64 short in
       let least : nat_le 0 now ≡ true = le-leb 0 now (omega arith) in
@@ -84,7 +85,7 @@ module _ (at : ℕ) (small : at ≤ 63) where
       }
 
   flush_said : IsSaid (Flush at)
-  unfolding step_of flush_of
+  unfolding step_of run_step_of plain_of flush_of
   flush_said = record {
     written = fields_written 0 (step_members (Flush at)) (at_written, (ascii_written 0 _ refl, tt)) refl refl;
     reads = λ number. simp (at_is.0, at_is.1);
@@ -92,7 +93,7 @@ module _ (at : ℕ) (small : at ≤ 63) where
   }
 
   gossip_said : (to : ℕ) → to ≤ 63 → IsSaid (Gossip at to)
-  unfolding step_of gossip_of
+  unfolding step_of run_step_of plain_of gossip_of
   gossip_said to to_small =
       let to_low : nat_le 0 to ≡ true = le-leb 0 to (omega arith) in
       let to_high : nat_le to 63 ≡ true = le-leb to 63 to_small in
@@ -103,15 +104,15 @@ module _ (at : ℕ) (small : at ≤ 63) where
       }
 
 round_said : IsSaid Round
-unfolding step_of round_of
+unfolding step_of run_step_of plain_of round_of
 round_said = record { written = fields_written 0 (step_members Round) (ascii_written 0 _ refl, tt) refl refl; reads = λ number. refl; bounds = tt }
 
 leaves_said : IsSaid (Remove 4)
-unfolding step_of remove_of
+unfolding step_of run_step_of plain_of remove_of
 leaves_said = record { written = fields_written 0 (step_members (Remove 4)) (ascii_written 0 _ refl, (whole_written 0 4 (omega arith), tt)) refl refl; reads = λ number. refl; bounds = omega arith }
 
 settle_said : IsSaid Settle
-unfolding step_of settle_of
+unfolding step_of run_step_of plain_of settle_of
 settle_said = record { written = fields_written 0 (step_members Settle) (ascii_written 0 _ refl, tt) refl refl; reads = λ number. refl; bounds = tt }
 
 either : (b : Bool) (s t : Step) → IsSaid s → IsSaid t → IsSaid (cond b s t)

@@ -1,3 +1,4 @@
 mod Lists
 mod Names
+mod Openings
 mod RuleOrder

@@ -9,13 +9,14 @@ use Rattle.serde_json.specs.Find.{get, as_bool, as_str, as_array, as_number, as_
 use Rattle.std.specs.Prelude.{option_and_then}
 use Rattle.rd_kinds.specs.declared.kind.Kind.{Kind}
 use Rattle.rd_script.specs.declared.fault.Rule.{Rule}
-use Rattle.rd_script.specs.declared.script.Script.{Script}
+use Rattle.rd_script.specs.declared.clients.RunStep.{RunStep}
 use Rattle.rd_script.specs.declared.script.ScriptKey.{ScriptKey}
 use Rattle.rd_script.specs.declared.script.Step.{Step}
 use Rattle.rd_script.specs.Fields.{rule, ◌>>=◌, guard, required, within, whole_of, flag_of, text_of, if_key_name, is_key_name, key_of, if_count, array_of, list_of, has_names, are_objects}
 use Rattle.serde_json.specs.Events.{items_len}
-use Rattle.rd_script.specs.Reading.{step_of, steps_after, kind_named, kind_of, key_decl, keys_after, if_objects, step_list_of, script_of}
-use Rattle.rd_script.specs.Rules.{HoldBelow, IsFirstBroken}
+use Rattle.rd_script.specs.Reading.{step_of, steps_after, run_step_of, run_steps_after, kind_named, kind_of, key_decl, keys_after, if_objects, step_list_of, script_of, run_script_of}
+use Rattle.rd_script.specs.Rules.{HoldBelow, IsFirstBroken, IsFirstRunBroken}
+use Rattle.rd_script.proofs.Openings.{with_steps, whole, script_with, run_script_with}
 
 -- WHICH RULES ARE TOLD
 
@@ -118,28 +119,39 @@ first_broken before (item d ds) e h =
     let longer : length (before ++ step ∷ []) + 1 ≡ suc (length before + 1) = let n = length-append before (step ∷ []) in omega (arith, n) in
     (suc rest.0, ((step, read), subst (λ n. IsFirstBroken n rest.0 e ds) longer rest.1)))
 
+first_run_broken : (before : List RunStep) (items : Items) (e : Rule) → run_steps_after before items ≡ Err e → (k : ℕ) × IsFirstRunBroken (length before + 1) k e items
+unfolding run_steps_after IsFirstRunBroken
+first_run_broken before no_items e h = absurd (cc h)
+first_run_broken before (item d ds) e h =
+    split ((k : ℕ) × IsFirstRunBroken (length before + 1) k e (item d ds)) (run_step_of (length before + 1) d) (λ step. run_steps_after (before ++ step ∷ []) ds) e h
+    (λ here. (zero, here))
+    (λ step read later.
+    let rest = first_run_broken (before ++ step ∷ []) ds e later in
+    let longer : length (before ++ step ∷ []) + 1 ≡ suc (length before + 1) = let n = length-append before (step ∷ []) in omega (arith, n) in
+    (suc rest.0, ((step, read), subst (λ n. IsFirstRunBroken n rest.0 e ds) longer rest.1)))
+
 -- THE SCRIPT
 
--- what a script breaks first: one of its own rules, or one of a step
-pub record IsLeast (d : Data) (e : Rule) : Type 0 where
+-- what a script breaks first: one of its own rules, or one of a step, of which this is said
+pub record IsLeast (SaysStep : Items → Rule → Type 0) (d : Data) (e : Rule) : Type 0 where
   pub whole : e.step ≡ 0 → HoldBelow e.number d
   pub holds : 1 ≤ e.step → HoldBelow 5 d
-  pub step : 1 ≤ e.step → (items : Items) × (step_list_of d ≡ Ok items) × ((k : ℕ) × IsFirstBroken 1 k e items)
-
-own : (d : Data) (e : Rule) (n : ℕ) → e ≡ rule 0 n → HoldBelow n d → IsLeast d e
-own d e n same below =
-    let zeroth : e.step ≡ 0 = ap (λ (r : Rule). r.step) same in
-    record {
-      whole = λ _. subst (λ m. HoldBelow m d) (sym (ap (λ (r : Rule). r.number) same)) below;
-      holds = λ later. absurd (omega (arith, zeroth, later));
-      step = λ later. absurd (omega (arith, zeroth, later));
-    }
+  pub step : 1 ≤ e.step → (items : Items) × (step_list_of d ≡ Ok items) × SaysStep items e
 
 guard_holds : (r : Rule) (b : Bool) (u : ⊤) → guard r b ≡ Ok u → b ≡ true
 guard_holds r true u h = refl
 guard_holds r false u h = absurd (cc h)
 
-module _ (d : Data) where
+module _ {S X : Type 0} (made : ℕ → List ScriptKey → List S → X) (read : Items → Result (List S) Rule) (SaysStep : Items → Rule → Type 0) (says : (items : Items) (e : Rule) → read items ≡ Err e → SaysStep items e) (d : Data) where
+  own : (e : Rule) (n : ℕ) → e ≡ rule 0 n → HoldBelow n d → IsLeast SaysStep d e
+  own e n same below =
+      let zeroth : e.step ≡ 0 = ap (λ (r : Rule). r.step) same in
+      record {
+        whole = λ _. subst (λ m. HoldBelow m d) (sym (ap (λ (r : Rule). r.number) same)) below;
+        holds = λ later. absurd (omega (arith, zeroth, later));
+        step = λ later. absurd (omega (arith, zeroth, later));
+      }
+
   abbrev names : Bool
   names = has_names (codes "keys" ∷ codes "members" ∷ codes "steps" ∷ []) [] d
 
@@ -149,40 +161,47 @@ module _ (d : Data) where
   abbrev key_list : Result Items Rule
   key_list = list_of (rule 0 3) 1 16 (get (codes "keys") d)
 
-  abbrev with_steps : ℕ → List ScriptKey → Items → Result Script Rule
-  with_steps n keys items = steps_after [] items >>= λ steps. Ok (record { members = n; keys = keys; steps = steps })
+  abbrev with_keys : ℕ → Items → Result X Rule
+  with_keys n items = keys_after [] items >>= λ keys. with_steps made read d (n, keys)
 
-  abbrev with_list : ℕ → List ScriptKey → Result Script Rule
-  with_list n keys = step_list_of d >>= with_steps n keys
-
-  abbrev with_keys : ℕ → Items → Result Script Rule
-  with_keys n items = keys_after [] items >>= with_list n
-
-  abbrev with_members : ℕ → Result Script Rule
+  abbrev with_members : ℕ → Result X Rule
   with_members n = key_list >>= with_keys n
 
-  pub least : (e : Rule) → script_of d ≡ Err e → IsLeast d e
-  unfolding script_of
+  least : (e : Rule) → whole made read d ≡ Err e → IsLeast SaysStep d e
   least e h =
-      split (IsLeast d e) (guard (rule 0 1) names) (λ _. members >>= with_members) e h
-      (λ told. own d e 1 (of_guard (rule 0 1) names e told) (record { names = λ l. absurd (omega (arith, l)); members = λ l. absurd (omega (arith, l)); keys = λ l. absurd (omega (arith, l)); steps = λ l. absurd (omega (arith, l)) }))
+      split (IsLeast SaysStep d e) (guard (rule 0 1) names) (λ _. members >>= with_members) e h
+      (λ told. own e 1 (of_guard (rule 0 1) names e told) (record { names = λ l. absurd (omega (arith, l)); members = λ l. absurd (omega (arith, l)); keys = λ l. absurd (omega (arith, l)); steps = λ l. absurd (omega (arith, l)) }))
       (λ u named h. let named : names ≡ true = guard_holds (rule 0 1) names u named in
-      split (IsLeast d e) members with_members e h
-      (λ told. own d e 2 (of_whole (rule 0 2) 1 8 (get (codes "members") d) e told) (record { names = λ _. named; members = λ l. absurd (omega (arith, l)); keys = λ l. absurd (omega (arith, l)); steps = λ l. absurd (omega (arith, l)) }))
+      split (IsLeast SaysStep d e) members with_members e h
+      (λ told. own e 2 (of_whole (rule 0 2) 1 8 (get (codes "members") d) e told) (record { names = λ _. named; members = λ l. absurd (omega (arith, l)); keys = λ l. absurd (omega (arith, l)); steps = λ l. absurd (omega (arith, l)) }))
       (λ n counted h.
-      split (IsLeast d e) key_list (with_keys n) e h
-      (λ told. own d e 3 (of_list (rule 0 3) 1 16 (get (codes "keys") d) e told) (record { names = λ _. named; members = λ _. (n, counted); keys = λ l. absurd (omega (arith, l)); steps = λ l. absurd (omega (arith, l)) }))
+      split (IsLeast SaysStep d e) key_list (with_keys n) e h
+      (λ told. own e 3 (of_list (rule 0 3) 1 16 (get (codes "keys") d) e told) (record { names = λ _. named; members = λ _. (n, counted); keys = λ l. absurd (omega (arith, l)); steps = λ l. absurd (omega (arith, l)) }))
       (λ items given h.
-      split (IsLeast d e) (keys_after [] items) (with_list n) e h
-      (λ told. own d e 3 (keys_tell [] items e told) (record { names = λ _. named; members = λ _. (n, counted); keys = λ l. absurd (omega (arith, l)); steps = λ l. absurd (omega (arith, l)) }))
+      split (IsLeast SaysStep d e) (keys_after [] items) (λ keys. with_steps made read d (n, keys)) e h
+      (λ told. own e 3 (keys_tell [] items e told) (record { names = λ _. named; members = λ _. (n, counted); keys = λ l. absurd (omega (arith, l)); steps = λ l. absurd (omega (arith, l)) }))
       (λ keys declared h.
-      split (IsLeast d e) (step_list_of d) (with_steps n keys) e h
-      (λ told. own d e 4 (list_tells d e told) (record { names = λ _. named; members = λ _. (n, counted); keys = λ _. (items, given, (keys, declared)); steps = λ l. absurd (omega (arith, l)) }))
+      split (IsLeast SaysStep d e) (step_list_of d) (λ steps. read steps >>= λ all. Ok (made n keys all)) e h
+      (λ told. own e 4 (list_tells d e told) (record { names = λ _. named; members = λ _. (n, counted); keys = λ _. (items, given, (keys, declared)); steps = λ l. absurd (omega (arith, l)) }))
       (λ steps listed h.
-      split (IsLeast d e) (steps_after [] steps) (λ all. Ok (record { members = n; keys = keys; steps = all })) e h
+      split (IsLeast SaysStep d e) (read steps) (λ all. Ok (made n keys all)) e h
       (λ told. record {
         whole = λ _. record { names = λ _. named; members = λ _. (n, counted); keys = λ _. (items, given, (keys, declared)); steps = λ _. (steps, listed) };
         holds = λ _. record { names = λ _. named; members = λ _. (n, counted); keys = λ _. (items, given, (keys, declared)); steps = λ _. (steps, listed) };
-        step = λ _. (steps, listed, first_broken [] steps e told);
+        step = λ _. (steps, listed, says steps e told);
       })
       (λ all read h. absurd (cc h)))))))
+
+abbrev pub SaysFirst : Items → Rule → Type 0
+SaysFirst items e = (k : ℕ) × IsFirstBroken 1 k e items
+
+abbrev pub SaysFirstRun : Items → Rule → Type 0
+SaysFirstRun items e = (k : ℕ) × IsFirstRunBroken 1 k e items
+
+pub least_of : (d : Data) (e : Rule) → script_of d ≡ Err e → IsLeast SaysFirst d e
+unfolding script_of
+least_of d e h = least script_with (steps_after []) SaysFirst (first_broken []) d e h
+
+pub least_of_run : (d : Data) (e : Rule) → run_script_of d ≡ Err e → IsLeast SaysFirstRun d e
+unfolding run_script_of
+least_of_run d e h = least run_script_with (run_steps_after []) SaysFirstRun (first_run_broken []) d e h

@@ -1,6 +1,8 @@
 pub mod Fields
 pub mod Levels
 pub mod Operations
+pub mod Forms
+pub mod Clients
 pub mod Reading
 pub mod Refusals
 pub mod Rules

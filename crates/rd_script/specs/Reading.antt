@@ -8,133 +8,34 @@ use Rattle.serde_json.specs.Read.{read}
 use Rattle.rd_kinds.specs.declared.kind.Kind.{Kind}
 use Rattle.rd_kinds.specs.declared.kind.Kind.TheVariants.{GCounter, PnCounter, GSet, Flag, LwwRegister, OrSet}
 use Rattle.rd_script.specs.declared.fault.Rule.{Rule}
+use Rattle.rd_script.specs.declared.clients.RunScript.{RunScript}
+use Rattle.rd_script.specs.declared.clients.RunStep.{RunStep}
+use Rattle.rd_script.specs.declared.clients.RunStep.TheVariants.{Plain, Threads}
 use Rattle.rd_script.specs.declared.script.Script.{Script}
 use Rattle.rd_script.specs.declared.script.ScriptKey.{ScriptKey}
 use Rattle.rd_script.specs.declared.script.Step.{Step}
-use Rattle.rd_script.specs.declared.script.Step.TheVariants.{Update, Get, Flush, Gossip, Deliver, Lose, Round, Tick, Timeout, Remove, Join, Restart, Install, Settle}
-use Rattle.rd_script.specs.Fields.{rule, ◌>>=◌, guard, required, are_objects, has_names, names_of, identity_of, place_of, number_of, if_given, flag_of, whole_of, text_of, list_of, key_of}
-use Rattle.rd_script.specs.Levels.{level_of}
-use Rattle.rd_script.specs.Operations.{op_named, update_names, op_of}
+use Rattle.rd_script.specs.Fields.{rule, ◌>>=◌, guard, required, are_objects, has_names, flag_of, whole_of, text_of, list_of, key_of}
+pub use Rattle.rd_script.specs.Forms.{update_of, get_of, flush_of, gossip_of, deliver_of, lose_of, round_of, tick_of, timeout_of, remove_of, join_of, restart_of, install_of, settle_of, plain_of}
+use Rattle.rd_script.specs.Clients.{threads_of}
 
 -- ---- steps
 
--- the rules of an update, in their order
-unfoldable pub update_of : ℕ → Data → Result Step Rule
-update_of step d = do
-  name ← text_of (rule step 5) (get (codes "op") d)
-  form ← required (rule step 5) (op_named name)
-  names ← names_of step (update_names form) (codes "level" ∷ []) d
-  at ← identity_of step (get (codes "at") d)
-  key ← key_of (rule step 8) (get (codes "key") d)
-  op ← op_of step form d
-  level ← level_of step (get (codes "level") d)
-  Ok (Update at key op level)
+-- a step of a script that may have clients
+abbrev pub run_step_by : ℕ → Data → List ℕ → Result RunStep Rule
+run_step_by step d name =
+    if bytes_eq name (codes "threads") then threads_of step d >>= (λ clients. Ok (Threads clients)) else
+    plain_of [] step d >>= (λ plain. Ok (Plain plain))
 
-unfoldable pub get_of : ℕ → Data → Result Step Rule
-get_of step d = do
-  names ← names_of step (codes "at" ∷ codes "do" ∷ codes "key" ∷ []) (codes "level" ∷ []) d
-  at ← identity_of step (get (codes "at") d)
-  key ← key_of (rule step 8) (get (codes "key") d)
-  level ← level_of step (get (codes "level") d)
-  Ok (Get at key level)
+unfoldable pub run_step_of : ℕ → Data → Result RunStep Rule
+run_step_of step d = text_of (rule step 5) (get (codes "do") d) >>= run_step_by step d
 
-unfoldable pub flush_of : ℕ → Data → Result Step Rule
-flush_of step d = do
-  names ← names_of step (codes "at" ∷ codes "do" ∷ []) [] d
-  at ← identity_of step (get (codes "at") d)
-  Ok (Flush at)
-
-unfoldable pub gossip_of : ℕ → Data → Result Step Rule
-gossip_of step d = do
-  names ← names_of step (codes "at" ∷ codes "do" ∷ codes "to" ∷ []) [] d
-  at ← identity_of step (get (codes "at") d)
-  to ← identity_of step (get (codes "to") d)
-  Ok (Gossip at to)
-
-unfoldable pub deliver_of : ℕ → Data → Result Step Rule
-deliver_of step d = do
-  names ← names_of step (codes "do" ∷ codes "from" ∷ codes "to" ∷ []) (codes "index" ∷ []) d
-  from ← identity_of step (get (codes "from") d)
-  to ← identity_of step (get (codes "to") d)
-  index ← if_given (number_of step) (get (codes "index") d)
-  Ok (Deliver from to index)
-
-unfoldable pub lose_of : ℕ → Data → Result Step Rule
-lose_of step d = do
-  names ← names_of step (codes "do" ∷ codes "from" ∷ codes "to" ∷ []) [] d
-  from ← identity_of step (get (codes "from") d)
-  to ← identity_of step (get (codes "to") d)
-  Ok (Lose from to)
-
-unfoldable pub round_of : ℕ → Data → Result Step Rule
-round_of step d = do
-  names ← names_of step (codes "do" ∷ []) [] d
-  Ok Round
-
-unfoldable pub tick_of : ℕ → Data → Result Step Rule
-tick_of step d = do
-  names ← names_of step (codes "at" ∷ codes "do" ∷ []) [] d
-  at ← identity_of step (get (codes "at") d)
-  Ok (Tick at)
-
-unfoldable pub timeout_of : ℕ → Data → Result Step Rule
-timeout_of step d = do
-  names ← names_of step (codes "at" ∷ codes "do" ∷ codes "op" ∷ []) [] d
-  at ← identity_of step (get (codes "at") d)
-  op ← number_of step (get (codes "op") d)
-  Ok (Timeout at op)
-
-unfoldable pub remove_of : ℕ → Data → Result Step Rule
-remove_of step d = do
-  names ← names_of step (codes "do" ∷ codes "id" ∷ []) [] d
-  id ← identity_of step (get (codes "id") d)
-  Ok (Remove id)
-
-unfoldable pub join_of : ℕ → Data → Result Step Rule
-join_of step d = do
-  names ← names_of step (codes "do" ∷ codes "place" ∷ []) [] d
-  place ← place_of step (get (codes "place") d)
-  Ok (Join place)
-
-unfoldable pub restart_of : ℕ → Data → Result Step Rule
-restart_of step d = do
-  names ← names_of step (codes "do" ∷ codes "id" ∷ []) [] d
-  id ← identity_of step (get (codes "id") d)
-  Ok (Restart id)
-
-unfoldable pub install_of : ℕ → Data → Result Step Rule
-install_of step d = do
-  names ← names_of step (codes "at" ∷ codes "do" ∷ codes "view" ∷ []) [] d
-  at ← identity_of step (get (codes "at") d)
-  view ← number_of step (get (codes "view") d)
-  Ok (Install at view)
-
-unfoldable pub settle_of : ℕ → Data → Result Step Rule
-settle_of step d = do
-  names ← names_of step (codes "do" ∷ []) [] d
-  Ok Settle
-
--- a step, by its name
-abbrev pub step_by : ℕ → Data → List ℕ → Result Step Rule
-step_by step d name =
-    if bytes_eq name (codes "update") then update_of step d else (
-    if bytes_eq name (codes "get") then get_of step d else (
-    if bytes_eq name (codes "flush") then flush_of step d else (
-    if bytes_eq name (codes "gossip") then gossip_of step d else (
-    if bytes_eq name (codes "deliver") then deliver_of step d else (
-    if bytes_eq name (codes "lose") then lose_of step d else (
-    if bytes_eq name (codes "round") then round_of step d else (
-    if bytes_eq name (codes "tick") then tick_of step d else (
-    if bytes_eq name (codes "timeout") then timeout_of step d else (
-    if bytes_eq name (codes "remove") then remove_of step d else (
-    if bytes_eq name (codes "join") then join_of step d else (
-    if bytes_eq name (codes "restart") then restart_of step d else (
-    if bytes_eq name (codes "install") then install_of step d else (
-    if bytes_eq name (codes "settle") then settle_of step d else
-    Err (rule step 5))))))))))))))
+-- a thread step stands in no other script
+abbrev pub if_plain : Rule → RunStep → Result Step Rule
+if_plain rule (Plain step) = Ok step
+if_plain rule (Threads clients) = Err rule
 
 unfoldable pub step_of : ℕ → Data → Result Step Rule
-step_of step d = text_of (rule step 5) (get (codes "do") d) >>= step_by step d
+step_of step d = run_step_of step d >>= if_plain (rule step 14)
 
 -- the steps, after those before them
 unfoldable pub steps_after : List Step → Items → Result (List Step) Rule
@@ -142,6 +43,12 @@ steps_after before no_items = Ok before
 steps_after before (item d ds) = do
   step ← step_of (length before + 1) d
   steps_after (before ++ step ∷ []) ds
+
+unfoldable pub run_steps_after : List RunStep → Items → Result (List RunStep) Rule
+run_steps_after before no_items = Ok before
+run_steps_after before (item d ds) = do
+  step ← run_step_of (length before + 1) d
+  run_steps_after (before ++ step ∷ []) ds
 
 -- ---- keys
 
@@ -185,6 +92,15 @@ if_objects items = if are_objects items then Ok items else Err (rule 0 4)
 abbrev pub step_list_of : Data → Result Items Rule
 step_list_of d = list_of (rule 0 4) 0 4096 (get (codes "steps") d) >>= if_objects
 
+-- how many members there are, and the keys
+unfoldable pub opening_of : Data → Result (ℕ × List ScriptKey) Rule
+opening_of d = do
+  names ← guard (rule 0 1) (has_names (codes "keys" ∷ codes "members" ∷ codes "steps" ∷ []) [] d)
+  members ← whole_of (rule 0 2) 1 8 (get (codes "members") d)
+  keys_in ← list_of (rule 0 3) 1 16 (get (codes "keys") d)
+  keys ← keys_after [] keys_in
+  Ok (members, keys)
+
 -- the rules of a script, in their order, and then those of its steps
 unfoldable pub script_of : Data → Result Script Rule
 script_of d = do
@@ -194,6 +110,17 @@ script_of d = do
   keys ← keys_after [] keys_in
   steps_in ← step_list_of d
   steps ← steps_after [] steps_in
+  Ok (record { members = members; keys = keys; steps = steps })
+
+-- the same of a script that may have clients
+unfoldable pub run_script_of : Data → Result RunScript Rule
+run_script_of d = do
+  names ← guard (rule 0 1) (has_names (codes "keys" ∷ codes "members" ∷ codes "steps" ∷ []) [] d)
+  members ← whole_of (rule 0 2) 1 8 (get (codes "members") d)
+  keys_in ← list_of (rule 0 3) 1 16 (get (codes "keys") d)
+  keys ← keys_after [] keys_in
+  steps_in ← step_list_of d
+  steps ← run_steps_after [] steps_in
   Ok (record { members = members; keys = keys; steps = steps })
 
 -- ---- bytes
@@ -213,3 +140,11 @@ Spells bytes script = (d : Data) × Reads bytes d × (script_of d ≡ Ok script)
 -- these bytes are a JSON text, and this is the first rule of scripts that it breaks
 abbrev pub Breaks : List ℕ → Rule → Type 0
 Breaks bytes broken = (d : Data) × Reads bytes d × (script_of d ≡ Err broken)
+
+-- these bytes spell this script, which may have clients
+abbrev pub SpellsRun : List ℕ → RunScript → Type 0
+SpellsRun bytes script = (d : Data) × Reads bytes d × (run_script_of d ≡ Ok script)
+
+-- these bytes are a JSON text, and this is the first rule of scripts that may have clients that it breaks
+abbrev pub BreaksRun : List ℕ → Rule → Type 0
+BreaksRun bytes broken = (d : Data) × Reads bytes d × (run_script_of d ≡ Err broken)

@@ -4,7 +4,7 @@ use Rattle.serde_json.specs.Data.{Data, Items, no_items, item}
 use Rattle.serde_json.specs.Find.{get}
 use Rattle.rd_script.specs.declared.fault.Rule.{Rule}
 use Rattle.rd_script.specs.Fields.{rule, has_names, whole_of, list_of}
-use Rattle.rd_script.specs.Reading.{keys_after, step_list_of, step_of}
+use Rattle.rd_script.specs.Reading.{keys_after, step_list_of, step_of, run_step_of}
 
 abbrev pub IsRead : {X : Type 0} → Result X Rule → Type 0
 IsRead {X} read = (x : X) × (read ≡ Ok x)
@@ -21,3 +21,9 @@ unfoldable pub IsFirstBroken : ℕ → ℕ → Rule → Items → Type 0
 IsFirstBroken first k broken no_items = ⊥
 IsFirstBroken first zero broken (item d ds) = step_of first d ≡ Err broken
 IsFirstBroken first (suc k) broken (item d ds) = IsRead (step_of first d) × IsFirstBroken (suc first) k broken ds
+
+-- the same of the steps of a script that may have clients
+unfoldable pub IsFirstRunBroken : ℕ → ℕ → Rule → Items → Type 0
+IsFirstRunBroken first k broken no_items = ⊥
+IsFirstRunBroken first zero broken (item d ds) = run_step_of first d ≡ Err broken
+IsFirstRunBroken first (suc k) broken (item d ds) = IsRead (run_step_of first d) × IsFirstRunBroken (suc first) k broken ds

@@ -4,7 +4,15 @@ use Rattle.rd_kinds.specs.declared.operation.Op.{Op}
 use Rattle.rd_kinds.specs.declared.operation.Op.TheVariants.{Increment, Decrement, Add, Remove, Enable, Assign}
 use Rattle.rd_quorum.specs.declared.level.Level.{Level}
 use Rattle.rd_quorum.specs.declared.level.Level.TheVariants as level
+use Rattle.rd_script.specs.Clients.{count_of}
+use Rattle.rd_script.specs.declared.clients.Command.{Command}
+use Rattle.rd_script.specs.declared.clients.Command.TheVariants as command
+use Rattle.rd_script.specs.declared.clients.Repeated.{Repeated}
+use Rattle.rd_script.specs.declared.clients.RunScript.{RunScript}
+use Rattle.rd_script.specs.declared.clients.RunStep.{RunStep}
+use Rattle.rd_script.specs.declared.clients.RunStep.TheVariants.{Plain, Threads}
 use Rattle.rd_script.specs.declared.script.Script.{Script}
+use Rattle.rd_script.specs.declared.script.ScriptKey.{ScriptKey}
 use Rattle.rd_script.specs.declared.script.Step.{Step}
 use Rattle.rd_script.specs.declared.script.Step.TheVariants.{Update, Get, Flush, Gossip, Deliver, Lose, Round, Tick, Timeout, Remove, Join, Restart, Install, Settle}
 
@@ -63,6 +71,38 @@ IsStep (Restart id) = IsIdentity id
 IsStep (Install at view) = IsIdentity at
 IsStep Settle = ⊤
 
+abbrev pub IsCommand : Command → Type 0
+IsCommand (command.Update at key op level) = IsIdentity at × IsOperation op × IsLevel level
+IsCommand (command.Get at key level) = IsIdentity at × IsLevel level
+IsCommand (command.Flush at) = IsIdentity at
+IsCommand (command.Gossip at to) = IsIdentity at × IsIdentity to
+IsCommand (command.Tick at) = IsIdentity at
+IsCommand (command.Install at view) = IsIdentity at
+
+abbrev pub IsRepeated : Repeated → Type 0
+IsRepeated c = IsCommand c.command × (1 ≤ c.times) × (c.times ≤ 1024)
+
+-- 1 to 1,024 commands, counted with their times
+pub record IsClient (commands : List Repeated) : Type 0 where
+  pub some : 1 ≤ length commands
+  pub few : count_of commands ≤ 1024
+  pub each : All IsRepeated commands
+
+-- 1 to 8 clients
+pub record AreClients (clients : List (List Repeated)) : Type 0 where
+  pub count : (1 ≤ length clients) × (length clients ≤ 8)
+  pub each : All IsClient clients
+
+abbrev pub IsRunStep : RunStep → Type 0
+IsRunStep (Plain step) = IsStep step
+IsRunStep (Threads clients) = AreClients clients
+
+-- members and keys within their bounds, and names that differ
+pub record IsOpening (opening : ℕ × List ScriptKey) : Type 0 where
+  pub members : (1 ≤ opening.0) × (opening.0 ≤ 8)
+  pub key_count : (1 ≤ length opening.1) × (length opening.1 ≤ 16)
+  pub key_names : AllPairs (λ a b. a.key ≢ b.key) opening.1
+
 -- members and keys within their bounds, names that differ, and steps within their bounds
 pub record IsWellFormed (script : Script) : Type 0 where
   pub members : (1 ≤ script.members) × (script.members ≤ 8)
@@ -70,3 +110,11 @@ pub record IsWellFormed (script : Script) : Type 0 where
   pub key_names : AllPairs (λ a b. a.key ≢ b.key) script.keys
   pub step_count : length script.steps ≤ 4096
   pub steps : All IsStep script.steps
+
+-- the same of a script that may have clients
+pub record IsWellFormedRun (script : RunScript) : Type 0 where
+  pub members : (1 ≤ script.members) × (script.members ≤ 8)
+  pub key_count : (1 ≤ length script.keys) × (length script.keys ≤ 16)
+  pub key_names : AllPairs (λ a b. a.key ≢ b.key) script.keys
+  pub step_count : length script.steps ≤ 4096
+  pub steps : All IsRunStep script.steps

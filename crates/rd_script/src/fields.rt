@@ -1,4 +1,4 @@
-ghost use Rattle.std.specs.Prelude.{◌≡◌, ◌<◌, ◌≤◌, codes, map, is_some, IfOk, length};
+ghost use Rattle.std.specs.Prelude.{◌≡◌, ◌<◌, ◌≤◌, ◌++◌, codes, map, Some, is_some, IfOk, length};
 ghost use Rattle.std.specs.List.{list_all, count_by};
 ghost use Rattle.serde_json.specs.Find.{get, as_object};
 ghost use Rattle.serde_json.specs.Events.{items_len};
@@ -199,21 +199,36 @@ pub fn has_names(value: &Value, names: &[&str], optional: &[&str]) -> bool
     name_count(value) == count && are_given(value, names)
 }
 
-/// The names of a step.
-pub fn step_names(value: &Value, names: &[&str], optional: &[&str], step: u32) -> Result<(), Rule>
-    ensures { result ≡ names_of step (map (λ name. name.now) names.now) (map (λ name. name.now) optional.now) (view value.now) }
+/// Whether the value is an object with all of the names, and no others but the optional ones and some more.
+#[tactic(auto, using(crate::proofs::Names::more_names))]
+fn has_names_of(value: &Value, names: &[&str], optional: &[&str], more: &[&str]) -> bool
+    ensures { result ≡ has_names (map (λ name. name.now) names.now) (map (λ name. name.now) optional.now ++ map (λ name. name.now) more.now) (view value.now) }
 {
-    if has_names(value, names, optional) {
+    let known = names.len() + (given_count(value, optional) + given_count(value, more));
+    name_count(value) == known && are_given(value, names)
+}
+
+/// The names of a step. The optional ones are in two lists.
+pub fn step_names(
+    value: &Value,
+    names: &[&str],
+    optional: &[&str],
+    more: &[&str],
+    step: u32,
+) -> Result<(), Rule>
+    ensures { result ≡ names_of step (map (λ name. name.now) names.now) (map (λ name. name.now) optional.now ++ map (λ name. name.now) more.now) (view value.now) }
+{
+    if has_names_of(value, names, optional, more) {
         Ok(())
     } else {
         Err(Rule { step, number: 6 })
     }
 }
 
-fn array<'v>(value: &'v Value, name: &str, rule: Rule) -> Result<&'v Vec<Value>, Rule>
-    ensures { Finds (λ list. items_view list.now.items) result (array_of rule (get name.now (view value.now))) }
+fn array<'v>(value: &'v Value, rule: Rule) -> Result<&'v Vec<Value>, Rule>
+    ensures { Finds (λ list. items_view list.now.items) result (array_of rule (Some (view value.now))) }
 {
-    match value.get(name).and_then(Value::as_array) {
+    match value.as_array() {
         Some(list) => Ok(list),
         None => Err(rule),
     }
@@ -224,6 +239,25 @@ fn item_count(list: &[Value]) -> usize
     ensures value { result ≡ items_len (items_view list.now) }
 {
     list.len()
+}
+
+/// The value as a list, if it is one and has so many items.
+pub fn listed<'v>(
+    value: &'v Value,
+    low: usize,
+    high: usize,
+    rule: Rule,
+) -> Result<&'v [Value], Rule>
+    ensures items { Finds (λ list. items_view list.now) result (list_of rule low high (Some (view value.now))) }
+    ensures bounds { IfOk result (λ list. (low ≤ length list.now) × (length list.now ≤ high)) }
+{
+    let list = array(value, rule)?.as_slice();
+    let count = item_count(list);
+    if low <= count && count <= high {
+        Ok(list)
+    } else {
+        Err(rule)
+    }
 }
 
 /// The list under a name, if it has so many items.
@@ -237,12 +271,9 @@ pub fn list<'v>(
     ensures items { Finds (λ list. items_view list.now) result (list_of rule low high (get name.now (view value.now))) }
     ensures bounds { IfOk result (λ list. (low ≤ length list.now) × (length list.now ≤ high)) }
 {
-    let list = array(value, name, rule)?.as_slice();
-    let count = item_count(list);
-    if low <= count && count <= high {
-        Ok(list)
-    } else {
-        Err(rule)
+    match value.get(name) {
+        Some(field) => listed(field, low, high, rule),
+        None => Err(rule),
     }
 }
 

@@ -1,4 +1,4 @@
-ghost use Rattle.std.specs.Prelude.{◌≡◌, [], ◌∷◌, codes, IfOk};
+ghost use Rattle.std.specs.Prelude.{◌≡◌, ◌∷◌, codes, map, IfOk};
 ghost use Rattle.serde_json.specs.View.{view};
 ghost use Rattle.rd_script.specs.Fields.{names_of, Gives};
 ghost use Rattle.rd_script.specs.Operations.{op_named, update_names, element_of, assign_of, op_of};
@@ -38,27 +38,35 @@ pub fn op_named(name: &str) -> Option<OpName>
 }
 
 /// The names of an update with this operation.
-pub fn update_names(value: &Value, form: OpName, step: u32) -> Result<(), Rule>
-    ensures { result ≡ names_of step (update_names form) (codes "level" ∷ []) (view value.now) }
+pub fn update_names(value: &Value, form: OpName, more: &[&str], step: u32) -> Result<(), Rule>
+    ensures { result ≡ names_of step (update_names form) (codes "level" ∷ map (λ name. name.now) more.now) (view value.now) }
 {
     match form {
         OpName::Increment | OpName::Decrement => {
-            step_names(value, &["at", "by", "do", "key", "op"], &["level"], step)
+            step_names(
+                value,
+                &["at", "by", "do", "key", "op"],
+                &["level"],
+                more,
+                step,
+            )
         }
         OpName::Add | OpName::Remove => {
             step_names(
                 value,
                 &["at", "do", "element", "key", "op"],
                 &["level"],
+                more,
                 step,
             )
         }
-        OpName::Enable => step_names(value, &["at", "do", "key", "op"], &["level"], step),
+        OpName::Enable => step_names(value, &["at", "do", "key", "op"], &["level"], more, step),
         OpName::Assign => {
             step_names(
                 value,
                 &["at", "do", "key", "now", "op", "text"],
                 &["level"],
+                more,
                 step,
             )
         }

@@ -2,15 +2,17 @@ ghost use Rattle.std.specs.Prelude.{◌≡◌, ◌≤◌, length, IfOk, IfErr};
 ghost use Rattle.serde_json.specs.Find.{get};
 ghost use Rattle.serde_json.specs.View.{view, items_view};
 ghost use Rattle.rd_script.specs.Fields.{Finds, Gives};
-ghost use Rattle.rd_script.specs.Reading.{step_list_of, script_of, Spells, Breaks, HasNoReading};
+ghost use Rattle.rd_script.specs.Reading.{step_list_of, opening_of, script_of, run_script_of, Reads, Spells, Breaks, SpellsRun, BreaksRun, HasNoReading};
 ghost use Rattle.rd_script.specs.Refusals.{MatchError};
-ghost use Rattle.rd_script.specs.WellFormed.{IsWellFormed};
+ghost use Rattle.rd_script.specs.WellFormed.{IsOpening, IsWellFormed, IsWellFormedRun};
 
+use crate::clients::RunScript;
 use crate::fault::{Fault, Rule};
 use crate::fields::{are_objects, has_names, list, whole};
 use crate::keys::all_keys;
-use crate::script::Script;
-use crate::steps::{MOST_STEPS, all_steps};
+use crate::script::{Script, ScriptKey};
+use crate::steps::{MOST_STEPS, all_run_steps, all_steps};
+use rd_bytes::Items;
 use serde_json::Value;
 use std::alloc::Global;
 
@@ -48,22 +50,76 @@ fn step_list<'v>(value: &'v Value) -> Result<&'v [Value], Rule>
     Ok(list)
 }
 
-#[tactic(auto, unfolding(crate::specs::Reading::script_of))]
-fn script(alloc: Global, value: &Value) -> Result<Script, Fault>
-    ensures value { Gives (λ s. s) result (script_of (view value.now)) }
-    ensures bounds { IfOk result IsWellFormed }
+/// How many members there are, and the keys.
+#[tactic(auto, unfolding(crate::specs::Reading::opening_of))]
+fn opening(alloc: Global, value: &Value) -> Result<(u8, Items<ScriptKey>), Fault>
+    ensures value { Gives (λ o. o) result (opening_of (view value.now)) }
+    ensures bounds { IfOk result IsOpening }
 {
     if !has_names(value, &["keys", "members", "steps"], &[]) {
         return Err(Fault::Breaks(NAMES));
     }
     let members = whole(value, "members", 1, MOST_MEMBERS, MEMBERS)? as u8;
     let keys = all_keys(alloc, list(value, "keys", 1, MOST_KEYS, KEYS)?)?;
+    Ok((members, keys))
+}
+
+#[tactic(auto, using(crate::proofs::Openings::script_opens))]
+fn script(alloc: Global, value: &Value) -> Result<Script, Fault>
+    ensures value { Gives (λ s. s) result (script_of (view value.now)) }
+    ensures bounds { IfOk result IsWellFormed }
+{
+    let (members, keys) = opening(alloc, value)?;
     let steps = all_steps(alloc, step_list(value)?)?;
     Ok(Script {
         members,
         keys,
         steps,
     })
+}
+
+#[tactic(auto, using(crate::proofs::Openings::run_script_opens))]
+fn run_script(alloc: Global, value: &Value) -> Result<RunScript, Fault>
+    ensures value { Gives (λ s. s) result (run_script_of (view value.now)) }
+    ensures bounds { IfOk result IsWellFormedRun }
+{
+    let (members, keys) = opening(alloc, value)?;
+    let steps = all_run_steps(alloc, step_list(value)?)?;
+    Ok(RunScript {
+        members,
+        keys,
+        steps,
+    })
+}
+
+/// The fault of a script, as it is told.
+impl From<Fault> for ScriptError {
+    ghost use Rattle.std.specs.Prelude.{◌≡◌};
+    ghost use Rattle.rd_script.specs.Refusals.{error_of};
+
+    ghost from_gives = { λ fault e. e ≡ error_of fault };
+
+    fn from(fault: Fault) -> ScriptError {
+        match fault {
+            Fault::Breaks(rule) => ScriptError::NotAScript {
+                step: rule.step,
+                rule: rule.number,
+            },
+            Fault::Memory => ScriptError::Memory,
+        }
+    }
+}
+
+/// The JSON value that the bytes are a text of.
+fn json(alloc: Global, bytes: &[u8]) -> Result<Value, ScriptError>
+    ensures value { IfOk result (λ value. Reads bytes.now (view value)) }
+    ensures refused { IfErr result (MatchError (HasNoReading bytes.now) (λ rule. ⊥)) }
+{
+    match Value::from_slice(alloc, bytes) {
+        Ok(value) => Ok(value),
+        Err(error) if error.is_memory() => Err(ScriptError::Memory),
+        Err(_) => Err(ScriptError::NotJson),
+    }
 }
 
 /// The script that the bytes spell.
@@ -77,21 +133,20 @@ pub fn read_script(alloc: Global, bytes: &[u8]) -> Result<Script, ScriptError>
     ensures bounds { IfOk result IsWellFormed }
     ensures refused { IfErr result (MatchError (HasNoReading bytes.now) (Breaks bytes.now)) }
 {
-    match Value::from_slice(alloc, bytes) {
-        Ok(value) => match script(alloc, &value) {
-            Ok(script) => Ok(script),
-            Err(Fault::Breaks(rule)) => Err(ScriptError::NotAScript {
-                step: rule.step,
-                rule: rule.number,
-            }),
-            Err(Fault::Memory) => Err(ScriptError::Memory),
-        },
-        Err(error) => {
-            if error.is_memory() {
-                Err(ScriptError::Memory)
-            } else {
-                Err(ScriptError::NotJson)
-            }
-        }
-    }
+    let value = json(alloc, bytes)?;
+    Ok(script(alloc, &value)?)
+}
+
+/// The script that the bytes spell, which may have clients.
+///
+/// # Errors
+///
+/// As of `read_script`.
+pub fn read_run_script(alloc: Global, bytes: &[u8]) -> Result<RunScript, ScriptError>
+    ensures script { IfOk result (SpellsRun bytes.now) }
+    ensures bounds { IfOk result IsWellFormedRun }
+    ensures refused { IfErr result (MatchError (HasNoReading bytes.now) (BreaksRun bytes.now)) }
+{
+    let value = json(alloc, bytes)?;
+    Ok(run_script(alloc, &value)?)
 }

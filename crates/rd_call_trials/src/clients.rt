@@ -1,0 +1,179 @@
+//! What is read of the clients of a script, and which rule is told first.
+
+use crate::scripts::{level_tail, link, operation_line, with_steps};
+use rd_script::{Command, Repeated, RunScript, RunStep, ScriptError, read_run_script, read_script};
+use std::alloc::Global;
+use std::test::Fail;
+
+// What is said of a script with this step, whether it may have clients or not.
+const REFUSED: &str = r#"6: {"do":"threads"}
+6: {"do":"threads","clients":[],"at":0}
+6: {"do":"threads","clients":[[{"do":"flush","at":0}]],"times":1}
+13: {"do":"threads","clients":[]}
+13: {"do":"threads","clients":{}}
+13: {"do":"threads","clients":null}
+13: {"do":"threads","clients":[[]]}
+13: {"do":"threads","clients":[{"do":"flush","at":0}]}
+13: {"do":"threads","clients":[[7]]}
+13: {"do":"threads","clients":[[{}]]}
+13: {"do":"threads","clients":[[{"do":7,"at":0}]]}
+13: {"do":"threads","clients":[[{"do":"round"}]]}
+13: {"do":"threads","clients":[[{"do":"deliver","from":0,"to":1}]]}
+13: {"do":"threads","clients":[[{"do":"lose","from":0,"to":1}]]}
+13: {"do":"threads","clients":[[{"do":"timeout","at":0,"op":0}]]}
+13: {"do":"threads","clients":[[{"do":"remove","id":0}]]}
+13: {"do":"threads","clients":[[{"do":"join","place":0}]]}
+13: {"do":"threads","clients":[[{"do":"restart","id":0}]]}
+13: {"do":"threads","clients":[[{"do":"settle"}]]}
+13: {"do":"threads","clients":[[{"do":"threads","clients":[[{"do":"flush","at":0}]]}]]}
+13: {"do":"threads","clients":[[{"do":"update","op":"set","at":0,"key":"n"}]]}
+13: {"do":"threads","clients":[[{"do":"flush"}]]}
+13: {"do":"threads","clients":[[{"do":"flush","at":0,"to":1}]]}
+13: {"do":"threads","clients":[[{"do":"flush","at":64}]]}
+13: {"do":"threads","clients":[[{"do":"gossip","at":0,"to":64}]]}
+13: {"do":"threads","clients":[[{"do":"install","at":0,"view":4294967296}]]}
+13: {"do":"threads","clients":[[{"do":"get","at":0,"key":"N"}]]}
+13: {"do":"threads","clients":[[{"do":"update","op":"add","at":0,"key":"n","element":7}]]}
+13: {"do":"threads","clients":[[{"do":"update","op":"increment","at":0,"key":"n","by":0}]]}
+13: {"do":"threads","clients":[[{"do":"update","op":"add","at":0,"key":"n","element":"0123456789abcdef0123456789abcdef0123456789abcdef0123456789abcdefx"}]]}
+13: {"do":"threads","clients":[[{"do":"get","at":0,"key":"n","level":"most"}]]}
+13: {"do":"threads","clients":[[{"do":"flush","at":0,"times":0}]]}
+13: {"do":"threads","clients":[[{"do":"flush","at":0,"times":1025}]]}
+13: {"do":"threads","clients":[[{"do":"flush","at":0,"times":4294967297}]]}
+13: {"do":"threads","clients":[[{"do":"flush","at":0,"times":1.0}]]}
+13: {"do":"threads","clients":[[{"do":"flush","at":0,"times":null}]]}
+13: {"do":"threads","clients":[[{"do":"flush","at":0,"times":1024},{"do":"flush","at":0}]]}
+13: {"do":"threads","clients":[[{"do":"flush","at":0}],[{"do":"flush","at":0,"times":512},{"do":"tick","at":0,"times":513}]]}
+13: {"do":"threads","clients":[[{"do":"flush","at":0}],[{"do":"flush","at":0}],[{"do":"flush","at":0}],[{"do":"flush","at":0}],[{"do":"flush","at":0}],[{"do":"flush","at":0}],[{"do":"flush","at":0}],[{"do":"flush","at":0}],[{"do":"flush","at":0}]]}"#;
+
+// A command as it is read, before the command.
+const COMMANDS: &str =
+    r#"update 63 n increment 9223372036854775807 times 1: {"at":63,"by":9223372036854775807,"do":"update","key":"n","op":"increment"}
+update 0 n add a majority 2 times 1024: {"at":0,"do":"update","element":"a","key":"n","level":{"majority":2},"op":"add","times":1024}
+update 0 n enable times 2: {"at":0,"do":"update","key":"n","op":"enable","times":2}
+update 0 n assign a now 7 times 1: {"at":0,"do":"update","key":"n","now":7,"op":"assign","text":"a","times":1}
+get 0 n all times 3: {"at":0,"do":"get","key":"n","level":"all","times":3}
+get 0 n times 1: {"at":0,"do":"get","key":"n"}
+flush 1 times 4: {"at":1,"do":"flush","times":4}
+gossip 1 2 times 5: {"at":1,"do":"gossip","times":5,"to":2}
+tick 1 times 6: {"at":1,"do":"tick","times":6}
+install 1 4294967295 times 7: {"at":1,"do":"install","times":7,"view":4294967295}"#;
+
+fn fault(alloc: Global, refused: Result<RunScript, ScriptError>) -> Result<String, Fail> {
+    let told = match refused {
+        Ok(_) => String::from_str(alloc, "read")?,
+        Err(ScriptError::NotAScript { step, rule }) => format!(in alloc;
+            "step {step} rule {rule}"
+        )?,
+        Err(ScriptError::NotJson) => String::from_str(alloc, "not json")?,
+        Err(ScriptError::Memory) => String::from_str(alloc, "memory")?,
+    };
+    Ok(told)
+}
+
+fn command_line(alloc: Global, command: &Command) -> Result<String, Fail> {
+    let line = match command {
+        Command::Update { at, key, op, level } => {
+            let op = operation_line(alloc, op)?;
+            let level = level_tail(alloc, *level)?;
+            format!(in alloc; "update {} {} {op}{level}", at.number(), key.as_str())?
+        }
+        Command::Get { at, key, level } => {
+            let level = level_tail(alloc, *level)?;
+            format!(in alloc; "get {} {}{level}", at.number(), key.as_str())?
+        }
+        Command::Flush { at } => format!(in alloc; "flush {}", at.number())?,
+        Command::Gossip { at, to } => {
+            let link = link(alloc, *at, *to)?;
+            format!(in alloc; "gossip {link}")?
+        }
+        Command::Tick { at } => format!(in alloc; "tick {}", at.number())?,
+        Command::Install { at, view } => format!(in alloc; "install {} {view}", at.number())?,
+    };
+    Ok(line)
+}
+
+fn line(alloc: Global, repeated: &Repeated) -> Result<String, Fail> {
+    let command = command_line(alloc, &repeated.command)?;
+    let line = format!(in alloc; "{command} times {}", repeated.times)?;
+    Ok(line)
+}
+
+#[test]
+fn refuses_clients_that_break_a_rule(rt: HostRuntime) -> Result<(), Fail> {
+    let alloc = rt.alloc();
+    for (rule, step) in REFUSED.lines().filter_map(|row| row.split_once(": ")) {
+        let steps = format!(in alloc; "{{\"do\":\"round\"}},{step},{{}}")?;
+        let text = with_steps(alloc, steps.as_str())?;
+        let want = format!(in alloc; "step 2 rule {rule}")?;
+        let told = fault(alloc, read_run_script(alloc, text.as_bytes()))?;
+        assert_eq!(rt; told.as_str(), want.as_str(), "at {step}");
+        let plainly = match read_script(alloc, text.as_bytes()) {
+            Err(ScriptError::NotAScript { step, rule }) => format!(in alloc;
+                "step {step} rule {rule}"
+            )?,
+            _ => String::new(alloc),
+        };
+        assert_eq!(rt; plainly.as_str(), want.as_str(), "at {step}");
+    }
+    Ok(())
+}
+
+#[test]
+fn reads_each_command(rt: HostRuntime) -> Result<(), Fail> {
+    let alloc = rt.alloc();
+    for (want, command) in COMMANDS.lines().filter_map(|row| row.split_once(": ")) {
+        let step = format!(in alloc; "{{\"do\":\"threads\",\"clients\":[[{command}]]}}")?;
+        let text = with_steps(alloc, step.as_str())?;
+        let script = read_run_script(alloc, text.as_bytes())?;
+        assert_eq!(rt; script.steps.len(), 1, "at {command}");
+        for step in script.steps.as_slice() {
+            let RunStep::Threads { clients } = step else {
+                continue;
+            };
+            for repeated in clients
+                .as_slice()
+                .iter()
+                .flat_map(|client| client.as_slice())
+            {
+                let line = line(alloc, repeated)?;
+                assert_eq!(rt; line.as_str(), want);
+            }
+        }
+    }
+    Ok(())
+}
+
+#[test]
+fn reads_clients_among_plain_steps(rt: HostRuntime) -> Result<(), Fail> {
+    let alloc = rt.alloc();
+    let steps =
+        r#"{"do":"round"},{"do":"threads","clients":[[{"do":"flush","at":0,"times":2},{"do":"tick","at":1}],[{"do":"gossip","at":1,"to":0}]]},{"do":"settle"}"#;
+    let text = with_steps(alloc, steps)?;
+    let script = read_run_script(alloc, text.as_bytes())?;
+    let mut told = String::new(alloc);
+    for step in script.steps.as_slice() {
+        match step {
+            RunStep::Plain(_) => told.push_str("plain\n")?,
+            RunStep::Threads { clients } => {
+                for client in clients.as_slice() {
+                    told.push_str("client")?;
+                    for repeated in client.as_slice() {
+                        let line = line(alloc, repeated)?;
+                        write!(told, " {line}")?;
+                    }
+                    told.push_str("\n")?;
+                }
+            }
+        }
+    }
+    assert_eq!(rt;
+        told.as_str(),
+        "plain\nclient flush 0 times 2 tick 1 times 1\nclient gossip 1 0 times 1\nplain\n"
+    );
+    let told = fault(alloc, read_run_script(alloc, b"[]"))?;
+    assert_eq!(rt; told.as_str(), "step 0 rule 1");
+    let told = fault(alloc, read_run_script(alloc, b"["))?;
+    assert_eq!(rt; told.as_str(), "not json");
+    Ok(())
+}
