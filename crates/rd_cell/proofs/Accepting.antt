@@ -132,6 +132,10 @@ module _ {M I F O R : Type 0} where
 
   pub rises_more : (h : List (Entry M I F O R)) (e : Entry M I F O R) (clock : ℕ) → Rises h → ((i : ℕ) (x : Entry M I F O R) → slice_get h i ≡ Some x → x.stamp ≤ clock) → clock < e.stamp → Rises (h ++ e ∷ [])
   rises_more h e clock rises below above = record {
+    above = λ i x at_i. ⊎_elim
+        (λ t. rises.above i x t.0)
+        (λ t. let k = ap (λ (z : Entry M I F O R). z.stamp) t.0 in omega arith)
+        (get_pushed h e i x at_i);
     rising = λ i j x y lt at_i at_j.
         ⊎_elim
         (λ t. ⊎_elim

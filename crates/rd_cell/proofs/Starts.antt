@@ -61,7 +61,7 @@ module _ {M I F O R : Type 0} where
         timed = untimed me.0.known opens.known;
         whole = ap (λ hs. at hs p) opens.known;
         few = omega arith;
-        rises = record { rising = λ i j e f lt at_i at_j. absurd (cc) };
+        rises = record { above = λ i e at_i. absurd (cc); rising = λ i j e f lt at_i at_j. absurd (cc) };
         replayed = record {
           opening = key;
           start = machine;

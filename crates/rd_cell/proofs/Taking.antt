@@ -64,7 +64,7 @@ module _ {M I F O R : Type 0} (meaning : Ghosts M I F O R) (key : Opening M I F 
         ends = record {
           replay = λ m starts. absurd (cc (starts, none));
           none = λ _. (refl, empty);
-          rises = subst Rises (sym empty) (record { rising = λ i j e f lt at_i at_j. absurd (cc) });
+          rises = subst Rises (sym empty) (record { above = λ i e at_i. absurd (cc); rising = λ i j e f lt at_i at_j. absurd (cc) });
         };
         places = sym (append-nil v.places) ∙ ap (λ ps. v.places ++ ps) (sym nothing);
         clients = refl;
@@ -154,7 +154,7 @@ module _ {M I F O R : Type 0} (meaning : Ghosts M I F O R) (key : Opening M I F 
   replayed_all v taken = record { each = λ p. dite (dec_lt p 8) (λ lt. taken.ends p lt) (λ ge. beyond p (λ lt. ge lt)) }
     where
       beyond : (q : ℕ) → ¬ (q < 8) → EndsAt meaning (machine_at key.machines q) (machine_at machines q) (history_at histories q)
-      beyond (suc (suc (suc (suc (suc (suc (suc (suc q)))))))) ge = record { replay = λ m is. absurd (cc (is)); none = λ _. (refl, refl); rises = record { rising = λ i j e f lt at_i at_j. absurd (cc) } }
+      beyond (suc (suc (suc (suc (suc (suc (suc (suc q)))))))) ge = record { replay = λ m is. absurd (cc (is)); none = λ _. (refl, refl); rises = record { above = λ i e at_i. absurd (cc); rising = λ i j e f lt at_i at_j. absurd (cc) } }
       beyond _ ge = absurd (ge (omega arith))
 
   -- the seat that is left, with all places and clients

@@ -15,6 +15,7 @@ module _ {M I F O R : Type 0} where
     pub at_most : stamp ≤ total known
     pub bound : total known ≤ 8 * most
 
-  -- stamps rise along a history
+  -- stamps rise along a history, from 1 on
   pub record Rises (history : List (Entry M I F O R)) : Type 0 where
+    pub above : (i : ℕ) (e : Entry M I F O R) → slice_get history i ≡ Some e → 0 < e.stamp
     pub rising : (i j : ℕ) (e f : Entry M I F O R) → i < j → slice_get history i ≡ Some e → slice_get history j ≡ Some f → e.stamp < f.stamp

@@ -1,0 +1,9 @@
+pub mod Passing
+pub mod Knowing
+pub mod Meeting
+pub mod Turning
+pub mod Places
+pub mod Sites
+pub mod Opening
+pub mod Messages
+pub mod Refusals
