@@ -1,3 +1,4 @@
+pub mod ClientsTold
 pub mod Composed
 pub mod FinalBlocks
 pub mod Foretold
@@ -8,6 +9,9 @@ pub mod NamedKinds
 pub mod Orders
 pub mod Runs
 pub mod SameAnswers
+pub mod SectionEnds
+pub mod SectionRuns
+pub mod SectionStages
 pub mod Stages
 pub mod StepTexts
 pub mod Told

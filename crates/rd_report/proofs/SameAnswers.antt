@@ -10,16 +10,14 @@ use Rattle.rd_model.specs.Node.{Fate, Input}
 use Rattle.rd_model.specs.Node.Fate.{NoStore, Stored, StoreFailed}
 use Rattle.rd_model.specs.Step.{is_full}
 use Rattle.rd_model.specs.World.{Event, Turn, turn_of, output_of, message_at, stores, views_of}
-use Rattle.rd_model.specs.Script.{KeeperAnswers, Playing, Head, Answer, Due, did, told, with_call, next_answer, output_lines, take_turn, given, deliver, deliver_due, due_now, round_of, lose, remove, called, join, restart, install, last_number, has_met_full, posted, unless_full, deliver_last, exchange, sweep, tick, is_older, install_last, settle, played, played_all}
+use Rattle.rd_model.specs.Script.{KeeperAnswers, Playing, ScriptStep, Head, Answer, Due, did, told, with_call, next_answer, output_lines, take_turn, given, deliver, deliver_due, due_now, round_of, lose, remove, called, join, restart, install, last_number, has_met_full, posted, unless_full, deliver_last, exchange, sweep, tick, is_older, install_last, settle, played, played_all}
 use Rattle.rd_runs.proofs.Keeping.{if_holds, fold_all}
 use Rattle.rd_kinds.specs.declared.operation.Op.{Op}
-use Rattle.rd_quorum.specs.Levels.{level_meant}
 use Rattle.rd_script.specs.declared.script.Step.{Step}
-use Rattle.rd_script.specs.declared.script.Step.TheVariants as form
 use Rattle.rd_world.specs.Steps.{step_of}
 
 module _ {Kind Shown : Type 0} (D : Replication Kind Op Shown) (answers : KeeperAnswers) where
-  abbrev Has : Playing Kind Op Shown → Type 0
+  abbrev pub Has : Playing Kind Op Shown → Type 0
   Has p = p.answers ≡ answers
 
   turn_has : (p : Playing Kind Op Shown) (h : Head Op) (event : Fate → Event Op) (turn : Turn Kind Op Shown) → Has p → Has (take_turn D p h event turn)
@@ -119,28 +117,28 @@ module _ {Kind Shown : Type 0} (D : Replication Kind Op Shown) (answers : Keeper
       let has_pruned = tick_has twice (sweep_has (sweep D installed) (sweep_has installed has_installed)) in
       sweep_has (tick D swept) (tick_has swept (sweep_has pruned has_pruned))
 
-  step_has : (p : Playing Kind Op Shown) (step : Step) → Has p → Has (played D p (step_of step))
-  step_has p (form.Update at key op level) has = given_has p (Head.UpdateHead at key) (Event.InputAt at (Input.Update key op (level_meant level))) has
-  step_has p (form.Get at key level) has = given_has p (Head.GetHead at key) (Event.InputAt at (Input.Get key (level_meant level))) has
-  step_has p (form.Flush at) has = given_has p (Head.FlushHead at) (Event.InputAt at Input.Flush) has
-  step_has p (form.Gossip at to) has = given_has p (Head.GossipHead at to) (Event.InputAt at (Input.GossipTo to)) has
-  step_has p (form.Deliver from to None) has = deliver_has p from to (p.world.links from to).next has
-  step_has p (form.Deliver from to (Some index)) has = deliver_has p from to index has
-  step_has p (form.Lose from to) has = lose_has p from to has
-  step_has p form.Round has = round_has p (due_now D p) has
-  step_has p (form.Tick at) has = given_has p (Head.TickHead at) (Event.InputAt at Input.PruneTick) has
-  step_has p (form.Timeout at op) has = given_has p (Head.TimeoutHead at op) (Event.InputAt at (Input.Timeout op)) has
-  step_has p (form.Remove id) has = remove_has p id has
-  step_has p (form.Join place) has = join_has p place has
-  step_has p (form.Restart id) has = restart_has p id has
-  step_has p (form.Install at view) has = install_has p at view has
-  step_has p form.Settle has = settle_has p has
+  pub step_has : (p : Playing Kind Op Shown) (step : ScriptStep Op) → Has p → Has (played D p step)
+  step_has p (ScriptStep.Update at key op level) has = given_has p (Head.UpdateHead at key) (Event.InputAt at (Input.Update key op level)) has
+  step_has p (ScriptStep.Get at key level) has = given_has p (Head.GetHead at key) (Event.InputAt at (Input.Get key level)) has
+  step_has p (ScriptStep.Flush at) has = given_has p (Head.FlushHead at) (Event.InputAt at Input.Flush) has
+  step_has p (ScriptStep.Gossip at to) has = given_has p (Head.GossipHead at to) (Event.InputAt at (Input.GossipTo to)) has
+  step_has p (ScriptStep.Deliver from to None) has = deliver_has p from to (p.world.links from to).next has
+  step_has p (ScriptStep.Deliver from to (Some index)) has = deliver_has p from to index has
+  step_has p (ScriptStep.Lose from to) has = lose_has p from to has
+  step_has p ScriptStep.Round has = round_has p (due_now D p) has
+  step_has p (ScriptStep.Tick at) has = given_has p (Head.TickHead at) (Event.InputAt at Input.PruneTick) has
+  step_has p (ScriptStep.Timeout at op) has = given_has p (Head.TimeoutHead at op) (Event.InputAt at (Input.Timeout op)) has
+  step_has p (ScriptStep.Remove id) has = remove_has p id has
+  step_has p (ScriptStep.Join place) has = join_has p place has
+  step_has p (ScriptStep.Restart id) has = restart_has p id has
+  step_has p (ScriptStep.Install at view) has = install_has p at view has
+  step_has p ScriptStep.Settle has = settle_has p has
 
-  all_have : (p : Playing Kind Op Shown) (steps : List Step) → Has p → Has (played_all D p (map step_of steps))
+  all_have : (p : Playing Kind Op Shown) (steps : List (ScriptStep Op)) → Has p → Has (played_all D p steps)
   all_have p [] has = has
-  all_have p (step ∷ steps) has = all_have (record (played D p (step_of step)) { lines = [] }) steps (step_has p step has)
+  all_have p (step ∷ steps) has = all_have (record (played D p step) { lines = [] }) steps (step_has p step has)
 
 module _ {Kind Shown : Type 0} (D : Replication Kind Op Shown) where
   -- a script's answers are those that it began with
   pub same_answers : (p : Playing Kind Op Shown) (steps : List Step) → (played_all D p (map step_of steps)).answers ≡ p.answers
-  same_answers p steps = all_have D p.answers p steps refl
+  same_answers p steps = all_have D p.answers p (map step_of steps) refl

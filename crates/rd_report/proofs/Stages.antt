@@ -41,23 +41,23 @@ use Rattle.rd_report.proofs.Told.{lines_told}
 -- LISTS
 
 module _ {X : Type 0} (P : X → Type 0) where
-  all_front : (xs ys : List X) → All P (xs ++ ys) → All P xs
+  pub all_front : (xs ys : List X) → All P (xs ++ ys) → All P xs
   all_front xs ys all k d less =
       let longer : k < length (xs ++ ys) = let n = length-append xs ys in omega (arith, n, less) in
       subst P (get_or_append_left xs ys d k less) (all k d longer)
 
-  all_last : (xs : List X) (y : X) → All P (xs ++ y ∷ []) → P y
+  pub all_last : (xs : List X) (y : X) → All P (xs ++ y ∷ []) → P y
   all_last xs y all =
       let longer : length xs + 0 < length (xs ++ y ∷ []) = let n = length-append xs (y ∷ []) in omega (arith, n) in
       subst P (get_or-append-add xs (y ∷ []) 0 y) (all (length xs + 0) y longer)
 
-  all_more : (xs : List X) (y : X) → All P xs → P y → All P (xs ++ y ∷ [])
+  pub all_more : (xs : List X) (y : X) → All P xs → P y → All P (xs ++ y ∷ [])
   all_more [] y all here zero d less = here
   all_more [] y all here (suc k) d less = absurd (omega (arith, less))
   all_more (x ∷ xs) y all here zero d less = all zero d (omega arith)
   all_more (x ∷ xs) y all here (suc k) d less = all_more xs y (λ k d less. all (suc k) d (omega (arith, less))) here k d (omega (arith, less))
 
-  all_cons : (x : X) (xs : List X) → P x → All P xs → All P (x ∷ xs)
+  pub all_cons : (x : X) (xs : List X) → P x → All P xs → All P (x ∷ xs)
   all_cons x xs here all zero d less = here
   all_cons x xs here all (suc k) d less = all k d (omega (arith, less))
 
@@ -102,7 +102,7 @@ silent D p (step ∷ steps) h = silent D (after D p step) steps refl
 -- WHAT A STEP LOADS
 
 module _ {T K Delta : Type 0} {ghosts : Ghosts T Kind Op Delta} {keeping : Keeping K} where
-  loads_told : (spelling : Spelling T Kind Op Delta) (step : Step) (world : World T K Kind Op Delta ghosts keeping) → AllTell world → LoadsWhatItTook spelling step world
+  pub loads_told : (spelling : Spelling T Kind Op Delta) (step : Step) (world : World T K Kind Op Delta ghosts keeping) → AllTell world → LoadsWhatItTook spelling step world
   loads_told spelling (form.Update at key op level) world tell = tt
   loads_told spelling (form.Get at key level) world tell = tt
   loads_told spelling (form.Flush at) world tell = tt
@@ -118,7 +118,7 @@ module _ {T K Delta : Type 0} {ghosts : Ghosts T Kind Op Delta} {keeping : Keepi
   loads_told spelling (form.Install at view) world tell = tt
   loads_told spelling form.Settle world tell = tt
 
-  loads_nothing : (spelling : Spelling T Kind Op Delta) (step : Step) (world : World T K Kind Op Delta ghosts keeping) → IsNoRestart step → LoadsWhatItTook spelling step world
+  pub loads_nothing : (spelling : Spelling T Kind Op Delta) (step : Step) (world : World T K Kind Op Delta ghosts keeping) → IsNoRestart step → LoadsWhatItTook spelling step world
   loads_nothing spelling (form.Update at key op level) world calm = tt
   loads_nothing spelling (form.Get at key level) world calm = tt
   loads_nothing spelling (form.Flush at) world calm = tt
@@ -180,7 +180,7 @@ module _ {T K Delta : Type 0} {ghosts : Ghosts T Kind Op Delta} {keeping : Keepi
       is_kept_further keeping (given place) (keeper_of old.nodes.items old.spare.items place) (keeper_of mid.nodes.items mid.spare.items place) (keeper_of new.nodes.items new.spare.items place) (kept place) (further place)
 
   -- lines are no part of what a world means
-  means_silent : (kinds : Text → Kind) (members : ℕ) (decls : List (KeyDecl Kind)) (p : Playing Kind Op Shown) (world : World T K Kind Op Delta ghosts keeping) → Means spelling kinds members decls p world → Means spelling kinds members decls (record p { lines = [] }) world
+  pub means_silent : (kinds : Text → Kind) (members : ℕ) (decls : List (KeyDecl Kind)) (p : Playing Kind Op Shown) (world : World T K Kind Op Delta ghosts keeping) → Means spelling kinds members decls p world → Means spelling kinds members decls (record p { lines = [] }) world
   means_silent kinds members decls p world means = record { run = means.run; stands = λ logs all. means.stands logs (record { histories = all.histories; logged = all.logged }) }
 
   module _ (begins tells : Playing Kind Op Shown → List Step → List ℕ → Type 0) where

@@ -29,10 +29,10 @@ use Rattle.rd_report.specs.Lines.{sketch_text, delivered_words, head_words, outc
 -- WORDS
 
 -- a word after a space
-abbrev spaced : Text → Text
+abbrev pub spaced : Text → Text
 spaced word = 32 ∷ word
 
-words_spaced : (w : Text) (ws : List Text) → words (w ∷ ws) ≡ w ++ flat_map spaced ws
+pub words_spaced : (w : Text) (ws : List Text) → words (w ∷ ws) ≡ w ++ flat_map spaced ws
 words_spaced w [] = sym (append-nil w)
 words_spaced w (v ∷ ws) = ap (λ t. w ++ (32 ∷ t)) (words_spaced v ws)
 
@@ -52,14 +52,14 @@ regroup : (a b c d : Text) (x y : ℕ) → a ++ (x ∷ []) ++ b ++ (y ∷ []) ++
 regroup a b c d x y = simp append_assoc
 
 -- an operation that ended is told by three words
-finished_told : (finished : Option Finished) → finished_text finished ≡ flat_map spaced (report.ended_words shown_text (option_map finished_meant finished))
+pub finished_told : (finished : Option Finished) → finished_text finished ≡ flat_map spaced (report.ended_words shown_text (option_map finished_meant finished))
 finished_told None = refl
 finished_told (Some finished) =
     let op = decimal finished.op in
     let result = report.result_text shown_text (result_meant finished.result) in
     ap (λ t. codes " finished " ++ t) (append_assoc op (codes " ") result ∙ ap (λ t. op ++ (32 ∷ t)) (sym (append-nil result)))
 
-answer_told : (a : Answer) (told : script.Answer Shown) → IsAnswer a told → answer_text a ≡ report.answer_text shown_text told
+pub answer_told : (a : Answer) (told : script.Answer Shown) → IsAnswer a told → answer_text a ≡ report.answer_text shown_text told
 answer_told (answer.Reply reply) told is = sym (ap (report.answer_text shown_text) is)
 answer_told answer.Gone told is = sym (ap (report.answer_text shown_text) is)
 answer_told answer.HistoryFull told is = sym (ap (report.answer_text shown_text) is)
@@ -94,7 +94,7 @@ module _ {Op : Type 0} where
   delivered_told None = refl
   delivered_told (Some message) = ap (λ t. t ∷ []) (sketch_told message)
 
-  head_told : (h : Head) (told : script.Head Op) → IsHead h told → head_words h ≡ report.head_words told
+  pub head_told : (h : Head) (told : script.Head Op) → IsHead h told → head_words h ≡ report.head_words told
   head_told (head.Update at key) told is = sym (ap report.head_words is)
   head_told (head.Get at key) told is = sym (ap report.head_words is)
   head_told (head.Flush at) told is = sym (ap report.head_words is)
@@ -118,7 +118,7 @@ module _ {Op : Type 0} where
   posts_told [] = refl
   posts_told (post ∷ posts) = ap₂ (λ (a b : Text). a ++ b) (post_told post) (posts_told posts)
 
-  sent_told : (posts : List (model.Post Op)) → sent_text (map sketched_post posts) ≡ flat_map spaced (post_words posts)
+  pub sent_told : (posts : List (model.Post Op)) → sent_text (map sketched_post posts) ≡ flat_map spaced (post_words posts)
   sent_told [] = refl
   sent_told (post ∷ posts) = ap (λ t. codes " sent" ++ t) (posts_told (post ∷ posts))
 
@@ -138,7 +138,7 @@ module _ {Op : Type 0} where
   some_head (script.Head.InstallHead i view) = omega arith
   some_head script.Head.SettleHead = omega arith
 
-  head_spaced : (h : script.Head Op) → 32 ∷ words (report.head_words h) ≡ flat_map spaced (report.head_words h)
+  pub head_spaced : (h : script.Head Op) → 32 ∷ words (report.head_words h) ≡ flat_map spaced (report.head_words h)
   head_spaced h = some_spaced (report.head_words h) (some_head h)
 
   -- a line of words

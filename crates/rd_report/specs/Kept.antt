@@ -78,17 +78,17 @@ module _ (data_type : DataType Kind Op Shown) (byte_of : Kind → ℕ) (history_
   abbrev pub IsSummaryOver : Script → List K → List K → List ℕ → Type 0
   IsSummaryOver = IsRunOver (λ answers script text. Unit {0}) (IsSummary data_type byte_of history_spelled)
 
-module _ {K : Type 0} (keeping : Keeping K) (IsOver : Script → List K → List K → List ℕ → Type 0) where
+module _ {S K : Type 0} (keeping : Keeping K) (IsOver : S → List K → List K → List ℕ → Type 0) where
   -- how a script's run ended, where this is said of its text
-  abbrev pub EndsSo : Ending → Script → List K → List K → Type 0
+  abbrev pub EndsSo : Ending → S → List K → List K → Type 0
   EndsSo (Told text) script old new = IsOver script old new (string_bytes text)
   EndsSo (NotCleared place) script old new = IsNotCleared keeping place old new
   EndsSo Memory script old new = Unit {0}
 
-  pub record IsPlayed (script : Script) (old new : List K) (end : Ending) : Type 0 where
+  pub record IsPlayed (script : S) (old new : List K) (end : Ending) : Type 0 where
     pub ends : EndsSo end script old new
     pub kept : AreKept keeping old new
 
--- it ended before its first step
-abbrev pub IsUnplayed : {K : Type 0} → Keeping K → Script → List K → List K → Ending → Type 0
-IsUnplayed keeping = IsPlayed keeping (λ script old new text. ⊥)
+-- it ended before its first step, whatever its steps are
+abbrev pub IsUnplayed : {K : Type 0} → Keeping K → List K → List K → Ending → Type 0
+IsUnplayed keeping = IsPlayed keeping (λ (steps : Unit {0}) old new text. ⊥) tt

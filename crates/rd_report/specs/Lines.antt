@@ -11,6 +11,9 @@ use Rattle.rd_node.specs.declared.outcome.KeyOutcome.{KeyOutcome}
 use Rattle.rd_node.specs.Members.{meant}
 use Rattle.rd_node.specs.Operations.{result_meant}
 use Rattle.rd_node.specs.Replies.{meant_at_key}
+use Rattle.rd_world.specs.declared.client_line.ClientLine.{ClientLine}
+use Rattle.rd_world.specs.declared.client_line.Ended.{Ended}
+use Rattle.rd_world.specs.declared.client_line.Ended.TheVariants as ended
 use Rattle.rd_world.specs.declared.event.Answer.{Answer}
 use Rattle.rd_world.specs.declared.event.Answer.TheVariants as answer
 use Rattle.rd_world.specs.declared.event.Event.{Event}
@@ -97,3 +100,19 @@ tails_text event = sent_text event.sent ++ finished_text event.finished
 -- the line of an event of a step
 abbrev pub event_text : ℕ → Event → Text
 event_text n event = line_of (decimal n ++ codes " " ++ words (head_words event.head) ++ codes " " ++ answer_text event.answer ++ tails_text event)
+
+-- how the operation ended that a client's command opened, if it opened one
+abbrev pub ending_text : Option Ended → Text
+ending_text None = []
+ending_text (Some (ended.Finished finished)) = finished_text (Some finished)
+ending_text (Some (ended.TimedOut op)) = codes " finished " ++ decimal op ++ codes " timed out"
+ending_text (Some (ended.LeftOpen op)) = codes " open " ++ decimal op
+
+-- what a client's command sent, and how its operation ended
+abbrev pub client_tails_text : ClientLine → Text
+client_tails_text line = sent_text line.sent ++ ending_text line.ended
+
+-- the line of a client's command in a step
+abbrev pub client_line_text : ℕ → ClientLine → Text
+client_line_text n line =
+    line_of (decimal n ++ codes " client " ++ decimal line.client ++ codes " " ++ words (head_words line.head) ++ codes " " ++ answer_text line.answer ++ client_tails_text line)

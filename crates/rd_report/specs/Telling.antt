@@ -19,7 +19,7 @@ use Rattle.rd_keeper.specs.declared.keeper.Keeper.{Ghosts as Keeping}
 use Rattle.rd_node.specs.declared.key.KeyDecl as declared_key
 use Rattle.rd_node.specs.Members.{declared}
 use Rattle.rd_node.specs.Steps.{replication}
-use Rattle.rd_script.specs.declared.script.Script.{Script}
+use Rattle.rd_script.specs.declared.script.ScriptKey.{ScriptKey}
 use Rattle.rd_script.specs.declared.script.Step.{Step}
 use Rattle.rd_world.specs.declared.world.World.{World}
 use Rattle.rd_world.specs.Places.{keeper_of}
@@ -95,8 +95,8 @@ module _ {T K Delta : Type 0} {ghosts : Ghosts T Kind Op Delta} {keeping : Keepi
   abbrev pub TellsEnd : List Step → World T K Kind Op Delta ghosts keeping → World T K Kind Op Delta ghosts keeping → List ℕ → Type 0
   TellsEnd = TellsRun Anything (λ p steps text. text ≡ end_text (replication ghosts spelling) p steps)
 
-  -- the world is the first of a script
-  pub record Opens (script : Script) (keepers : List K) (world : World T K Kind Op Delta ghosts keeping) : Type 0 where
+  -- the world is the first of a script with these members and keys
+  pub record Opens (members : ℕ) (script_keys : List ScriptKey) (keepers : List K) (world : World T K Kind Op Delta ghosts keeping) : Type 0 where
     pub keys : List (declared_key.KeyDecl T Kind Op Delta)
-    pub made : map declared keys ≡ map decl_of (in_order script.keys)
-    pub starts : Starts spelling script.members keys keepers world
+    pub made : map declared keys ≡ map decl_of (in_order script_keys)
+    pub starts : Starts spelling members keys keepers world

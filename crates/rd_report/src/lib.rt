@@ -3,9 +3,13 @@
 
 mod laws;
 mod lines;
+#[cfg(test)]
+mod lines_tests;
 mod members;
 mod order;
 mod playing;
+mod sections;
 
 pub use laws::keys_rise;
 pub use playing::{Ending, Played, report, summary};
+pub use sections::{PlaysThreads, report_with_clients};

@@ -1,14 +1,14 @@
-ghost use Rattle.std.specs.Prelude.{◌≡◌, ◌∷◌, ◌++◌, map, flat_map, string_bytes, OnOk};
+ghost use Rattle.std.specs.Prelude.{◌≡◌, ◌∷◌, ◌++◌, map, flat_map, string_bytes, OnOk, Some};
 ghost use Rattle.rd_model.specs.Report.{words, reply_text, key_outcome_text};
 ghost use Rattle.rd_kinds.specs.ShownText.{shown_text};
 ghost use Rattle.rd_node.specs.Members.{meant};
 ghost use Rattle.rd_node.specs.Replies.{meant_at_key};
-ghost use Rattle.rd_report.specs.Lines.{sketch_text, outcome_text, head_words, answer_text, sent_text, finished_text, tails_text, event_text};
+ghost use Rattle.rd_report.specs.Lines.{sketch_text, outcome_text, head_words, answer_text, sent_text, finished_text, tails_text, event_text, ending_text, client_tails_text, client_line_text};
 
 use rd_bytes::Memory;
 use rd_node::{Finished, KeyOutcome, MessageKind, OperationResult, Outcome, Reply, Sketch};
 use rd_texts::push_shown;
-use rd_world::{Answer, Event, Head, SentTo};
+use rd_world::{Answer, ClientLine, Ended, Event, Head, SentTo};
 use std::alloc::Global;
 
 /// Adds what is printed of a message.
@@ -180,17 +180,10 @@ fn push_sent(text: &mut String, sent: &[SentTo]) -> Result<(), Memory>
     Ok(())
 }
 
-/// Adds the operation that ended, if one did, with its result.
-fn push_finished(
-    alloc: Global,
-    text: &mut String,
-    finished: &Option<Finished>,
-) -> Result<(), Memory>
-    ensures { OnOk result (string_bytes text.new ≡ string_bytes text.old ++ finished_text finished.now) }
+/// Adds an operation that ended, with its result.
+fn push_result(alloc: Global, text: &mut String, finished: &Finished) -> Result<(), Memory>
+    ensures { OnOk result (string_bytes text.new ≡ string_bytes text.old ++ finished_text (Some finished.now)) }
 {
-    let Some(finished) = finished else {
-        return Ok(());
-    };
     write!(text, " finished {} ", finished.op)?;
     match &finished.result {
         OperationResult::Wrote => text.push_str("done")?,
@@ -201,6 +194,20 @@ fn push_finished(
         OperationResult::ReadNothing => text.push_str("not found")?,
     }
     Ok(())
+}
+
+/// Adds the operation that ended, if one did, with its result.
+fn push_finished(
+    alloc: Global,
+    text: &mut String,
+    finished: &Option<Finished>,
+) -> Result<(), Memory>
+    ensures { OnOk result (string_bytes text.new ≡ string_bytes text.old ++ finished_text finished.now) }
+{
+    match finished {
+        Some(finished) => push_result(alloc, text, finished),
+        None => Ok(()),
+    }
 }
 
 /// Adds the messages that an event sent, and the operation that it ended.
@@ -235,6 +242,60 @@ pub(crate) fn push_lines(
 {
     for event in events {
         push_event(alloc, text, number, event)?;
+    }
+    Ok(())
+}
+
+/// Adds how the operation ended that a client's command opened, if it opened one.
+fn push_ending(alloc: Global, text: &mut String, ended: &Option<Ended>) -> Result<(), Memory>
+    ensures { OnOk result (string_bytes text.new ≡ string_bytes text.old ++ ending_text ended.now) }
+{
+    match ended {
+        Some(Ended::Finished(finished)) => push_result(alloc, text, finished)?,
+        Some(Ended::TimedOut { op }) => write!(text, " finished {op} timed out")?,
+        Some(Ended::LeftOpen { op }) => write!(text, " open {op}")?,
+        None => {}
+    }
+    Ok(())
+}
+
+/// Adds the messages that a client's command sent, and how its operation ended.
+fn push_client_tails(alloc: Global, text: &mut String, line: &ClientLine) -> Result<(), Memory>
+    ensures { OnOk result (string_bytes text.new ≡ string_bytes text.old ++ client_tails_text line.now) }
+{
+    push_sent(text, line.sent.as_slice())?;
+    push_ending(alloc, text, &line.ended)
+}
+
+/// Adds the line of a client's command in the step with this number.
+fn push_client_line(
+    alloc: Global,
+    text: &mut String,
+    number: usize,
+    line: &ClientLine,
+) -> Result<(), Memory>
+    ensures { OnOk result (string_bytes text.new ≡ string_bytes text.old ++ client_line_text number line.now) }
+{
+    write!(text, "{number} client {} ", line.client)?;
+    push_head(text, &line.head)?;
+    text.push_str(" ")?;
+    push_answer(alloc, text, &line.answer)?;
+    push_client_tails(alloc, text, line)?;
+    text.push_str("\n")?;
+    Ok(())
+}
+
+/// Adds the lines of the clients of the step with this number.
+pub(crate) fn push_client_lines(
+    alloc: Global,
+    text: &mut String,
+    number: usize,
+    lines: &[ClientLine],
+) -> Result<(), Memory>
+    ensures { OnOk result (string_bytes text.new ≡ string_bytes text.old ++ flat_map (client_line_text number) lines.now) }
+{
+    for line in lines {
+        push_client_line(alloc, text, number, line)?;
     }
     Ok(())
 }

@@ -1,4 +1,4 @@
-ghost use Rattle.std.specs.Prelude.{◌≡◌, length, string_bytes, All, MatchResult};
+ghost use Rattle.std.specs.Prelude.{◌≡◌, ◌≢◌, ◌≤◌, length, string_bytes, All, AllPairs, MatchResult};
 ghost use Rattle.rd_script.specs.WellFormed.{IsStep, IsWellFormed};
 ghost use Rattle.rd_world.specs.Places.{keepers_of};
 ghost use Rattle.rd_report.specs.Kept.{IsPlayed, IsUnplayed, IsReportOver, IsSummaryOver};
@@ -8,11 +8,11 @@ ghost use Rattle.rd_report.specs.declared.playing.Ending.TheVariants as end;
 use crate::lines::push_lines;
 use crate::members::final_block;
 use crate::order::in_order;
-use rd_bytes::Memory;
+use rd_bytes::{Items, Memory};
 use rd_keeper::Keeper;
 use rd_kinds::{Kind, Op};
 use rd_lattice::SpelledData;
-use rd_script::{Script, Step};
+use rd_script::{Script, ScriptKey, Step};
 use rd_world::{StartError, World};
 use std::alloc::Global;
 
@@ -35,22 +35,25 @@ pub struct Played<K> {
 }
 
 /// The first world of a script over these keepers, which are cleared, or how its run ended before its first step.
-fn first_world<T: SpelledData<Kind = Kind, Op = Op>, K: Keeper + Drop>(
+pub(crate) fn first_world<T: SpelledData<Kind = Kind, Op = Op>, K: Keeper + Drop>(
     alloc: Global,
-    script: &Script,
+    members: u8,
+    keys: &Items<ScriptKey>,
     keepers: Vec<K>,
 ) -> Result<World<T, K>, Played<K>>
-    requires script { IsWellFormed script.now }
+    requires some { 1 ≤ members }
+    requires few { members ≤ 8 }
+    requires names { AllPairs (λ a b. a.key ≢ b.key) keys.now }
     requires keepers { length keepers.items ≡ 8 }
-    ensures { MatchResult result (λ world. Opens T.SpelledData.own script.now keepers.items world) (λ played. IsUnplayed K.Keeper.own script.now keepers.items played.keepers.items played.ending) }
+    ensures { MatchResult result (λ world. Opens T.SpelledData.own members keys.now keepers.items world) (λ played. IsUnplayed K.Keeper.own keepers.items played.keepers.items played.ending) }
 {
-    let Ok(keys) = in_order::<T>(alloc, script.keys.as_slice()) else {
+    let Ok(decls) = in_order::<T>(alloc, keys.as_slice()) else {
         return Err(Played {
             ending: Ending::Memory,
             keepers,
         });
     };
-    match World::start(alloc, script.members, keys, keepers) {
+    match World::start(alloc, members, decls, keepers) {
         Ok(world) => Ok(world),
         Err(StartError::ClearFailed { keepers, place }) => Err(Played {
             ending: Ending::NotCleared(place),
@@ -126,7 +129,7 @@ pub fn report<T: SpelledData<Kind = Kind, Op = Op>, K: Keeper + Drop>(
     requires keepers { length keepers.items ≡ 8 }
     ensures { IsPlayed K.Keeper.own (IsReportOver T.data_type T.byte_of T.history_spelled K.Keeper.own) script.now keepers.items result.keepers.items result.ending }
 {
-    let mut world = match first_world::<T, K>(alloc, script, keepers) {
+    let mut world = match first_world::<T, K>(alloc, script.members, &script.keys, keepers) {
         Ok(world) => world,
         Err(played) => return played,
     };
@@ -145,7 +148,7 @@ pub fn summary<T: SpelledData<Kind = Kind, Op = Op>, K: Keeper + Drop>(
     requires keepers { length keepers.items ≡ 8 }
     ensures { IsPlayed K.Keeper.own (IsSummaryOver T.data_type T.byte_of T.history_spelled K.Keeper.own) script.now keepers.items result.keepers.items result.ending }
 {
-    let mut world = match first_world::<T, K>(alloc, script, keepers) {
+    let mut world = match first_world::<T, K>(alloc, script.members, &script.keys, keepers) {
         Ok(world) => world,
         Err(played) => return played,
     };

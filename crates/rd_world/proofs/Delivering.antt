@@ -118,12 +118,12 @@ module _ {T K Kind Delta : Type 0} {ghosts : Ghosts T Kind Op Delta} {keeping : 
           reaches_told spelling kinds members decls p old (deliver D p from to index) (head.Deliver from to index None) answer.NoSuchMessage (script.Head.DeliverHead from to index None) script.Answer.NoSuchMessage (there ∙ ap handed unsent) m (None, refl, refl) refl
 
       module _ (message : Message T Kind Op Delta ghosts) (is : message_on here index ≡ Some message) where
-        sent : (sent : Sent Op) × (message_at p.world from to index ≡ Some sent)
+        pub sent : (sent : Sent Op) × (message_at p.world from to index ≡ Some sent)
         sent =
             let logged = way_logs D members decls p m.run in
             pair_some (StandsForMessage ghosts.kind_of ghosts.IsDataOf kinds logged.0) (message_on here index) (message_at p.world from to index) message (pair_in logged.0 (m.stands logged.0 logged.1)) is
 
-        stands_in : (logs : Text → History Op) → StandsForWorld spelling kinds logs old p.world → StandsForMessage ghosts.kind_of ghosts.IsDataOf kinds logs message sent.0
+        pub stands_in : (logs : Text → History Op) → StandsForWorld spelling kinds logs old p.world → StandsForMessage ghosts.kind_of ghosts.IsDataOf kinds logs message sent.0
         stands_in logs now = pair_both (StandsForMessage ghosts.kind_of ghosts.IsDataOf kinds logs) (message_on here index) (message_at p.world from to index) message sent.0 (pair_in logs now) is sent.1
 
         abbrev sent_head : script.Head Op
@@ -132,19 +132,19 @@ module _ {T K Kind Delta : Type 0} {ghosts : Ghosts T Kind Op Delta} {keeping : 
         abbrev handing : Playing Kind Op Shown
         handing = given D p sent_head (Delivery from to index)
 
-        is_given : deliver D p from to index ≡ handing
+        pub is_given : deliver D p from to index ≡ handing
         is_given = there ∙ ap handed sent.1
 
-        is_head : IsHead (head.Deliver from to index (Some (sketch_of message))) sent_head
+        pub is_head : IsHead (head.Deliver from to index (Some (sketch_of message))) sent_head
         is_head = let logged = way_logs D members decls p m.run in (Some sent.0, refl, ap Some (same_sketch kinds logged.0 message sent.0 (stands_in logged.0 (m.stands logged.0 logged.1))))
 
-        at_delivery : IsEventAt D p (Delivery from to index) to (Input.Take from sent.0) (moved_on p.world.links from to index)
+        pub at_delivery : IsEventAt D p (Delivery from to index) to (Input.Take from sent.0) (moved_on p.world.links from to index)
         at_delivery = delivery_at D p from to index sent.0 sent.1
 
-        run_handing : IsRun D members decls handing.events handing.world
+        pub run_handing : IsRun D members decls handing.events handing.world
         run_handing = subst (λ (q : Playing Kind Op Shown). IsRun D members decls q.events q.world) is_given (deliver_is_run D members decls p from to index m.run)
 
-        more_handing : IsPrefix p.events handing.events
+        pub more_handing : IsPrefix p.events handing.events
         more_handing = subst (λ (q : Playing Kind Op Shown). IsPrefix p.events q.events) is_given (deliver_appends D p from to index)
 
         module _ (alike : (a b : K) → is_some (keeping.table a) ≡ is_some (keeping.table b)) (new : World T K Kind Op Delta ghosts keeping) where

@@ -61,3 +61,5 @@ pub mod SettleCalls
 pub mod SettleExchanges
 pub mod Settled
 pub mod Lasting
+pub mod Entering
+pub mod Parting

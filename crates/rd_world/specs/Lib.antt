@@ -5,10 +5,14 @@ pub mod Seating
 pub mod Reloading
 pub mod Standing
 pub mod Lines
+pub mod ClientLines
 pub mod Ways
 pub mod Sending
 pub mod Steps
 pub mod Giving
+pub mod Entering
+pub mod Parts
 pub mod Rounds
 pub mod Settling
 pub mod Gone
+pub mod Threads

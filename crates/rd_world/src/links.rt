@@ -1,6 +1,6 @@
-ghost use Rattle.std.specs.Prelude.{◌≡◌, ℕ, ◌<◌, ◌&&◌, ◌==◌, nat_lt, if◌then◌else◌, length, map, replicate, slice_get, Some, None, IfOk, option_copied, option_map};
+ghost use Rattle.std.specs.Prelude.{◌≡◌, ℕ, ◌<◌, ◌^◌, ◌&&◌, ◌==◌, nat_lt, if◌then◌else◌, [], ◌∷◌, length, map, replicate, slice_get, Some, None, IfOk, OnOk, OnErr, option_copied, option_map};
 ghost use Rattle.rd_history.specs.Table.{identity_limit};
-ghost use Rattle.rd_world.specs.Channels.{channel_at, channel_of, row_of, no_messages, next_on, count_on, message_on, passed, ChangesOne};
+ghost use Rattle.rd_world.specs.Channels.{channel_at, channel_of, row_of, no_messages, next_on, count_on, message_on, passed, extended, due_from, ChangesOne};
 
 use rd_bytes::{Items, Memory};
 use rd_vectors::{IDENTITIES, Id};
@@ -80,11 +80,38 @@ impl<M: Drop> Links<M> {
 
     /// How many messages were sent on a link.
     pub fn sent(&self, from: Id, to: Id) -> usize
-        ensures { result ≡ count_on (channel_at self.now from to) }
+        ensures count { result ≡ count_on (channel_at self.now from to) }
+        ensures few { result < 2 ^ 63 }
     {
         match self.link(from, to) {
             Some(link) => link.messages.len(),
             None => 0,
+        }
+    }
+
+    /// Adds a message at the end of a link.
+    ///
+    /// # Errors
+    ///
+    /// Memory was refused, and the links are as they were.
+    pub fn append(&mut self, from: Id, to: Id, message: M) -> Result<(), Memory>
+        ensures ok { OnOk result (ChangesOne (extended (message ∷ [])) from to self.old self.new) }
+        ensures err { OnErr result (self.new ≡ self.old) }
+    {
+        let sender = usize::from(from.number());
+        if sender < self.rows.len() {
+            append_in(&mut self.rows[sender], usize::from(to.number()), message)?;
+        }
+        Ok(())
+    }
+
+    /// The message of this number is due next on a link.
+    pub fn set_next(&mut self, from: Id, to: Id, next: usize)
+        ensures { ChangesOne (due_from next) from to self.old self.new }
+    {
+        let sender = usize::from(from.number());
+        if sender < self.rows.len() {
+            set_next_in(&mut self.rows[sender], usize::from(to.number()), next);
         }
     }
 
@@ -151,5 +178,27 @@ fn pass_in<M: Drop>(row: &mut Vec<Link<M>>, to: usize, index: usize)
         if link.next == index {
             link.next = index + 1;
         }
+    }
+}
+
+/// Adds a message at the end of the link to an identity.
+fn append_in<M: Drop>(row: &mut Vec<Link<M>>, to: usize, message: M) -> Result<(), Memory>
+    ensures ok { OnOk result ((b : ℕ) → slice_get (row_of row.new) b ≡ (if b == to then option_map (extended (message ∷ [])) (slice_get (row_of row.old) b) else slice_get (row_of row.old) b)) }
+    ensures err { OnErr result (row_of row.new ≡ row_of row.old) }
+{
+    if to < row.len() {
+        let link = &mut row[to];
+        link.messages.push(message)?;
+    }
+    Ok(())
+}
+
+/// The message of this number is due next on the link to an identity.
+fn set_next_in<M: Drop>(row: &mut Vec<Link<M>>, to: usize, next: usize)
+    ensures { (b : ℕ) → slice_get (row_of row.new) b ≡ (if b == to then option_map (due_from next) (slice_get (row_of row.old) b) else slice_get (row_of row.old) b) }
+{
+    if to < row.len() {
+        let link = &mut row[to];
+        link.next = next;
     }
 }

@@ -62,7 +62,7 @@ pub(crate) fn clear_all<K: Keeper>(keepers: &mut Vec<K>) -> Option<(u8, KeeperEr
 }
 
 /// What a first world is made of, beside its keys and its keepers: nothing at any place.
-pub(crate) struct Parts<T: Replica, K: Keeper> {
+pub(crate) struct FirstParts<T: Replica, K: Keeper> {
     pub(crate) views: ViewList,
     pub(crate) links: Links<Message<T>>,
     pub(crate) nodes: Vec<Option<Node<T, K>>>,
@@ -84,7 +84,7 @@ fn empty_places<X: Drop>(alloc: Global) -> Result<Vec<Option<X>>, Memory>
 pub(crate) fn first_parts<T: SpelledData, K: Keeper + Drop>(
     alloc: Global,
     members: u8,
-) -> Result<Parts<T, K>, Memory>
+) -> Result<FirstParts<T, K>, Memory>
     requires some { 1 ≤ members }
     requires few { members ≤ 8 }
     ensures views { IfOk result (λ parts. parts.views ≡ first_view members ∷ []) }
@@ -92,7 +92,7 @@ pub(crate) fn first_parts<T: SpelledData, K: Keeper + Drop>(
     ensures nodes { IfOk result (λ parts. parts.nodes.items ≡ replicate 8 None) }
     ensures spare { IfOk result (λ parts. parts.spare.items ≡ replicate 8 None) }
 {
-    Ok(Parts {
+    Ok(FirstParts {
         views: ViewList::new(alloc, members)?,
         links: Links::new(alloc)?,
         nodes: empty_places(alloc)?,

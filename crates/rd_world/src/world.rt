@@ -10,7 +10,7 @@ ghost use Rattle.rd_world.specs.Places.{item_at, first_keeper, keepers_of};
 use crate::event::{Answer, Event, Head};
 use crate::links::Links;
 use crate::sending::{event_of, step_on, take_on};
-use crate::start::{Parts, StartError, clear_all, first_parts, put_by, refusal, seat_first};
+use crate::start::{FirstParts, StartError, clear_all, first_parts, put_by, refusal, seat_first};
 use rd_bytes::{Items, Memory};
 use rd_keeper::Keeper;
 use rd_kinds::Op;
@@ -69,7 +69,7 @@ impl<T: SpelledData, K: Keeper + Drop> World<T, K> {
             Ok(parts) => parts,
             Err(_) => return Err(StartError::Memory { keepers }),
         };
-        let Parts {
+        let FirstParts {
             views,
             links,
             nodes,

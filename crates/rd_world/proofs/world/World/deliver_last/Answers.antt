@@ -31,7 +31,7 @@ returns-in_err-event g c =
     let counted = c.in_ok-sent.ensures ∙ ap sent_in c.as_slice.ensures in
     match_err _ _ c.from_residual-in_err-event.result c.from_residual-in_err-event.ensures.0
     (halts_delivery g.T.SpelledData c.args.self.now c.deliver.new.self c.args.before c.args.from c.args.to small few c.args.events.now (λ e. c.if-before-sent.false (e ∙ sym counted))
-    (ap met_full (sym c.as_slice-else-before-sent.ensures) ∙ sym c.met_full.ensures ∙ c.if-met_full.false) c.saturating_sub-last.result (c.saturating_sub-last.ensures ∙ ap (λ n. n - 1) c.sent.ensures) c.in_err-event.ensures)
+    (ap met_full (sym c.as_slice-else-before-sent.ensures) ∙ sym c.met_full.ensures ∙ c.if-met_full.false) c.saturating_sub-last.result (c.saturating_sub-last.ensures ∙ ap (λ n. n - 1) c.sent.ensures.count) c.in_err-event.ensures)
 
 pub returns : goal.returns
 returns g c =
@@ -39,5 +39,5 @@ returns g c =
     let few : c.args.to < identity_limit = omega arith in
     let counted = c.in_ok-sent.ensures ∙ ap sent_in c.as_slice.ensures in
     told_delivery g.T.SpelledData c.args.self.now c.deliver.new.self c.args.before c.args.from c.args.to small few c.args.events.now (λ e. c.if-before-sent.false (e ∙ sym counted))
-    (ap met_full (sym c.as_slice-else-before-sent.ensures) ∙ sym c.met_full.ensures ∙ c.if-met_full.false) c.saturating_sub-last.result (c.saturating_sub-last.ensures ∙ ap (λ n. n - 1) c.sent.ensures)
+    (ap met_full (sym c.as_slice-else-before-sent.ensures) ∙ sym c.met_full.ensures ∙ c.if-met_full.false) c.saturating_sub-last.result (c.saturating_sub-last.ensures ∙ ap (λ n. n - 1) c.sent.ensures.count)
     c.in_ok-event.event c.in_ok-event.ensures c.push.new.self c.push.result c.push.ensures.ok

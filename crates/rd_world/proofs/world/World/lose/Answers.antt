@@ -9,7 +9,7 @@ returns-then-index-sent g c =
     let old = c.args.self.now in
     let small : c.args.from < identity_limit = omega arith in
     let few : c.args.to < identity_limit = omega arith in
-    let more = c.sent.ensures in
+    let more = c.sent.ensures.count in
     let within : c.next-index.result < count_on (channel_at old.links c.args.from c.args.to) = omega (arith, more, c.if-index-sent.true) in
     plays_lost g.T.SpelledData old c.args.from c.args.to small few c.next-index.result c.next-index.ensures c.line.result _ c.line.ensures (record { views = refl; keys = refl; spare = refl; nodes = refl }) (c.pass.ensures within) within
 
@@ -18,6 +18,6 @@ returns g c =
     let old = c.args.self.now in
     let small : c.args.from < identity_limit = omega arith in
     let few : c.args.to < identity_limit = omega arith in
-    let more = c.sent.ensures in
+    let more = c.sent.ensures.count in
     let past : count_on (channel_at old.links c.args.from c.args.to) ≤ c.next-index.result = omega (arith, more, c.if-index-sent.false) in
     plays_none g.T.SpelledData old c.args.from c.args.to small few c.next-index.result c.next-index.ensures c.line-2.result c.line-2.ensures past

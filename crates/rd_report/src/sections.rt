@@ -1,0 +1,197 @@
+ghost use Rattle.std.specs.Prelude.{◌≡◌, [], length, string_bytes, All, OnOk, MatchResult};
+ghost use Rattle.rd_script.specs.declared.clients.RunStep.TheVariants as form;
+ghost use Rattle.rd_script.specs.WellFormed.{AreClients, IsStep, IsRunStep, IsWellFormedRun};
+ghost use Rattle.rd_world.specs.Places.{keepers_of};
+ghost use Rattle.rd_world.specs.Threads.{PlaysSection, GivesBack};
+ghost use Rattle.rd_report.specs.Kept.{IsPlayed};
+ghost use Rattle.rd_report.specs.SectionRuns.{IsSectionReportOver};
+ghost use Rattle.rd_report.specs.Sections.{IsLines, TellsStep, TellsSections, AddsBlock, EndsWithBlock};
+ghost use Rattle.rd_report.specs.Telling.{AreAllKept};
+
+use crate::lines::{push_client_lines, push_lines};
+use crate::members::final_block;
+use crate::playing::{Ending, Played, first_world};
+use rd_bytes::Memory;
+use rd_keeper::Keeper;
+use rd_kinds::{Kind, Op};
+use rd_lattice::SpelledData;
+use rd_script::{Client, RunScript, RunStep, Step};
+use rd_world::{Section, World};
+use std::alloc::Global;
+
+/// Who plays the thread steps of a script.
+pub trait PlaysThreads<T: SpelledData<Kind = Kind, Op = Op>, K: Keeper + Drop> {
+    /// Lets the clients work at once in the world, until each has made all its commands.
+    ///
+    /// # Errors
+    ///
+    /// Memory was refused. The keepers of the places come back in their order.
+    fn section(
+        &self,
+        alloc: Global,
+        world: World<T, K>,
+        clients: &[Client],
+    ) -> Result<Section<T, K>, Vec<K>>
+        requires { AreClients clients.now }
+        ensures { MatchResult result (λ section. PlaysSection T.SpelledData.own clients.now world section.world section.lines) (λ keepers. GivesBack world keepers.items) };
+}
+
+/// The keepers of the places, in their order.
+fn given_back<T: SpelledData<Kind = Kind, Op = Op>, K: Keeper + Drop>(world: World<T, K>) -> Vec<K>
+    ensures { GivesBack world result.items }
+{
+    world.into_keepers()
+}
+
+/// Plays a step that the script makes by itself, and adds its lines.
+fn plain_step<T: SpelledData<Kind = Kind, Op = Op>, K: Keeper + Drop>(
+    alloc: Global,
+    text: &mut String,
+    number: usize,
+    step: &Step,
+    world: &mut World<T, K>,
+) -> Result<(), Memory>
+    requires { IsStep step.now }
+    ensures { MatchResult result (λ _. TellsStep T.SpelledData.own number (form.Plain step.now) world.old world.new (string_bytes text.old) (string_bytes text.new)) (λ _. AreAllKept world.old world.new) }
+{
+    let events = world.step(step)?;
+    push_lines(alloc, text, number, events.as_slice())
+}
+
+/// Plays a step that the script makes by itself, adds its lines, and gives the world back.
+fn plain_told<T: SpelledData<Kind = Kind, Op = Op>, K: Keeper + Drop>(
+    alloc: Global,
+    text: &mut String,
+    number: usize,
+    step: &Step,
+    first: World<T, K>,
+) -> Result<World<T, K>, Vec<K>>
+    requires { IsStep step.now }
+    ensures { MatchResult result (λ new. TellsStep T.SpelledData.own number (form.Plain step.now) first new (string_bytes text.old) (string_bytes text.new)) (λ keepers. GivesBack first keepers.items) }
+{
+    let mut world = first;
+    match plain_step(alloc, text, number, step, &mut world) {
+        Ok(()) => Ok(world),
+        Err(_) => Err(given_back(world)),
+    }
+}
+
+/// Plays a thread step, adds its lines, and gives the world back.
+fn threads_told<T: SpelledData<Kind = Kind, Op = Op>, K: Keeper + Drop, P: PlaysThreads<T, K>>(
+    alloc: Global,
+    player: &P,
+    text: &mut String,
+    number: usize,
+    clients: &[Client],
+    first: World<T, K>,
+) -> Result<World<T, K>, Vec<K>>
+    requires { AreClients clients.now }
+    ensures { MatchResult result (λ new. TellsStep T.SpelledData.own number (form.Threads clients.now) first new (string_bytes text.old) (string_bytes text.new)) (λ keepers. GivesBack first keepers.items) }
+{
+    let Section { world, lines } = match player.section(alloc, first, clients) {
+        Ok(section) => section,
+        Err(keepers) => return Err(keepers),
+    };
+    match push_client_lines(alloc, text, number, lines.as_slice()) {
+        Ok(()) => Ok(world),
+        Err(_) => Err(given_back(world)),
+    }
+}
+
+/// Plays one step, and adds its lines.
+fn one_step<T: SpelledData<Kind = Kind, Op = Op>, K: Keeper + Drop, P: PlaysThreads<T, K>>(
+    alloc: Global,
+    player: &P,
+    text: &mut String,
+    number: usize,
+    step: &RunStep,
+    world: World<T, K>,
+) -> Result<World<T, K>, Vec<K>>
+    requires { IsRunStep step.now }
+    ensures { MatchResult result (λ new. TellsStep T.SpelledData.own number step.now world new (string_bytes text.old) (string_bytes text.new)) (λ keepers. GivesBack world keepers.items) }
+{
+    match step {
+        RunStep::Plain(plain) => plain_told(alloc, text, number, plain, world),
+        RunStep::Threads { clients } => {
+            threads_told(alloc, player, text, number, clients.as_slice(), world)
+        }
+    }
+}
+
+/// Plays the steps of a script, and tells their lines.
+fn steps_told<T: SpelledData<Kind = Kind, Op = Op>, K: Keeper + Drop, P: PlaysThreads<T, K>>(
+    alloc: Global,
+    player: &P,
+    text: &mut String,
+    steps: &[RunStep],
+    first: World<T, K>,
+) -> Result<World<T, K>, Vec<K>>
+    requires steps { All IsRunStep steps.now }
+    requires empty { string_bytes text.now ≡ [] }
+    ensures { MatchResult result (λ new. TellsSections T.SpelledData.own IsLines steps.now first new (string_bytes text.new)) (λ keepers. GivesBack first keepers.items) }
+{
+    let mut world = first;
+    for (i, step) in steps.iter().enumerate() {
+        world = match one_step(alloc, player, text, i + 1, step, world) {
+            Ok(next) => next,
+            Err(keepers) => return Err(keepers),
+        };
+    }
+    Ok(world)
+}
+
+/// Adds what each member holds.
+fn push_block<T: SpelledData<Kind = Kind, Op = Op>, K: Keeper + Drop>(
+    alloc: Global,
+    text: &mut String,
+    world: &World<T, K>,
+) -> Result<(), Memory>
+    ensures { OnOk result (AddsBlock T.SpelledData.own world.now (string_bytes text.old) (string_bytes text.new)) }
+{
+    let block = final_block(alloc, world)?;
+    text.push_str(block.as_str())?;
+    Ok(())
+}
+
+/// The end of a run with these lines.
+fn finished<T: SpelledData<Kind = Kind, Op = Op>, K: Keeper + Drop>(
+    alloc: Global,
+    text: String,
+    world: World<T, K>,
+) -> Played<K>
+    ensures ending { EndsWithBlock T.SpelledData.own world (string_bytes text) result.ending }
+    ensures keepers { result.keepers.items ≡ keepers_of world.nodes.items world.spare.items }
+{
+    let mut text = text;
+    let ending = match push_block(alloc, &mut text, &world) {
+        Ok(()) => Ending::Told(text),
+        Err(_) => Ending::Memory,
+    };
+    let keepers = world.into_keepers();
+    Played { ending, keepers }
+}
+
+/// Plays a script that may have clients as `report` plays one without them, and tells its report. The player plays the thread
+/// steps.
+pub fn report_with_clients<
+    T: SpelledData<Kind = Kind, Op = Op>,
+    K: Keeper + Drop,
+    P: PlaysThreads<T, K>,
+>(alloc: Global, player: &P, script: &RunScript, keepers: Vec<K>) -> Played<K>
+    requires script { IsWellFormedRun script.now }
+    requires keepers { length keepers.items ≡ 8 }
+    ensures { IsPlayed K.Keeper.own (IsSectionReportOver T.data_type T.byte_of T.history_spelled K.Keeper.own) script.now keepers.items result.keepers.items result.ending }
+{
+    let world = match first_world::<T, K>(alloc, script.members, &script.keys, keepers) {
+        Ok(world) => world,
+        Err(played) => return played,
+    };
+    let mut text = String::new(alloc);
+    match steps_told(alloc, player, &mut text, script.steps.as_slice(), world) {
+        Ok(world) => finished(alloc, text, world),
+        Err(keepers) => Played {
+            ending: Ending::Memory,
+            keepers,
+        },
+    }
+}
