@@ -1,0 +1,12 @@
+pub mod Closing
+pub mod Finishing
+pub mod Following
+pub mod Forward
+pub mod Left
+pub mod Links
+pub mod Merging
+pub mod Places
+pub mod Refusals
+pub mod Together
+pub mod Walking
+pub mod Ways

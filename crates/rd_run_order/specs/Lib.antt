@@ -1,0 +1,5 @@
+pub mod Orders
+pub mod Images
+pub mod Section
+pub mod Runs
+pub mod Finishing
