@@ -23,16 +23,16 @@ use Rattle.rd_top.specs.declared.status.Status.{Status}
 use Rattle.rd_top.specs.declared.status.Status.TheVariants as status
 
 -- what a source that tells its bytes gave to its end
-all_read : (bytes read : List ℕ) (new : Option (List ℕ)) → ReadsToEnd (Some bytes) new read → read ≡ bytes
+pub all_read : (bytes read : List ℕ) (new : Option (List ℕ)) → ReadsToEnd (Some bytes) new read → read ≡ bytes
 all_read bytes read None h = absurd h.consumed
 all_read bytes read (Some rest) h = sym (h.consumed ∙ ap (λ l. read ++ l) h.at_end ∙ append-nil read)
 
 -- more was read than a script may have, so there was more
-more_read : (bytes read : List ℕ) (new : Option (List ℕ)) → Consumes (Some bytes) new read → length read ≡ limit + 1 → limit < length bytes
+pub more_read : (bytes read : List ℕ) (new : Option (List ℕ)) → Consumes (Some bytes) new read → length read ≡ limit + 1 → limit < length bytes
 more_read bytes read None h long = absurd h
 more_read bytes read (Some rest) h long = rw h (omega (arith, long, length-append read rest))
 
-ok_err : {A B : Type 0} (x : A) (y : B) → Ok x ≡ Err y → ⊥
+pub ok_err : {A B : Type 0} (x : A) (y : B) → Ok x ≡ Err y → ⊥
 ok_err x y e = subst (λ r. MatchResult r (λ _. Unit {0}) (λ _. ⊥)) e tt
 
 -- bytes that spell a script, break a rule or have no reading do one of these alone
@@ -73,7 +73,7 @@ length_called bytes _ more (not_a_script rule short k) = absurd (omega arith)
 length_called bytes _ more (too_long long) = refl
 
 -- a place with a keeper, before and after
-there : {X : Type 0} (xs : List X) (n : ℕ) → n < length xs → (x : X) × (slice_get xs n ≡ Some x)
+pub there : {X : Type 0} (xs : List X) (n : ℕ) → n < length xs → (x : X) × (slice_get xs n ≡ Some x)
 there [] n h = absurd (omega (arith, h))
 there (x ∷ xs) zero h = (x, refl)
 there (x ∷ xs) (suc n) h = there xs n (omega (arith, h))

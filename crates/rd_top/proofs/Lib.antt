@@ -1,6 +1,7 @@
 pub mod Called
 pub mod Counts
 pub mod OneAsked
+pub mod RunAnswers
 pub mod Settles
 pub mod TextDue
 pub mod WordLists

@@ -8,7 +8,9 @@ use Rattle.rd_keeper.specs.declared.keeper.Keeper.{Ghosts as Keeping}
 use Rattle.rd_generate.specs.Texts.{generated_text}
 use Rattle.rd_report.specs.declared.playing.Ending.{Ending}
 use Rattle.rd_report.specs.declared.playing.Ending.TheVariants as ending
-use Rattle.rd_top.specs.Answers.{HasNoJson, TellsRule, IsTooLong, Fulfils, CannotClear, not_cleared_text, limit}
+use Rattle.rd_script.specs.declared.read.ScriptError.{ScriptError}
+use Rattle.rd_script.specs.declared.read.ScriptError.TheVariants as error
+use Rattle.rd_top.specs.Answers.{not_a_script_text, HasNoJson, TellsRule, IsTooLong, Fulfils, CannotClear, not_cleared_text, limit}
 use Rattle.rd_top.specs.Asking.{IsAsked, IsPlain, AskNothing}
 use Rattle.rd_top.specs.declared.due.Due.{Due}
 use Rattle.rd_top.specs.declared.due.Due.TheVariants.{Fulfilled, NotCleared, BadWords, NotJson, NotAScript, ReadFailed, TooLong, Memory}
@@ -47,6 +49,20 @@ IsRefusal old new before now (NotAScript text) = TellsRule old new (string_bytes
 IsRefusal old new before now ReadFailed = Rose before now × ReadsUpTo old new limit
 IsRefusal old new before now TooLong = IsTooLong old new
 IsRefusal old new before now Memory = Unit {0}
+
+-- Why the bytes were not read.
+abbrev pub IsUnread : (old new : Option (List ℕ)) → (before now : ℕ) → Due → Type 0
+IsUnread old new before now ReadFailed = Rose before now × ReadsUpTo old new limit
+IsUnread old new before now TooLong = IsTooLong old new
+IsUnread old new before now Memory = Unit {0}
+IsUnread old new before now due = ⊥
+
+-- What is due where no script was read of some bytes, unless memory was refused.
+abbrev pub IsFaultDue : ScriptError → Due → Type 0
+IsFaultDue error Memory = Unit {0}
+IsFaultDue error.NotJson NotJson = Unit {0}
+IsFaultDue (error.NotAScript step number) (NotAScript text) = string_bytes text ≡ not_a_script_text (record { step = step; number = number })
+IsFaultDue error due = ⊥
 
 -- A run that ended so is told so, unless memory was refused.
 abbrev pub IsToldBy : Ending → Due → Type 0

@@ -1,4 +1,5 @@
 pub mod Answers
 pub mod Asking
 pub mod Due
+pub mod Running
 pub mod Status

@@ -1,9 +1,9 @@
 ghost use Rattle.std.specs.Prelude.{◌≡◌, ℕ, ◌≤◌, List, Option, length, IfOk, IfErr};
 ghost use Rattle.rd_script.specs.WellFormed.{IsWellFormed};
 ghost use Rattle.rd_report.specs.Kept.{AreKept, IsPlayed};
-ghost use Rattle.rd_top.specs.Answers.{HasScript, IsReportOver, IsSummaryOver};
+ghost use Rattle.rd_top.specs.Answers.{ReadsScript, HasScript, IsReportOver, IsSummaryOver};
 ghost use Rattle.rd_top.specs.Asking.{IsAsked, IsPlain, most_steps};
-ghost use Rattle.rd_top.specs.Due.{IsRefusal, IsToldBy, IsScriptDue, IsDueFor, IsDue};
+ghost use Rattle.rd_top.specs.Due.{IsUnread, IsFaultDue, IsRefusal, IsToldBy, IsScriptDue, IsDueFor, IsDue};
 ghost use Rattle.rd_top.specs.declared.words.Asked.TheVariants as asked;
 
 use crate::due::Due;
@@ -26,34 +26,56 @@ pub struct Answer<K> {
     pub keepers: Vec<K>,
 }
 
+/// The bytes of the source, or what is due in their place.
+pub(crate) fn bytes_of<S: Source>(alloc: Global, source: &mut S) -> Result<Vec<u8>, Due>
+    ensures read { IfOk result (λ bytes. ReadsScript (S.left source.old) (S.left source.new) bytes.items) }
+    ensures refused { IfErr result (IsUnread (S.left source.old) (S.left source.new) (S.faults source.old) (S.faults source.new)) }
+    ensures later { S.faults source.old ≤ S.faults source.new }
+{
+    match read_all(alloc, source, LIMIT) {
+        Ok(bytes) => Ok(bytes),
+        Err(ReadAllError::ReadFailed) => Err(Due::ReadFailed),
+        Err(ReadAllError::TooLong) => Err(Due::TooLong),
+        Err(ReadAllError::Memory) => Err(Due::Memory),
+    }
+}
+
+/// What is due where the bytes are no script.
+pub(crate) fn due_of(alloc: Global, error: ScriptError) -> Due
+    ensures { IsFaultDue error result }
+{
+    match error {
+        ScriptError::NotJson => Due::NotJson,
+        ScriptError::NotAScript { step, rule } => {
+            match format!(in alloc; "not a script: step {step} rule {rule}\n") {
+                Ok(text) => Due::NotAScript(text),
+                Err(_) => Due::Memory,
+            }
+        }
+        ScriptError::Memory => Due::Memory,
+    }
+}
+
 /// The script on the source, or what is due in its place.
+#[tactic(auto, using(crate::proofs::RunAnswers::unread_refuses, crate::proofs::RunAnswers::fault_refuses))]
 fn script<S: Source>(alloc: Global, source: &mut S) -> Result<Script, Due>
     ensures script { IfOk result (HasScript (S.left source.old) (S.left source.new)) }
     ensures bounds { IfOk result IsWellFormed }
     ensures refused { IfErr result (IsRefusal (S.left source.old) (S.left source.new) (S.faults source.old) (S.faults source.new)) }
     ensures later { S.faults source.old ≤ S.faults source.new }
 {
-    let bytes = match read_all(alloc, source, LIMIT) {
+    let bytes = match bytes_of(alloc, source) {
         Ok(bytes) => bytes,
-        Err(ReadAllError::ReadFailed) => return Err(Due::ReadFailed),
-        Err(ReadAllError::TooLong) => return Err(Due::TooLong),
-        Err(ReadAllError::Memory) => return Err(Due::Memory),
+        Err(due) => return Err(due),
     };
     match read_script(alloc, &bytes) {
         Ok(script) => Ok(script),
-        Err(ScriptError::NotJson) => Err(Due::NotJson),
-        Err(ScriptError::NotAScript { step, rule }) => {
-            match format!(in alloc; "not a script: step {step} rule {rule}\n") {
-                Ok(text) => Err(Due::NotAScript(text)),
-                Err(_) => Err(Due::Memory),
-            }
-        }
-        Err(ScriptError::Memory) => Err(Due::Memory),
+        Err(error) => Err(due_of(alloc, error)),
     }
 }
 
 /// What is due for a run that ended so.
-fn told(alloc: Global, ending: Ending) -> Due
+pub(crate) fn told(alloc: Global, ending: Ending) -> Due
     ensures { IsToldBy ending result }
 {
     match ending {

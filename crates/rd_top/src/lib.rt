@@ -21,6 +21,9 @@ mod prune_tests;
 mod refusal_tests;
 #[cfg(test)]
 mod rows;
+mod running;
+#[cfg(test)]
+mod running_tests;
 #[cfg(test)]
 mod settle_tests;
 mod status;
@@ -31,6 +34,7 @@ mod words;
 #[cfg(test)]
 mod words_tests;
 
+pub use running::replicate_with;
 pub use status::Status;
 pub use top::{Outcome, replicate_plain};
 pub use words::Asked;

@@ -8,7 +8,7 @@ use std::alloc::Global;
 use std::test::Fail;
 
 // A text that breaks each rule, and what is printed. In the last of rule 4 and the first of rule 7 a later step breaks a rule of a lower number or a higher.
-const BROKEN: [(&str, &str); 34] = [
+const BROKEN: [(&str, &str); 37] = [
     (r#"[]"#, "not a script: step 0 rule 1\n"),
     (r#"{"members":1}"#, "not a script: step 0 rule 1\n"),
     (
@@ -138,6 +138,18 @@ const BROKEN: [(&str, &str); 34] = [
     (
         r#"{"members":1,"keys":[{"key":"n","kind":"gcounter"}],"steps":[{"do":"get","at":0,"key":"n","level":{"majority":65}}]}"#,
         "not a script: step 1 rule 12\n",
+    ),
+    (
+        r#"{"members":1,"keys":[{"key":"n","kind":"gcounter"}],"steps":[{"do":"threads"}]}"#,
+        "not a script: step 1 rule 6\n",
+    ),
+    (
+        r#"{"members":1,"keys":[{"key":"n","kind":"gcounter"}],"steps":[{"do":"threads","clients":[[{"do":"flush","at":64}]]}]}"#,
+        "not a script: step 1 rule 13\n",
+    ),
+    (
+        r#"{"members":1,"keys":[{"key":"n","kind":"gcounter"}],"steps":[{"do":"threads","clients":[[{"do":"flush","at":0}]]}]}"#,
+        "not a script: step 1 rule 14\n",
     ),
 ];
 
