@@ -23,8 +23,6 @@ mod refusal_tests;
 mod rows;
 mod running;
 #[cfg(test)]
-mod running_tests;
-#[cfg(test)]
 mod settle_tests;
 mod status;
 #[cfg(test)]
