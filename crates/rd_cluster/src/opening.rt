@@ -74,15 +74,17 @@ impl<M: Member, N: Section> Cluster<M, N> {
         }
     }
 
-    /// The cells, from which what each member took of each other one is known to be the first of what the other posted to it.
-    pub fn into_cells(self) -> Cells<M, N>
-        ensures table { result.table ≡ self.table }
-        ensures whole { AreWholeCells N.ids result }
-        ensures hear { AllHear M.posted M.taken N.ids result }
+    /// The views and the cells, from which what each member took of each other one is known to be the first of what the other
+    /// posted to it.
+    pub fn into_cells(self) -> (ViewList, Cells<M, N>)
+        ensures views { result.0 ≡ self.views }
+        ensures table { result.1.table ≡ self.table }
+        ensures whole { AreWholeCells N.ids result.1 }
+        ensures hear { AllHear M.posted M.taken N.ids result.1 }
     {
         let Cluster {
             alloc: _,
-            views: _,
+            views,
             table,
             p0,
             p1,
@@ -93,7 +95,7 @@ impl<M: Member, N: Section> Cluster<M, N> {
             p6,
             p7,
         } = self;
-        Cells {
+        let cells = Cells {
             table,
             p0: cell_of(p0),
             p1: cell_of(p1),
@@ -103,6 +105,7 @@ impl<M: Member, N: Section> Cluster<M, N> {
             p5: cell_of(p5),
             p6: cell_of(p6),
             p7: cell_of(p7),
-        }
+        };
+        (views, cells)
     }
 }
