@@ -1,24 +1,24 @@
-ghost use Rattle.std.specs.Prelude.{◌≡◌, ◌≤◌, ◌⊎◌, ℕ, List, [], codes, length, Some, IsErr, IfOk, IsOkAnd};
-ghost use Rattle.std.specs.Io.KnownBytes.{Appends};
+ghost use Rattle.std.specs.Prelude.{◌≡◌, ◌≤◌, ℕ, List, length, Some, IsErr, IfOk};
 ghost use Rattle.std.specs.Process.{exit_status};
 ghost use Rattle.rd_outside.specs.Causes.{Rose};
-ghost use Rattle.rd_outside.specs.Transfers.{ReadsUpTo, AppendsPrefix};
 ghost use Rattle.rd_top.specs.Status.{code_of};
-ghost use Rattle.rd_top.specs.Asking.{IsAsked, IsPlain, AskNothing};
-ghost use Rattle.rd_top.specs.Answers.{Fulfils, IsReported, CannotClear, HasNoJson, TellsRule, IsTooLong, SomeRose, IsTextDue, CallsFor, IsUnlessRefused, limit};
-ghost use Rattle.rd_top.specs.declared.words.Asked.{Asked};
-ghost use Rattle.rd_top.specs.declared.words.Asked.TheVariants as asked;
+ghost use Rattle.rd_top.specs.Asking.{IsPlain};
+ghost use Rattle.rd_top.specs.Answers.{SomeRose, IsUnlessRefused};
+ghost use Rattle.rd_top.specs.Running.{IsRunWord, RunCallsFor, Runs, ServesPlainly};
 
 use rd_keeper::Keeper;
 use rd_outside::{Sink, Source};
-use rd_top::{Status, replicate_plain};
+use rd_top::{Status, replicate};
 use std::alloc::{AllocError, Global};
 use std::process::ExitCode;
+use std::sync::Wait;
+use std::thread::Threads;
 
 /// How the program ends: with the status of the top call on these words, or for want of memory where the words had none.
 ///
-/// What is read and written, and when, is as the top call says, clause by clause.
-pub(crate) fn outcome<S: Source, K: Sink, D: Keeper + Drop>(
+/// What is read and written, and when, is as the top call says.
+pub(crate) fn outcome<R: Threads + Wait + Sync, S: Source, K: Sink, D: Keeper + Drop + Send>(
+    rt: &R,
     alloc: Global,
     words: Result<Vec<String>, AllocError>,
     source: &mut S,
@@ -26,49 +26,25 @@ pub(crate) fn outcome<S: Source, K: Sink, D: Keeper + Drop>(
     keepers: Vec<D>,
 ) -> ExitCode
     requires { length keepers.items ≡ 8 }
-    ensures asked { exit_status result ≡ code_of Status.Done → IsOkAnd words (λ words. (asked : Asked) × IsAsked asked words.items) }
-    ensures done { IfOk words (λ words. (asked : Asked) → IsAsked asked words.items → exit_status result ≡ code_of Status.Done
-        → (after : List D) × (text : List ℕ) × Fulfils D.Keeper.own asked (S.left source.old) (S.left source.new) keepers.items after text
-        × Appends (K.written sink.old) (K.written sink.new) text) }
-    ensures told { IfOk words (λ words. (bytes before : List ℕ) → IsPlain words.items → exit_status result ≡ code_of Status.Done
-        → S.left source.old ≡ Some bytes → K.written sink.old ≡ Some before
-        → (after : List D) × IsReported D.Keeper.own bytes before (S.left source.new) (K.written sink.new) keepers.items after) }
-
-    ensures usage { exit_status result ≡ code_of Status.Usage → IsOkAnd words (λ words. AskNothing words.items)
-        × Appends (K.written sink.old) (K.written sink.new) (codes "bad words\n") }
-    ensures not_json { exit_status result ≡ code_of Status.NotJson → IsOkAnd words (λ words. IsPlain words.items)
-        × HasNoJson (S.left source.old) (S.left source.new) × Appends (K.written sink.old) (K.written sink.new) (codes "not json\n") }
-    ensures not_a_script { exit_status result ≡ code_of Status.NotAScript → IsOkAnd words (λ words. IsPlain words.items)
-        × ((text : List ℕ) × TellsRule (S.left source.old) (S.left source.new) text × Appends (K.written sink.old) (K.written sink.new) text) }
-    ensures read_failed { exit_status result ≡ code_of Status.ReadFailed → IsOkAnd words (λ words. IsPlain words.items)
-        × Rose (S.faults source.old) (S.faults source.new) × ReadsUpTo (S.left source.old) (S.left source.new) limit
-        × Appends (K.written sink.old) (K.written sink.new) [] }
-    ensures write_failed { exit_status result ≡ code_of Status.WriteFailed → Rose (K.faults sink.old) (K.faults sink.new)
-        × IsOkAnd words (λ words. (after : List D) × (text : List ℕ) × IsTextDue D.Keeper.own words.items (S.left source.old) (S.left source.new) keepers.items after text
-        × AppendsPrefix (K.written sink.old) (K.written sink.new) text) }
-    ensures too_long { exit_status result ≡ code_of Status.TooLong → IsOkAnd words (λ words. IsPlain words.items)
-        × IsTooLong (S.left source.old) (S.left source.new) × Appends (K.written sink.old) (K.written sink.new) (codes "too long\n") }
-    ensures memory { exit_status result ≡ code_of Status.Memory → Appends (K.written sink.old) (K.written sink.new) [] }
-    ensures clear_failed { exit_status result ≡ code_of Status.ClearFailed → IsOkAnd words (λ words. (asked : Asked) × (after : List D) × (text : List ℕ) × IsAsked asked words.items
-        × CannotClear D.Keeper.own asked (S.left source.old) (S.left source.new) keepers.items after text
-        × Appends (K.written sink.old) (K.written sink.new) text) }
-
-    ensures words { IfOk words (λ words. AskNothing words.items
-        → (exit_status result ≡ code_of Status.Usage) ⊎ (exit_status result ≡ code_of Status.WriteFailed)) }
-    ensures unread { IfOk words (λ words. (IsPlain words.items → ⊥) → source.new ≡ source.old) }
-    ensures complete { IfOk words (λ words. (bytes : List ℕ) (status : Status) → IsPlain words.items
-        → S.left source.old ≡ Some bytes → CallsFor bytes status
+    // The word `run`: what was answered has its cause, and is what the bytes of a source that tells them call for.
+    ensures run { IfOk words (λ words. IsRunWord words.items
+        → (after : List D) × Runs D.Keeper.own (S.left source.old) (S.left source.new) (S.faults source.old) (S.faults source.new) (K.written sink.old) (K.written sink.new) (K.faults sink.old) (K.faults sink.new) keepers.items after (exit_status result)) }
+    ensures run_complete { IfOk words (λ words. (bytes : List ℕ) (status : Status) → IsRunWord words.items
+        → S.left source.old ≡ Some bytes → RunCallsFor bytes status
         → (after : List D) × IsUnlessRefused (Rose (S.faults source.old) (S.faults source.new)) (Rose (K.faults sink.old) (K.faults sink.new)) (SomeRose D.Keeper.own keepers.items after) status (exit_status result)) }
-    ensures generates { IfOk words (λ words. (n : ℕ) → IsAsked (asked.Generate n) words.items
-        → IsUnlessRefused ⊥ (Rose (K.faults sink.old) (K.faults sink.new)) ⊥ Status.Done (exit_status result)) }
-    ensures summarizes { IfOk words (λ words. (n : ℕ) → IsAsked (asked.Summarize n) words.items
-        → (after : List D) × IsUnlessRefused ⊥ (Rose (K.faults sink.old) (K.faults sink.new)) (SomeRose D.Keeper.own keepers.items after) Status.Done (exit_status result)) }
+
+    // Other words. The source is read for `run` and `plain` alone.
+    ensures others { IfOk words (λ words. (IsRunWord words.items → ⊥)
+        → (after : List D) × ServesPlainly D.Keeper.own (S.left source.old) (S.left source.new) (S.faults source.old) (S.faults source.new) (K.written sink.old) (K.written sink.new) (K.faults sink.old) (K.faults sink.new) keepers.items after (exit_status result) words.items) }
+    ensures unread { IfOk words (λ words. (IsRunWord words.items → ⊥) → (IsPlain words.items → ⊥) → source.new ≡ source.old) }
+
+    // There are no words.
     ensures refused { IsErr words → (exit_status result ≡ code_of Status.Memory) × (source.new ≡ source.old) × (sink.new ≡ sink.old) }
 
     ensures known { exit_status result ≤ code_of Status.ClearFailed }
 {
     match words {
-        Ok(words) => ExitCode::from(replicate_plain(alloc, &words, source, sink, keepers).status),
+        Ok(words) => ExitCode::from(replicate(rt, alloc, &words, source, sink, keepers).status),
         Err(_) => ExitCode::from(u8::from(Status::Memory)),
     }
 }

@@ -3,8 +3,6 @@
 
 mod laws;
 mod lines;
-#[cfg(test)]
-mod lines_tests;
 mod members;
 mod order;
 mod playing;
@@ -12,4 +10,4 @@ mod sections;
 
 pub use laws::keys_rise;
 pub use playing::{Ending, Played, report, summary};
-pub use sections::{PlaysThreads, report_with_clients};
+pub use sections::report_with_clients;

@@ -12,29 +12,16 @@ use crate::lines::{push_client_lines, push_lines};
 use crate::members::final_block;
 use crate::playing::{Ending, Played, first_world};
 use rd_bytes::Memory;
+use rd_clients::Gate;
 use rd_keeper::Keeper;
 use rd_kinds::{Kind, Op};
 use rd_lattice::SpelledData;
 use rd_script::{Client, RunScript, RunStep, Step};
+use rd_threads::play_section;
 use rd_world::{Section, World};
 use std::alloc::Global;
-
-/// Who plays the thread steps of a script.
-pub trait PlaysThreads<T: SpelledData<Kind = Kind, Op = Op>, K: Keeper + Drop> {
-    /// Lets the clients work at once in the world, until each has made all its commands.
-    ///
-    /// # Errors
-    ///
-    /// Memory was refused. The keepers of the places come back in their order.
-    fn section(
-        &self,
-        alloc: Global,
-        world: World<T, K>,
-        clients: &[Client],
-    ) -> Result<Section<T, K>, Vec<K>>
-        requires { AreClients clients.now }
-        ensures { MatchResult result (λ section. PlaysSection T.SpelledData.own clients.now world section.world section.lines) (λ keepers. GivesBack world keepers.items) };
-}
+use std::sync::Wait;
+use std::thread::Threads;
 
 /// The keepers of the places, in their order.
 fn given_back<T: SpelledData<Kind = Kind, Op = Op>, K: Keeper + Drop>(world: World<T, K>) -> Vec<K>
@@ -77,18 +64,26 @@ fn plain_told<T: SpelledData<Kind = Kind, Op = Op>, K: Keeper + Drop>(
 }
 
 /// Plays a thread step, adds its lines, and gives the world back.
-fn threads_told<T: SpelledData<Kind = Kind, Op = Op>, K: Keeper + Drop, P: PlaysThreads<T, K>>(
+fn threads_told<
+    T: SpelledData<Kind = Kind, Op = Op> + Send,
+    K: Keeper + Drop + Send,
+    R: Threads + Wait + Sync,
+    G: Gate,
+>(
+    rt: &R,
     alloc: Global,
-    player: &P,
+    gate: &G,
     text: &mut String,
     number: usize,
     clients: &[Client],
     first: World<T, K>,
 ) -> Result<World<T, K>, Vec<K>>
+where
+    T::Delta: Send,
     requires { AreClients clients.now }
     ensures { MatchResult result (λ new. TellsStep T.SpelledData.own number (form.Threads clients.now) first new (string_bytes text.old) (string_bytes text.new)) (λ keepers. GivesBack first keepers.items) }
 {
-    let Section { world, lines } = match player.section(alloc, first, clients) {
+    let Section { world, lines } = match play_section(rt, alloc, gate, first, clients) {
         Ok(section) => section,
         Err(keepers) => return Err(keepers),
     };
@@ -99,40 +94,56 @@ fn threads_told<T: SpelledData<Kind = Kind, Op = Op>, K: Keeper + Drop, P: Plays
 }
 
 /// Plays one step, and adds its lines.
-fn one_step<T: SpelledData<Kind = Kind, Op = Op>, K: Keeper + Drop, P: PlaysThreads<T, K>>(
+fn one_step<
+    T: SpelledData<Kind = Kind, Op = Op> + Send,
+    K: Keeper + Drop + Send,
+    R: Threads + Wait + Sync,
+    G: Gate,
+>(
+    rt: &R,
     alloc: Global,
-    player: &P,
+    gate: &G,
     text: &mut String,
     number: usize,
     step: &RunStep,
     world: World<T, K>,
 ) -> Result<World<T, K>, Vec<K>>
+where
+    T::Delta: Send,
     requires { IsRunStep step.now }
     ensures { MatchResult result (λ new. TellsStep T.SpelledData.own number step.now world new (string_bytes text.old) (string_bytes text.new)) (λ keepers. GivesBack world keepers.items) }
 {
     match step {
         RunStep::Plain(plain) => plain_told(alloc, text, number, plain, world),
         RunStep::Threads { clients } => {
-            threads_told(alloc, player, text, number, clients.as_slice(), world)
+            threads_told(rt, alloc, gate, text, number, clients.as_slice(), world)
         }
     }
 }
 
 /// Plays the steps of a script, and tells their lines.
-fn steps_told<T: SpelledData<Kind = Kind, Op = Op>, K: Keeper + Drop, P: PlaysThreads<T, K>>(
+fn steps_told<
+    T: SpelledData<Kind = Kind, Op = Op> + Send,
+    K: Keeper + Drop + Send,
+    R: Threads + Wait + Sync,
+    G: Gate,
+>(
+    rt: &R,
     alloc: Global,
-    player: &P,
+    gate: &G,
     text: &mut String,
     steps: &[RunStep],
     first: World<T, K>,
 ) -> Result<World<T, K>, Vec<K>>
+where
+    T::Delta: Send,
     requires steps { All IsRunStep steps.now }
     requires empty { string_bytes text.now ≡ [] }
     ensures { MatchResult result (λ new. TellsSections T.SpelledData.own IsLines steps.now first new (string_bytes text.new)) (λ keepers. GivesBack first keepers.items) }
 {
     let mut world = first;
     for (i, step) in steps.iter().enumerate() {
-        world = match one_step(alloc, player, text, i + 1, step, world) {
+        world = match one_step(rt, alloc, gate, text, i + 1, step, world) {
             Ok(next) => next,
             Err(keepers) => return Err(keepers),
         };
@@ -171,13 +182,16 @@ fn finished<T: SpelledData<Kind = Kind, Op = Op>, K: Keeper + Drop>(
     Played { ending, keepers }
 }
 
-/// Plays a script that may have clients as `report` plays one without them, and tells its report. The player plays the thread
-/// steps.
+/// Plays a script that may have clients as `report` plays one without them, and tells its report. The clients of a thread step
+/// are at work in threads of the runtime, and their calls pass the gate.
 pub fn report_with_clients<
-    T: SpelledData<Kind = Kind, Op = Op>,
-    K: Keeper + Drop,
-    P: PlaysThreads<T, K>,
->(alloc: Global, player: &P, script: &RunScript, keepers: Vec<K>) -> Played<K>
+    T: SpelledData<Kind = Kind, Op = Op> + Send,
+    K: Keeper + Drop + Send,
+    R: Threads + Wait + Sync,
+    G: Gate,
+>(rt: &R, alloc: Global, gate: &G, script: &RunScript, keepers: Vec<K>) -> Played<K>
+where
+    T::Delta: Send,
     requires script { IsWellFormedRun script.now }
     requires keepers { length keepers.items ≡ 8 }
     ensures { IsPlayed K.Keeper.own (IsSectionReportOver T.data_type T.byte_of T.history_spelled K.Keeper.own) script.now keepers.items result.keepers.items result.ending }
@@ -187,7 +201,7 @@ pub fn report_with_clients<
         Err(played) => return played,
     };
     let mut text = String::new(alloc);
-    match steps_told(alloc, player, &mut text, script.steps.as_slice(), world) {
+    match steps_told(rt, alloc, gate, &mut text, script.steps.as_slice(), world) {
         Ok(world) => finished(alloc, text, world),
         Err(keepers) => Played {
             ending: Ending::Memory,

@@ -1,5 +1,6 @@
 pub mod Called
 pub mod Counts
+pub mod EachRun
 pub mod OneAsked
 pub mod RunAnswers
 pub mod Settles

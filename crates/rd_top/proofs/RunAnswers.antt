@@ -1,6 +1,5 @@
 -- What a call that serves `run` answers, and why.
-use Rattle.std.proofs.Common.{◌≡◌, ℕ, suc, ◌+◌, ◌<◌, ◌≤◌, ◌⊎◌, ◌↔◌, inl, inr, List, [], ◌∷◌, length, map, codes, String, Global, string_bytes, arith, refl, sym, ap, subst, ◌∙◌, None, Some, Bool, true, false, true≢false}
-use Rattle.std.specs.Prelude.{slice_get}
+use Rattle.std.proofs.Common.{◌≡◌, ℕ, ◌<◌, ◌≤◌, ◌⊎◌, inl, inr, List, length, string_bytes, arith, refl, sym, ap, subst, ◌∙◌, Some}
 use Rattle.std.specs.Io.KnownBytes.{Appends}
 use Rattle.std.specs.declared.option.Option.{Option}
 use Rattle.std.proofs.lemmas.Option.{none-some, same_Some}
@@ -13,7 +12,7 @@ use Rattle.rd_script.specs.declared.read.ScriptError.{ScriptError}
 use Rattle.rd_script.specs.declared.read.ScriptError.TheVariants as error
 use Rattle.rd_script.specs.Reading.{Breaks, SpellsRun, BreaksRun, HasNoReading}
 use Rattle.rd_script.specs.Refusals.{MatchError}
-use Rattle.rd_report.specs.Kept.{AreKept, IsPlayed}
+use Rattle.rd_report.specs.Kept.{IsPlayed}
 use Rattle.rd_report.specs.declared.playing.Ending.{Ending}
 use Rattle.rd_report.specs.declared.playing.Ending.TheVariants as ending
 use Rattle.rd_top.specs.Answers.{ReadsScript, SomeRose, IsUnlessRefused, limit}

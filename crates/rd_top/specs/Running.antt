@@ -3,7 +3,7 @@
 --     RunAnswer        what is answered, and why
 --     Runs        what holds of a call that serves it
 --     ServesPlainly        what holds of a call that serves other words
-use Rattle.std.specs.Prelude.{◌≡◌, ℕ, ◌<◌, ◌≤◌, List, [], ◌∷◌, ◌++◌, length, map, codes, String, string_bytes, Option, Some, ◌⊎◌}
+use Rattle.std.specs.Prelude.{◌≡◌, ℕ, ◌<◌, ◌≤◌, List, [], ◌∷◌, length, map, codes, String, string_bytes, Option, Some, ◌⊎◌}
 use Rattle.std.specs.declared.alloc.Global.{Global}
 use Rattle.std.specs.Io.KnownBytes.{Appends}
 use Rattle.rd_kinds.specs.SixKinds.{six_kinds}
@@ -14,9 +14,9 @@ use Rattle.rd_script.specs.declared.clients.RunScript.{RunScript}
 use Rattle.rd_script.specs.declared.fault.Rule.{Rule}
 use Rattle.rd_script.specs.Reading.{SpellsRun, BreaksRun, HasNoReading}
 use Rattle.rd_value.specs.Spelled.{byte_of, history_spelled}
-use Rattle.rd_report.specs.Kept.{AreKept, IsNotCleared}
+use Rattle.rd_report.specs.Kept.{IsNotCleared}
 use Rattle.rd_report.specs.SectionRuns as sections
-use Rattle.rd_top.specs.Answers.{ReadsScript, HasNoJson, IsTooLong, IsReported, Fulfils, CannotClear, HasNoScript, TellsRule, SomeRose, IsTextDue, CallsFor, IsUnlessRefused, not_a_script_text, not_cleared_text, limit}
+use Rattle.rd_top.specs.Answers.{ReadsScript, HasNoJson, IsTooLong, IsReported, Fulfils, CannotClear, TellsRule, SomeRose, IsTextDue, CallsFor, IsUnlessRefused, not_a_script_text, not_cleared_text, limit}
 use Rattle.rd_top.specs.Asking.{IsAsked, IsPlain, AskNothing}
 use Rattle.rd_top.specs.Status.{code_of}
 use Rattle.rd_top.specs.declared.due.Due.{Due}

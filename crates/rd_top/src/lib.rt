@@ -7,6 +7,7 @@ mod due;
 mod failing_tests;
 #[cfg(test)]
 mod largest_tests;
+mod laws;
 #[cfg(test)]
 mod levels_tests;
 #[cfg(test)]
@@ -32,7 +33,8 @@ mod words;
 #[cfg(test)]
 mod words_tests;
 
-pub use running::replicate_with;
+pub use laws::{reads_of_runs_include_writes, settles_of_runs_are_so};
+pub use running::replicate;
 pub use status::Status;
 pub use top::{Outcome, replicate_plain};
 pub use words::Asked;

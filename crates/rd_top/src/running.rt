@@ -14,12 +14,15 @@ use crate::answer::{Answer, bytes_of, due_of, told};
 use crate::due::Due;
 use crate::status::Status;
 use crate::top::{Outcome, replicate_plain};
+use rd_clients::OpenGate;
 use rd_keeper::Keeper;
 use rd_outside::{Sink, Source, write_all_of};
-use rd_report::{Played, PlaysThreads, report_with_clients};
+use rd_report::{Played, report_with_clients};
 use rd_script::{RunScript, read_run_script};
 use rd_value::Data;
 use std::alloc::Global;
+use std::sync::Wait;
+use std::thread::Threads;
 
 /// Whether the words are the one word `run`.
 fn is_run(words: &[String]) -> bool
@@ -50,9 +53,9 @@ fn run_script<S: Source>(alloc: Global, source: &mut S) -> Result<RunScript, Due
 }
 
 /// Plays a script that may have clients over values of the six kinds, and tells its report.
-fn play_run<K: Keeper + Drop, P: PlaysThreads<Data, K>>(
+fn play_run<R: Threads + Wait + Sync, K: Keeper + Drop + Send>(
+    rt: &R,
     alloc: Global,
-    player: &P,
     script: &RunScript,
     keepers: Vec<K>,
 ) -> Played<K>
@@ -60,14 +63,14 @@ fn play_run<K: Keeper + Drop, P: PlaysThreads<Data, K>>(
     requires keepers { length keepers.items ≡ 8 }
     ensures { IsPlayed K.Keeper.own (IsRunReportOver K.Keeper.own) script.now keepers.items result.keepers.items result.ending }
 {
-    report_with_clients::<Data, K, P>(alloc, player, script, keepers)
+    report_with_clients::<Data, K, R, OpenGate>(rt, alloc, &OpenGate, script, keepers)
 }
 
 /// What is due where the report of the script on the source is asked for, which may have clients.
 #[tactic(auto, using(crate::proofs::RunAnswers::refusal_due, crate::proofs::RunAnswers::played_due))]
-fn run_due<S: Source, K: Keeper + Drop, P: PlaysThreads<Data, K>>(
+fn run_due<R: Threads + Wait + Sync, S: Source, K: Keeper + Drop + Send>(
+    rt: &R,
     alloc: Global,
-    player: &P,
     source: &mut S,
     keepers: Vec<K>,
 ) -> Answer<K>
@@ -78,7 +81,7 @@ fn run_due<S: Source, K: Keeper + Drop, P: PlaysThreads<Data, K>>(
 {
     match run_script(alloc, source) {
         Ok(script) => {
-            let Played { ending, keepers } = play_run(alloc, player, &script, keepers);
+            let Played { ending, keepers } = play_run(rt, alloc, &script, keepers);
             Answer {
                 due: told(alloc, ending),
                 keepers,
@@ -89,9 +92,9 @@ fn run_due<S: Source, K: Keeper + Drop, P: PlaysThreads<Data, K>>(
 }
 
 /// Serves the word `run`.
-fn run<S: Source, K: Sink, D: Keeper + Drop, P: PlaysThreads<Data, D>>(
+fn run<R: Threads + Wait + Sync, S: Source, K: Sink, D: Keeper + Drop + Send>(
+    rt: &R,
     alloc: Global,
-    player: &P,
     source: &mut S,
     sink: &mut K,
     keepers: Vec<D>,
@@ -102,7 +105,7 @@ fn run<S: Source, K: Sink, D: Keeper + Drop, P: PlaysThreads<Data, D>>(
     ensures source_later { S.faults source.old ≤ S.faults source.new }
     ensures sink_later { K.faults sink.old ≤ K.faults sink.new }
 {
-    let Answer { due, keepers } = run_due(alloc, player, source, keepers);
+    let Answer { due, keepers } = run_due(rt, alloc, source, keepers);
     match write_all_of(sink, due.text().as_bytes()) {
         Ok(()) => Outcome {
             status: u8::from(due.status()),
@@ -116,10 +119,11 @@ fn run<S: Source, K: Sink, D: Keeper + Drop, P: PlaysThreads<Data, D>>(
 }
 
 /// Does what the words ask for, over a keeper for each place, as `replicate_plain` does, and serves the word `run` too: it reads a
-/// script that may have clients from the source, runs it and writes its report to the sink. The player plays the thread steps.
-pub fn replicate_with<S: Source, K: Sink, D: Keeper + Drop, P: PlaysThreads<Data, D>>(
+/// script that may have clients from the source, runs it with the clients of a thread step in threads of the runtime, and writes
+/// its report to the sink.
+pub fn replicate<R: Threads + Wait + Sync, S: Source, K: Sink, D: Keeper + Drop + Send>(
+    rt: &R,
     alloc: Global,
-    player: &P,
     words: &[String],
     source: &mut S,
     sink: &mut K,
@@ -151,7 +155,7 @@ pub fn replicate_with<S: Source, K: Sink, D: Keeper + Drop, P: PlaysThreads<Data
     ensures sink_later { K.faults sink.old ≤ K.faults sink.new }
 {
     if is_run(words) {
-        run(alloc, player, source, sink, keepers)
+        run(rt, alloc, source, sink, keepers)
     } else {
         replicate_plain(alloc, words, source, sink, keepers)
     }

@@ -1,17 +1,19 @@
 use Rattle.std.proofs.Common.{subst, sym}
-use Rattle.rd_top.specs.Asking.{IsPlain, AskNothing}
+use Rattle.rd_top.specs.Asking.{IsPlain}
+use Rattle.rd_top.specs.Running.{IsRunWord}
 use Rattle.rd_program.proofs.outcome.outcome.Goals as goal
 
-pub returns-in-Ok-clause-told : goal.returns-in-Ok-clause-told
-returns-in-Ok-clause-told g c = rw c.in-Ok.is (λ bytes before plain done told earlier.
-    (c.replicate_plain.result.keepers.items, c.replicate_plain.ensures.told bytes before (subst IsPlain (sym c.deref.ensures.value) plain) (rw c.from.ensures at done) told earlier))
+pub returns-in-Ok-clause-run : goal.returns-in-Ok-clause-run
+returns-in-Ok-clause-run g c = rw c.in-Ok.is (λ word. (c.replicate.result.keepers.items, rw c.from.ensures (c.replicate.ensures.run_ends (subst IsRunWord (sym c.deref.ensures.value) word))))
 
-pub returns-in-Ok-clause-words : goal.returns-in-Ok-clause-words
-returns-in-Ok-clause-words g c = rw c.in-Ok.is (λ none. rw c.from.ensures (c.replicate_plain.ensures.words (subst AskNothing (sym c.deref.ensures.value) none)))
+pub returns-in-Ok-clause-run_complete : goal.returns-in-Ok-clause-run_complete
+returns-in-Ok-clause-run_complete g c = rw c.in-Ok.is (λ bytes status word told calls.
+    (c.replicate.result.keepers.items, rw c.from.ensures (c.replicate.ensures.run_complete bytes status (subst IsRunWord (sym c.deref.ensures.value) word) told calls)))
+
+pub returns-in-Ok-clause-others : goal.returns-in-Ok-clause-others
+returns-in-Ok-clause-others g c = rw c.in-Ok.is (λ other.
+    (c.replicate.result.keepers.items, rw (c.from.ensures, ← c.deref.ensures.value) (c.replicate.ensures.others (λ word. other (subst IsRunWord c.deref.ensures.value word)))))
 
 pub returns-in-Ok-clause-unread : goal.returns-in-Ok-clause-unread
-returns-in-Ok-clause-unread g c = rw c.in-Ok.is (λ other. c.replicate_plain.ensures.unread (λ plain. other (subst IsPlain c.deref.ensures.value plain)))
-
-pub returns-in-Ok-clause-complete : goal.returns-in-Ok-clause-complete
-returns-in-Ok-clause-complete g c = rw c.in-Ok.is (λ bytes status plain told calls.
-    (c.replicate_plain.result.keepers.items, rw c.from.ensures (c.replicate_plain.ensures.complete bytes status (subst IsPlain (sym c.deref.ensures.value) plain) told calls)))
+returns-in-Ok-clause-unread g c = rw c.in-Ok.is (λ other unread.
+    c.replicate.ensures.unread (λ word. other (subst IsRunWord c.deref.ensures.value word)) (λ plain. unread (subst IsPlain c.deref.ensures.value plain)))

@@ -1,5 +1,5 @@
 use Rattle.rd_top.proofs.RunAnswers.{run_done, run_complete}
-use Rattle.rd_top.proofs.running.replicate_with.Goals as goal
+use Rattle.rd_top.proofs.running.replicate.Goals as goal
 
 pub returns-then-is_run-clause-run : goal.returns-then-is_run-clause-run
 returns-then-is_run-clause-run g c = λ word none. run_done g.D.Keeper _ _ _ _ _ _ _ _ _ _ _ c.run.ensures.ends none
