@@ -3,7 +3,7 @@ use Rattle.std.proofs.Common.{◌≡◌, ◌≢◌, ℕ, ◌+◌, ◌<◌, ◌�
 use Rattle.std.specs.FinMap as map
 use Rattle.std.specs.Prelude.{sum_by, if◌then◌else◌}
 use Rattle.std.proofs.Math.Nat.{max_comm}
-use Rattle.std.proofs.lemmas.Bool.{cases_eq, cases_lt, cases_Bool}
+use Rattle.std.proofs.lemmas.Bool.{cases_eq, cases_lt, cases_Bool, eqb-true, not-false}
 use Rattle.rd_history.specs.Table.{identity_limit, identities, with_at}
 use Rattle.rd_history.specs.Vector.{VersionVector, IdentitySet, join, with_member}
 use Rattle.rd_history.specs.History.{History, cut, is_pruned}
@@ -111,6 +111,59 @@ pruned_by_steps shares owner total id l = removed_at (with_at (number_at shares)
 
 pub combined_origin : (first later : Share) (origin : ℕ) → IsShareOf first origin → IsShareOf later origin → IsShareOf (counter_combined first later) origin
 combined_origin first later origin e f = e
+
+-- WHAT ANY COUNTER MENTIONS
+
+-- an identity that isn't mentioned has no share
+no_mention : (state : GCounter) (id : ℕ) → counter_mentioned state id ≡ false → number_at state.shares id ≡ 0
+no_mention state id none = eqb-true (number_at state.shares id) 0 (not-false _ none)
+
+-- a counter made of numbers mentions no identity whose number is 0
+made_mentions : (f : ℕ → ℕ) (id : ℕ) → f id ≡ 0 → counter_mentioned (record { shares = numbers_of f }) id ≡ false
+made_mentions f id e = ap (λ n. not (nat_eq n 0)) (⊎_elim
+    (λ (l : id < identity_limit). number_at-numbers_of f id l ∙ e)
+    (λ (l : identity_limit ≤ id). number_at-numbers_of_above f id l) (cases_lt id identity_limit))
+
+-- a number of 0 at one identity, and those that were 0 stay
+zero_at : (f : ℕ → ℕ) (removed id : ℕ) → f id ≡ 0 → with_at f removed 0 id ≡ 0
+zero_at f removed id e = ⊎_elim (λ (same : id ≡ removed). with_at_is f removed 0 id same) (λ (ne : id ≢ removed). with_at_other f removed 0 id ne ∙ e) (cases_eq id removed)
+
+-- nothing is mentioned where there was no record
+pub empty_mentions : (id : ℕ) → counter_mentioned empty_counter id ≡ false
+empty_mentions id = ap (λ n. not (nat_eq n 0)) (number_at-empty id)
+
+-- an operation adds no mention but of its origin
+pub applied_mentions : (state : GCounter) (by : ℕ) (dot : Dot) (id : ℕ) → (id ≡ dot.origin → ⊥) → counter_mentioned state id ≡ false → counter_mentioned (counter_applied state by dot) id ≡ false
+applied_mentions state by dot id other none = made_mentions _ id (with_at_other (number_at state.shares) dot.origin _ id other ∙ no_mention state id none)
+
+-- what a join mentions, either side does
+pub joined_mentions : (state other : GCounter) (id : ℕ) → counter_mentioned state id ≡ false → counter_mentioned other id ≡ false → counter_mentioned (counter_joined state other) id ≡ false
+joined_mentions state other id none none_too = made_mentions _ id (ap (λ n. max n (number_at other.shares id)) (no_mention state id none) ∙ ap (max 0) (no_mention other id none_too))
+
+-- a delta adds no mention but of its origin
+pub absorbed_mentions : (state : GCounter) (delta : Share) (origin id : ℕ) → IsShareOf delta origin → (id ≡ origin → ⊥) → counter_mentioned state id ≡ false → counter_mentioned (counter_absorbed state delta) id ≡ false
+absorbed_mentions state delta origin id made_by other none =
+    made_mentions _ id (with_at_other (number_at state.shares) delta.origin _ id (λ same. other (same ∙ made_by)) ∙ no_mention state id none)
+
+-- cleaning adds no mention
+pub cleaned_mentions : (state : GCounter) (removed id : ℕ) → counter_mentioned state id ≡ false → counter_mentioned (counter_cleaned state removed) id ≡ false
+cleaned_mentions state removed id none = made_mentions _ id (zero_at (number_at state.shares) removed id (no_mention state id none))
+
+-- what was cleaned away is mentioned no more
+pub cleaned_unmentioned : (state : GCounter) (removed : ℕ) → counter_mentioned (counter_cleaned state removed) removed ≡ false
+cleaned_unmentioned state removed = made_mentions _ removed (with_at_is (number_at state.shares) removed 0 removed refl)
+
+-- a prune adds no mention but of the owner
+pub pruned_mentions : (state : GCounter) (removed owner id : ℕ) → (id ≡ owner → ⊥) → counter_mentioned state id ≡ false → counter_mentioned (counter_pruned state removed owner) id ≡ false
+pruned_mentions state removed owner id other none =
+    let numbers : ℕ → ℕ = with_at (number_at state.shares) owner (number_at state.shares owner + number_at state.shares removed) in
+    made_mentions (with_at numbers removed 0) id (zero_at numbers removed id (with_at_other (number_at state.shares) owner _ id other ∙ no_mention state id none))
+
+-- what was pruned is mentioned no more
+pub pruned_unmentioned : (state : GCounter) (removed owner : ℕ) → counter_mentioned (counter_pruned state removed owner) removed ≡ false
+pruned_unmentioned state removed owner =
+    let numbers : ℕ → ℕ = with_at (number_at state.shares) owner (number_at state.shares owner + number_at state.shares removed) in
+    made_mentions (with_at numbers removed 0) removed (with_at_is numbers removed 0 removed refl)
 
 module _ {Op : Type 0} (amount : Op → ℕ) where
   -- shares with another share at one identity that was not cleaned away

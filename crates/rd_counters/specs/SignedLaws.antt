@@ -1,5 +1,6 @@
 -- The laws of a counter that moves both ways: each is a pair of laws of growing counters.
 use Rattle.std.proofs.Common.{◌≡◌, ℕ, ◌+◌, ◌<◌, ◌≤◌, Bool, true, false, ◌||◌, None, ap, ◌∙◌}
+use Rattle.std.proofs.lemmas.Bool.{or_parts}
 use Rattle.rd_history.specs.Table.{with_at}
 use Rattle.rd_history.specs.Vector.{VersionVector, IdentitySet, join, with_member}
 use Rattle.rd_history.specs.History.{History, cut}
@@ -17,7 +18,7 @@ use Rattle.rd_kinds.specs.declared.shown.Shown.TheVariants.{Signed}
 use Rattle.rd_counters.specs.declared.counter.GCounter.{GCounter}
 use Rattle.rd_counters.specs.declared.counter.PnCounter.{PnCounter}
 use Rattle.rd_counters.specs.declared.counter.PnShare.{PnShare}
-use Rattle.rd_counters.specs.Counter.{counter_prune_refusal}
+use Rattle.rd_counters.specs.Counter.{counter_prune_refusal, counter_mentioned}
 use Rattle.rd_counters.specs.Signed.{plus_of, minus_of, empty_signed, signed_applied, signed_delta_of, signed_apply_refusal, signed_joined, signed_absorbed, signed_combined, signed_cleaned, signed_pruned, signed_prune_refusal, signed_mentioned, signed_sum, less, AreBothShares, AreBothAt, AreBothWithin, AreBothOf}
 use Rattle.rd_counters.specs.Laws as one
 
@@ -108,6 +109,55 @@ neither a b e f = ap (λ x. x || b) e ∙ f
 pub data_unmentioned : (state : PnCounter) (log : History Op) (held : VersionVector) (gone : IdentitySet) (id : ℕ) → AreBothShares state log held gone → without gone held id ≡ 0 → signed_mentioned state id ≡ false
 data_unmentioned state log held gone id p none = neither _ _
     (one.data_unmentioned increment state.plus log held gone id p.plus none) (one.data_unmentioned decrement state.minus log held gone id p.minus none)
+
+-- WHAT ANY COUNTER MENTIONS
+
+-- the parts of a counter that doesn't mention an identity don't
+no_mentions : (state : PnCounter) (id : ℕ) → signed_mentioned state id ≡ false → (counter_mentioned state.plus id ≡ false) × (counter_mentioned state.minus id ≡ false)
+no_mentions state id none = or_parts _ _ none
+
+-- nothing is mentioned where there was no record
+pub empty_mentions : (id : ℕ) → signed_mentioned empty_signed id ≡ false
+empty_mentions id = neither _ _ (one.empty_mentions id) (one.empty_mentions id)
+
+-- an operation adds no mention but of its origin
+pub applied_mentions : (state : PnCounter) (op : Op) (dot : Dot) (id : ℕ) → (id ≡ dot.origin → ⊥) → signed_mentioned state id ≡ false → signed_mentioned (signed_applied state op dot) id ≡ false
+applied_mentions state op dot id other none =
+    let parts = no_mentions state id none in
+    neither _ _ (one.applied_mentions state.plus (increment op) dot id other parts.0) (one.applied_mentions state.minus (decrement op) dot id other parts.1)
+
+-- what a join mentions, either side does
+pub joined_mentions : (state other : PnCounter) (id : ℕ) → signed_mentioned state id ≡ false → signed_mentioned other id ≡ false → signed_mentioned (signed_joined state other) id ≡ false
+joined_mentions state other id none none_too =
+    let parts = no_mentions state id none in
+    let parts_too = no_mentions other id none_too in
+    neither _ _ (one.joined_mentions state.plus other.plus id parts.0 parts_too.0) (one.joined_mentions state.minus other.minus id parts.1 parts_too.1)
+
+-- a delta adds no mention but of its origin
+pub absorbed_mentions : (state : PnCounter) (delta : PnShare) (origin id : ℕ) → AreBothOf delta origin → (id ≡ origin → ⊥) → signed_mentioned state id ≡ false → signed_mentioned (signed_absorbed state delta) id ≡ false
+absorbed_mentions state delta origin id made_by other none =
+    let parts = no_mentions state id none in
+    neither _ _ (one.absorbed_mentions state.plus (plus_of delta) origin id made_by other parts.0) (one.absorbed_mentions state.minus (minus_of delta) origin id made_by other parts.1)
+
+-- cleaning adds no mention
+pub cleaned_mentions : (state : PnCounter) (removed id : ℕ) → signed_mentioned state id ≡ false → signed_mentioned (signed_cleaned state removed) id ≡ false
+cleaned_mentions state removed id none =
+    let parts = no_mentions state id none in
+    neither _ _ (one.cleaned_mentions state.plus removed id parts.0) (one.cleaned_mentions state.minus removed id parts.1)
+
+-- what was cleaned away is mentioned no more
+pub cleaned_unmentioned : (state : PnCounter) (removed : ℕ) → signed_mentioned (signed_cleaned state removed) removed ≡ false
+cleaned_unmentioned state removed = neither _ _ (one.cleaned_unmentioned state.plus removed) (one.cleaned_unmentioned state.minus removed)
+
+-- a prune adds no mention but of its origin
+pub pruned_mentions : (state : PnCounter) (removed : ℕ) (dot : Dot) (id : ℕ) → (id ≡ dot.origin → ⊥) → signed_mentioned state id ≡ false → signed_mentioned (signed_pruned state removed dot) id ≡ false
+pruned_mentions state removed dot id other none =
+    let parts = no_mentions state id none in
+    neither _ _ (one.pruned_mentions state.plus removed dot.origin id other parts.0) (one.pruned_mentions state.minus removed dot.origin id other parts.1)
+
+-- what was pruned is mentioned no more
+pub pruned_unmentioned : (state : PnCounter) (removed : ℕ) (dot : Dot) → signed_mentioned (signed_pruned state removed dot) removed ≡ false
+pruned_unmentioned state removed dot = neither _ _ (one.pruned_unmentioned state.plus removed dot.origin) (one.pruned_unmentioned state.minus removed dot.origin)
 
 pub data_once : (state other : PnCounter) (log : History Op) (held : VersionVector) (gone : IdentitySet) → AreBothShares state log held gone → AreBothShares other log held gone → state ≡ other
 data_once state other log held gone p q = same_parts _ _ _ _

@@ -197,6 +197,22 @@ impl Replica for GCounter {
 
     ghost data_once = { λ state other log held gone _ p q. laws.data_once increment state other log held gone p q };
 
+    ghost empty_mentions = { λ _. laws.empty_mentions };
+
+    ghost applied_mentions = { λ state op dot id. laws.applied_mentions state (increment op) dot id };
+
+    ghost joined_mentions = { λ state _ other _ id. laws.joined_mentions state other id };
+
+    ghost absorbed_mentions = { λ state _ delta origin id. laws.absorbed_mentions state delta origin id };
+
+    ghost cleaned_mentions = { laws.cleaned_mentions };
+
+    ghost cleaned_unmentioned = { laws.cleaned_unmentioned };
+
+    ghost pruned_mentions = { λ state removed dot id. laws.pruned_mentions state removed dot.origin id };
+
+    ghost pruned_unmentioned = { λ state removed dot _. laws.pruned_unmentioned state removed dot.origin };
+
     ghost refusal_means = { laws.growing_refusal };
 
     ghost blocked_means = { λ state log held gone owner removed p is stays stays_too. laws.blocked_means increment state log held gone owner removed None p is stays stays_too };

@@ -244,6 +244,22 @@ impl Replica for PnCounter {
 
     ghost data_once = { λ state other log held gone _ p q. laws.data_once state other log held gone p q };
 
+    ghost empty_mentions = { λ _. laws.empty_mentions };
+
+    ghost applied_mentions = { laws.applied_mentions };
+
+    ghost joined_mentions = { λ state _ other _ id. laws.joined_mentions state other id };
+
+    ghost absorbed_mentions = { λ state _ delta origin id. laws.absorbed_mentions state delta origin id };
+
+    ghost cleaned_mentions = { laws.cleaned_mentions };
+
+    ghost cleaned_unmentioned = { laws.cleaned_unmentioned };
+
+    ghost pruned_mentions = { laws.pruned_mentions };
+
+    ghost pruned_unmentioned = { λ state removed dot _. laws.pruned_unmentioned state removed dot };
+
     ghost refusal_means = { laws.refusal_means };
 
     ghost blocked_means = { laws.blocked_means };

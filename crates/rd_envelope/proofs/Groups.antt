@@ -1,6 +1,7 @@
 -- Groups with the same fields are the same, whatever the proofs beside them.
 use Rattle.std.proofs.Common.{◌≡◌, ℕ, ◌<◌, ◌≤◌, ◌^◌}
 use Rattle.std.proofs.Math.Bridge.{le_prop}
+use mathlib.Core.Logic.{∥∥₁_prop}
 use mathlib.Core.HLevel.{is_prop→PathP}
 use Rattle.rd_lattice.specs.declared.replica.Replica.{Ghosts}
 use Rattle.rd_envelope.specs.declared.group.Group.{Group}
@@ -17,4 +18,5 @@ module _ {T Kind Op Delta : Type 0} {ghosts : Ghosts T Kind Op Delta} where
     numbers = is_prop→PathP (λ j. (after j < upto j) × (upto j ≤ 2 ^ 62)) (λ j. numbers_once (after j) (upto j)) a.numbers b.numbers i;
     needs = needs i;
     delta = delta i;
+    of_origin = is_prop→PathP (λ j. ∥ ghosts.IsOfOrigin (delta j) (origin j) ∥₁) (λ j. ∥∥₁_prop) a.of_origin b.of_origin i;
   }

@@ -1,4 +1,6 @@
 pub mod Tests
+pub mod Forgetting
+pub mod Opened
 pub mod Numbers
 pub mod Dropped
 pub mod Holding

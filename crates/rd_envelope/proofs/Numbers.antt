@@ -82,6 +82,16 @@ joined_each m n r limit normal few none e i = ap (λ x. number_at x i) e ∙ ⊎
     let other = none i (omega arith) in
     omega (arith, above, one, other)) (cases_lt i identity_limit)
 
+-- of an identity that was cleaned away nothing is counted
+pub dropped_nothing : (gone : IdentitySet) (held : VersionVector) (i : ℕ) → gone i ≡ true → without gone held i ≡ 0
+dropped_nothing gone held i g = ap (λ b. cond b 0 (held i)) g
+
+-- neither counts a record, nor do both together
+pub joined_nothing : (m n r : Numbers) (i : ℕ) → number_at m i ≡ 0 → number_at n i ≡ 0 → r ≡ joined m n → number_at r i ≡ 0
+joined_nothing m n r i none none' e = ap (λ x. number_at x i) e ∙ ⊎_elim
+    (λ (l : i < identity_limit). number_at-joined m n i l ∙ (λ j. max (none j) (none' j)))
+    (λ (l : identity_limit ≤ i). number_at-numbers_of_above (λ k. max (number_at m k) (number_at n k)) i l) (cases_lt i identity_limit)
+
 -- on success a number that is another is at most it
 pub at_most_ok : {X E : Type 0} (r : Result X E) (a b : ℕ) → OnOk r (a ≡ b) → OnOk r (a ≤ b)
 at_most_ok (Ok x) a b e = omega (arith, e)

@@ -5,7 +5,8 @@ use Rattle.std.specs.FinMap as map
 use Rattle.std.proofs.lemmas.Bool.{cases_eq, cases_lt}
 use Rattle.rd_history.specs.Table.{identity_limit, with_at}
 use Rattle.rd_history.proofs.HistoryLaws.{with_at_other}
-use Rattle.rd_history.proofs.CutLaws.{with_at_is}
+use Rattle.rd_history.specs.Vector.{with_member}
+use Rattle.rd_history.proofs.CutLaws.{with_at_is, with_member_is, with_member_other}
 use Rattle.rd_vectors.specs.Vectors.{Numbers, number_at, raised, removed, IsNormal}
 use Rattle.rd_vectors.proofs.Laws.{number_at-raised_same, number_at-raised_other, number_at-numbers_of, number_at-numbers_of_above, number_at_above}
 use Rattle.rd_markers.specs.declared.marker.Marker.{Marker}
@@ -48,6 +49,13 @@ pub marks_with : (old new : Marks) (r : ℕ) (mark : Marker) → new ≡ map.ins
 marks_with old new r mark is i = ap (λ m. mark_of m i) is ∙ elim (cases_eq i r) [
   | inl same ↦ mark_of-insert_same old r i mark same ∙ sym (with_at_is (mark_of old) r (Some mark) i same)
   | inr other ↦ mark_of-insert_other old r i mark other ∙ sym (with_at_other (mark_of old) r (Some mark) i other)
+]
+
+-- one more identity was pruned
+pub performed_with : (old new : Marks) (r owner seq upto : ℕ) → ((i : ℕ) → mark_of new i ≡ with_at (mark_of old) r (Some (Performed owner seq upto)) i) → (i : ℕ) → performed_in new i ≡ with_member (performed_in old) r i
+performed_with old new r owner seq upto marks i = ap is_performed (marks i) ∙ elim (cases_eq i r) [
+  | inl same ↦ ap is_performed (with_at_is (mark_of old) r (Some (Performed owner seq upto)) i same) ∙ sym (with_member_is (performed_in old) r i same)
+  | inr other ↦ ap is_performed (with_at_other (mark_of old) r (Some (Performed owner seq upto)) i other) ∙ sym (with_member_other (performed_in old) r i other)
 ]
 
 -- a begun mark in place of one that is not performed prunes nobody

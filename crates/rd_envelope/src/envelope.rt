@@ -25,14 +25,30 @@ use rd_lattice::{ApplyError, PruneError, Replica, Shown};
 use rd_markers::{Marker, Markers};
 use rd_vectors::{Dot, Id, IdSet, Memory, Seq, VersionVector};
 use std::alloc::Global;
+use std::marker::Model;
 
-/// What a member holds of one key.
+/// What a member holds of one key. Contracts see its parts. An identity with a performed mark stands in no other of them.
 #[derive(Drop)]
 pub struct Envelope<T: Replica> {
     alloc: Global,
     value: T,
     versions: VersionVector,
     markers: Markers,
+}
+
+impl<T: Replica> Model for Envelope<T> {
+    ghost use Rattle.std.specs.Coded.{codes};
+    ghost use Rattle.rd_vectors.specs.contracts.vector.VersionVector as vector;
+    ghost use Rattle.rd_markers.specs.contracts.markers.Markers as marks;
+    ghost use Rattle.rd_envelope.specs.Contents.{Contents, AreForgotten};
+
+    ghost Value = { Contents T T.Kind T.Op T.Delta };
+
+    ghost coded = { Prim.hlevel (codes, vector.the_row.coded, marks.the_row.coded) };
+
+    ghost view = { λ envelope. record { value = envelope.value; versions = envelope.versions; markers = envelope.markers } };
+
+    ghost invariant = { λ envelope. AreForgotten T.mentioned envelope.value envelope.versions envelope.markers };
 }
 
 impl<T: Replica> Envelope<T> {
@@ -113,6 +129,7 @@ impl<T: Replica> Envelope<T> {
         ensures value { result.now ≡ self.now.markers }
         ensures begun { (log : History T.Op) (entry : Entry T.Op) → StandsFor T.IsDataOf (parts_of self.now) log entry → (r : ℕ) → begun (mark_of result.now r) ≡ entry.marks r }
         ensures pruned { (log : History T.Op) (entry : Entry T.Op) → StandsFor T.IsDataOf (parts_of self.now) log entry → (r : ℕ) → performed_in result.now r ≡ is_pruned entry.history r }
+        ensures forgotten { (id : ℕ) → performed_in result.now id ≡ true → (number_at self.now.versions id ≡ 0) × (T.mentioned self.now.value id ≡ false) }
     {
         &self.markers
     }
@@ -470,8 +487,7 @@ impl<T: Replica> Envelope<T> {
         ensures waiting { (i : ℕ) (mark : Mark) → begun (mark_of self.old.markers removed) ≡ Some mark → result ≡ Ok (outcome.Waiting i) → unseen mark members.now ≡ Some i }
         ensures seen { (i : ℕ) (mark : Mark) → begun (mark_of self.old.markers removed) ≡ Some mark → mark.view ≡ view → unseen mark members.now ≡ Some i → result ≡ Ok (outcome.Waiting i) }
         ensures pruned { result ≡ Ok outcome.Performed → IsPruned removed owner (parts_of self.old) (parts_of self.new) }
-        ensures forgotten { (log : History T.Op) (entry : Entry T.Op) → StandsFor T.IsDataOf (parts_of self.old) log entry → IsTakenFrom log (with_prune entry owner removed).history
-            → result ≡ Ok outcome.Performed → T.mentioned self.new.value removed ≡ false }
+        ensures forgotten { result ≡ Ok outcome.Performed → T.mentioned self.new.value removed ≡ false }
         ensures kind { T.kind_of self.new.value ≡ T.kind_of self.old.value }
         ensures stays { (result ≡ Ok outcome.Performed → ⊥) → self.new ≡ self.old }
     {
@@ -500,8 +516,7 @@ impl<T: Replica> Envelope<T> {
         ensures marked { result ≡ Ok outcome.NothingMarked → ⊥ }
         ensures seen { (i : ℕ) → result ≡ Ok (outcome.Waiting i) → ⊥ }
         ensures pruned { result ≡ Ok outcome.Performed → IsPruned removed owner (parts_of self.old) (parts_of self.new) }
-        ensures forgotten { (log : History T.Op) (entry : Entry T.Op) → StandsFor T.IsDataOf (parts_of self.old) log entry → IsTakenFrom log (with_prune entry owner removed).history
-            → result ≡ Ok outcome.Performed → T.mentioned self.new.value removed ≡ false }
+        ensures forgotten { result ≡ Ok outcome.Performed → T.mentioned self.new.value removed ≡ false }
         ensures kind { T.kind_of self.new.value ≡ T.kind_of self.old.value }
         ensures stays { (result ≡ Ok outcome.Performed → ⊥) → self.new ≡ self.old }
     {

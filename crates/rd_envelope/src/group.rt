@@ -14,6 +14,8 @@ pub struct Group<T: Replica> {
     /// The records that a taker has to have.
     pub needs: VersionVector,
     pub delta: T::Delta,
+    /// The delta is of the origin.
+    ghost of_origin: { ∥ T.IsOfOrigin delta origin ∥₁ },
 }
 
 impl<T: Replica> Group<T> {

@@ -1,4 +1,4 @@
--- An envelope is spelled as the entry that it stands for, and can be read again.
+-- An envelope is spelled as the entry that it stands for.
 use Rattle.std.proofs.Common.{◌≡◌, ℕ, List, ◌∷◌, ◌++◌, Bool, true, false, Option, Some, None, refl, sym, ap, ◌∙◌}
 use Rattle.std.specs.Prelude.{option_map, if◌then◌else◌}
 use Rattle.rd_history.specs.Vector.{VersionVector, IdentitySet}
@@ -17,7 +17,7 @@ use Rattle.rd_envelope.specs.Images.{Parts, StandsFor}
 use Rattle.rd_envelope.proofs.Holding.{held_pruned}
 use Rattle.rd_envelope.proofs.Entries.{pruned_is}
 use Rattle.rd_envelope.proofs.MarkPrunes.{mark_of_prune, none_performed}
-use Rattle.rd_envelope_codec.specs.Envelopes.{envelope_spelled, IsSpelled, IsEnvelope}
+use Rattle.rd_envelope_codec.specs.Envelopes.{envelope_spelled}
 use Rattle.rd_envelope_codec.specs.Entries.{mark_piece, entry_piece, entry_spelled, entry_digest}
 
 begun_piece : (r : ℕ) (o : Option Marker) → is_performed o ≡ false → option_map (mark_spelled r) o ≡ mark_piece {Op = ℕ} None r (begun o)
@@ -66,17 +66,3 @@ module _ {State Kind Op : Type 0} (D : State → History Op → VersionVector �
   pub digest_is : (digest : List ℕ) → digest ≡ sha1 (envelope_spelled (λ (value : State). byte_of (kind_of value)) spelled parts) → digest ≡ entry_digest byte_of history_spelled (kind_of parts.value) entry
   unfolding entry_digest
   digest_is digest is = is ∙ ap sha1 spelled_is
-
-module _ {State Op : Type 0} (D : State → History Op → VersionVector → IdentitySet → Type 0) (IsSound : State → Type 0) (mentioned : State → ℕ → Bool)
-    (unmentioned : (state : State) (log : History Op) (held : VersionVector) (gone : IdentitySet) (id : ℕ) → D state log held gone → without gone held id ≡ 0 → mentioned state id ≡ false)
-    (parts : Parts State) (log : History Op) (entry : Entry Op) (stands : StandsFor D parts log entry) where
-  -- pruned identities have no records, and the data don't name them
-  without_is : (i : ℕ) → performed_in parts.marks i ≡ true → without (performed_in parts.marks) (versions entry.history) i ≡ 0
-  without_is i pruned = ap (λ (gone : Bool). if gone then 0 else versions entry.history i) pruned
-
-  pub stands_readable : IsSpelled IsSound parts → IsEnvelope IsSound mentioned parts
-  stands_readable spelled = record {
-    spelled = spelled;
-    counted = λ i pruned. stands.holds.numbers i ∙ without_is i pruned;
-    named = λ i pruned. unmentioned parts.value log (versions entry.history) (performed_in parts.marks) i stands.holds.state (without_is i pruned);
-  }

@@ -67,7 +67,7 @@ impl<T: Replica> Digested<T> {
 
     /// The envelope to be changed. Its digest is no longer kept.
     pub fn change(&mut self) -> &mut Envelope<T>
-        ensures* writes_back { sem 𝓛 (Lends (digested.the_row T.row T.Kind.row T.Op.row T.Delta.row T.Replica) (envelope.the_row T.row T.Kind.row T.Op.row T.Delta.row) self.entry result (λ envelope. record { envelope = envelope; is_kept = false })) }
+        ensures* writes_back { sem 𝓛 (Lends (digested.the_row T.row T.Kind.row T.Op.row T.Delta.row T.Replica) (envelope.the_row T.row T.Kind.row T.Op.row T.Delta.row T.Replica) self.entry result (λ envelope. record { envelope = envelope; is_kept = false })) }
         ensures value { result.now ≡ self.old.envelope }
     {
         self.digest = None;

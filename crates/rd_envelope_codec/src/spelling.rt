@@ -3,7 +3,7 @@ ghost use Rattle.rd_history.specs.History.{History};
 ghost use Rattle.rd_model.specs.Entry.{Entry};
 ghost use Rattle.rd_envelope.specs.Images.{StandsFor};
 ghost use Rattle.rd_envelope.specs.Words.{parts_of};
-ghost use Rattle.rd_envelope_codec.specs.Envelopes.{envelope_spelled, IsSpelled, IsEnvelope};
+ghost use Rattle.rd_envelope_codec.specs.Envelopes.{envelope_spelled, IsEnvelope};
 ghost use Rattle.rd_envelope_codec.specs.Entries.{entry_spelled, entry_digest};
 ghost use Rattle.sha1.specs.Sha1.{sha1};
 
@@ -15,7 +15,7 @@ use std::alloc::Global;
 
 /// Appends the spelling of an envelope.
 fn append<T: SpelledData>(envelope: &Envelope<T>, into: &mut Vec<u8>) -> Result<(), Memory>
-    ensures sound { OnOk result (IsSpelled T.IsSound (parts_of envelope.now)) }
+    ensures readable { OnOk result (IsEnvelope T.IsSound T.mentioned (parts_of envelope.now)) }
     ensures value { OnOk result (into.new.items ≡ into.old.items ++ envelope_spelled (λ value. T.byte_of (T.kind_of value)) T.spelled (parts_of envelope.now)) }
 {
     into.push(1)?;
@@ -27,13 +27,11 @@ fn append<T: SpelledData>(envelope: &Envelope<T>, into: &mut Vec<u8>) -> Result<
 
 /// The spelling of an envelope.
 pub fn spell<T: SpelledData>(alloc: Global, envelope: &Envelope<T>) -> Result<Vec<u8>, Memory>
-    ensures sound { IfOk result (λ _bytes. IsSpelled T.IsSound (parts_of envelope.now)) }
     ensures value { IfOk result (λ bytes. bytes.items ≡ envelope_spelled (λ value. T.byte_of (T.kind_of value)) T.spelled (parts_of envelope.now)) }
     ensures image { (log : History T.Op) (entry : Entry T.Op) → StandsFor T.IsDataOf (parts_of envelope.now) log entry
         → IfOk result (λ bytes. bytes.items ≡ entry_spelled T.byte_of T.history_spelled (T.kind_of envelope.now.value) entry) }
-    // What is spelled of an entry is what `read` reads again.
-    ensures readable { (log : History T.Op) (entry : Entry T.Op) → StandsFor T.IsDataOf (parts_of envelope.now) log entry
-        → IfOk result (λ _bytes. IsEnvelope T.IsSound T.mentioned (parts_of envelope.now)) }
+    // What is spelled is what `read` reads again.
+    ensures readable { IfOk result (λ _bytes. IsEnvelope T.IsSound T.mentioned (parts_of envelope.now)) }
 {
     let mut bytes = Vec::new(alloc);
     append(envelope, &mut bytes)?;

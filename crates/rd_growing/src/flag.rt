@@ -198,6 +198,22 @@ impl Replica for Flag {
 
     ghost data_once = { λ state other log held _ _ is other_is. laws.data_once enables state other log held is other_is };
 
+    ghost empty_mentions = { λ _ _. refl };
+
+    ghost applied_mentions = { λ _ _ _ _ _ _. refl };
+
+    ghost joined_mentions = { λ _ _ _ _ _ _ _. refl };
+
+    ghost absorbed_mentions = { λ _ _ _ _ _ _ _ _. refl };
+
+    ghost cleaned_mentions = { λ _ _ _ _. refl };
+
+    ghost cleaned_unmentioned = { λ _ _. refl };
+
+    ghost pruned_mentions = { λ _ _ _ _ _ _. refl };
+
+    ghost pruned_unmentioned = { λ _ _ _ _. refl };
+
     ghost refusal_means = { λ _ log held _ op origin _ _ _ fits. laws.never_refused op origin (cut log held) fits };
 
     ghost blocked_means = { λ _ _ _ _ _ _ _ _ _ _. refl };

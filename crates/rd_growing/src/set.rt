@@ -312,6 +312,22 @@ impl Replica for GSet {
 
     ghost data_once = { λ state other log held _ _ is other_is. laws.data_once added state other log held is other_is };
 
+    ghost empty_mentions = { λ _ _. refl };
+
+    ghost applied_mentions = { λ _ _ _ _ _ _. refl };
+
+    ghost joined_mentions = { λ _ _ _ _ _ _ _. refl };
+
+    ghost absorbed_mentions = { λ _ _ _ _ _ _ _ _. refl };
+
+    ghost cleaned_mentions = { λ _ _ _ _. refl };
+
+    ghost cleaned_unmentioned = { λ _ _. refl };
+
+    ghost pruned_mentions = { λ _ _ _ _ _ _. refl };
+
+    ghost pruned_unmentioned = { λ _ _ _ _. refl };
+
     ghost refusal_means = { λ state log held _ op origin pruned is _ fits. laws.refusal_means state log held op origin pruned.cut is fits };
 
     ghost blocked_means = { λ _ _ _ _ _ _ _ _ _ _. refl };

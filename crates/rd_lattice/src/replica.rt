@@ -248,6 +248,24 @@ pub trait Replica: Drop {
 
     ghost data_once: { (state other : Self) (log : History Self.Op) (held : VersionVector) (gone : IdentitySet) → kind_of state ≡ kind_of other → IsDataOf state log held gone → IsDataOf other log held gone → state ≡ other };
 
+    // What any data mention, also those of no history: what was cleaned or pruned away is mentioned no more, and nothing
+    // comes to be mentioned but what either side of a join mentions, and the origin of a record or a delta.
+    ghost empty_mentions: { (kind : Self.Kind) (id : ℕ) → mentioned (empty_of kind) id ≡ false };
+
+    ghost applied_mentions: { (state : Self) (op : Self.Op) (dot : Dot) (id : ℕ) → (id ≡ dot.origin → ⊥) → mentioned state id ≡ false → mentioned (applied state op dot) id ≡ false };
+
+    ghost joined_mentions: { (state : Self) (mine : VersionVector) (other : Self) (theirs : VersionVector) (id : ℕ) → mentioned state id ≡ false → mentioned other id ≡ false → mentioned (joined state mine other theirs) id ≡ false };
+
+    ghost absorbed_mentions: { (state : Self) (mine : VersionVector) (delta : Self.Delta) (origin id : ℕ) → IsOfOrigin delta origin → (id ≡ origin → ⊥) → mentioned state id ≡ false → mentioned (absorbed state mine delta) id ≡ false };
+
+    ghost cleaned_mentions: { (state : Self) (removed id : ℕ) → mentioned state id ≡ false → mentioned (cleaned state removed) id ≡ false };
+
+    ghost cleaned_unmentioned: { (state : Self) (removed : ℕ) → mentioned (cleaned state removed) removed ≡ false };
+
+    ghost pruned_mentions: { (state : Self) (removed : ℕ) (dot : Dot) (id : ℕ) → (id ≡ dot.origin → ⊥) → mentioned state id ≡ false → mentioned (pruned state removed dot) id ≡ false };
+
+    ghost pruned_unmentioned: { (state : Self) (removed : ℕ) (dot : Dot) → (removed ≡ dot.origin → ⊥) → mentioned (pruned state removed dot) removed ≡ false };
+
     // What is refused, blocked and shown is what the history says.
     ghost refusal_means: { (state : Self) (log : History Self.Op) (held : VersionVector) (gone : IdentitySet) (op : Self.Op) (origin : ℕ) → IsPrunedCut log held gone → IsDataOf state log held gone → gone origin ≡ false → data_type.fits (kind_of state) op ≡ true
         → apply_refusal state op origin ≡ data_type.refusal (kind_of state) origin op (cut log held) };

@@ -1,25 +1,21 @@
 -- What a step has in common whatever the store does.
 --     entries_same        the entries after the step are the same
 --     same_stored, same_failed        the step is, but for what a failed store makes of it: the reply, an operation that was to be opened, and the acknowledgement of a write
-use Rattle.std.proofs.Common.{◌≡◌, ◌≢◌, ℕ, List, [], ◌∷◌, ◌++◌, refl, sym, ap, ◌∙◌, Bool, true, false, not, Option, Some, None}
-use Rattle.std.specs.Prelude.{length, map, filter, find, if◌then◌else◌, nat_le, ◌==◌, ◌||◌, ◌&&◌}
+use Rattle.std.proofs.Common.{◌≡◌, ◌≢◌, ℕ, List, [], ◌∷◌, ◌++◌, refl, sym, ap, ◌∙◌, Bool, true, false, not, Option, Some, None, length, map, filter, find, if◌then◌else◌, nat_le, ◌==◌, ◌||◌, ◌&&◌, bytes_eq}
 use Rattle.std.specs.List.{list_any}
-use Rattle.std.specs.Str.{bytes_eq}
-use Rattle.rd_history.specs.Texts.{Text}
+use Rattle.rd_node.proofs.Common.{Text, View, is_member, is_unchanged, seen_by, with_action, Replication, OpenOperation, Stepped, state_of, key_state, one_step_later, needed, NoStore, step, step_of_take, answered, opened, gossip_to, answer_to, after_groups, after_entries, named_entries, is_answered_by, result_of, is_unchanged-same}
 use Rattle.rd_history.specs.Vector.{members_of}
 use Rattle.rd_history.specs.History.{Action}
 use Rattle.rd_meanings.specs.Refusal.{Refusal}
-use Rattle.rd_model.specs.View.{View, is_member, leader}
-use Rattle.rd_model.specs.Entry.{Entry, is_unchanged, seen_by, with_action}
-use Rattle.rd_model.specs.DataType.{Replication}
+use Rattle.rd_model.specs.View.{leader}
+use Rattle.rd_model.specs.Entry.{Entry}
 use Rattle.rd_model.specs.Message.{Keyed, Message, Post}
 use Rattle.rd_model.specs.Message.Message.{Deltas, Nack, Status, Gossip, Write, WriteAck, WriteNack, Read, ReadAnswer}
-use Rattle.rd_model.specs.Node.{KeyDecl, KeyState, Node, OpenOperation, Finished, Input, Fate, Level, Reply, Stepped, state_of, key_state, one_step_later, needed, with_entry}
-use Rattle.rd_model.specs.Node.Fate.{NoStore, Stored, StoreFailed}
+use Rattle.rd_model.specs.Node.{KeyDecl, KeyState, Node, Finished, Input, Fate, Level, Reply, with_entry}
+use Rattle.rd_model.specs.Node.Fate.{Stored, StoreFailed}
 use Rattle.rd_model.specs.Node.Reply.{Done, Pending, WrongKind, NotStored, Taken, NotFromMember, OldView, Installed, NotAPeer, Ticked, TickedNotStored, NotLeader, TimedOut, NoSuchOp}
-use Rattle.rd_model.specs.Step.{KeyGap, step, step_of_take, take_reply, took, to_store, answered, sent, opened, nack_to, gossip_to, answer_to, status_of, member_count, outcomes_of, entry_after_tick, after_groups, after_entries, named_entries, keyed_option, is_changed, is_answered_by, with_answer, result_of, value_reply, shown_of}
+use Rattle.rd_model.specs.Step.{KeyGap, take_reply, took, to_store, sent, nack_to, status_of, member_count, outcomes_of, entry_after_tick, keyed_option, is_changed, with_answer, value_reply, shown_of}
 use Rattle.rd_model.proofs.Cases.{updated, updated_needing, updated_unless, got, got_needing, counted_for}
-use Rattle.rd_model.proofs.Taking.{is_unchanged-same}
 
 -- WHAT A FAILED STORE MAKES OF A STEP
 
@@ -92,24 +88,11 @@ module _ {Kind Op Shown : Type 0} (D : Replication Kind Op Shown) (node : Node K
       took_stored : (after : Node Kind Op Shown) (gaps : List KeyGap) (posts : List (Post Op)) → took D later after Stored gaps posts ≡ took D later after NoStore gaps posts
       took_stored after [] posts = refl
       took_stored after (gap ∷ gaps) posts = refl
-  taken_stored from (Nack keys) = refl
-  taken_stored from (Status digests) = refl
-  taken_stored from (Gossip entries wants) = refl
-  taken_stored from (Write op key entry) = refl
-  taken_stored from (WriteAck op) = refl
-  taken_stored from (WriteNack op) = refl
-  taken_stored from (Read op key) = refl
-  taken_stored from (ReadAnswer op key entry) = refl
+  taken_stored from _ = refl
 
   pub same_stored : (i : Input Op) → step D node i Stored ≡ step D node i NoStore
-  same_stored (Input.Update key op level) = refl
-  same_stored (Input.Get key level) = refl
   same_stored (Input.Take from message) = ap (λ s. if is_member node.view from then s else answered later NotFromMember) (taken_stored from message)
-  same_stored (Input.Install view) = refl
-  same_stored Input.Flush = refl
-  same_stored (Input.GossipTo j) = refl
-  same_stored Input.PruneTick = refl
-  same_stored (Input.Timeout op) = refl
+  same_stored _ = refl
 
   -- what a failed store makes of a step: the same entries, and what it says where something had to be stored
   record Fails (one other : Stepped Kind Op Shown) : Type 0 where

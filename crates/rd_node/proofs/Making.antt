@@ -1,64 +1,160 @@
+-- A step that was prepared and carried out is one of the model, and what it stores.
+-- What a step has to store, key by key.
+-- Replies that open an operation, and those of failed stores.
 -- A step that was prepared and carried out is one of the model.
-use Rattle.std.proofs.Common.{◌≡◌, ◌≢◌, ◌+◌, ◌<◌, Bool, true, false, Some, None, List, [], ◌∷◌, refl, sym, ap, ◌∙◌, subst, arith}
-use Rattle.std.specs.Prelude.{map, All, if◌then◌else◌, unwrap_or, IsFalse}
-use Rattle.rd_history.specs.Texts.{Text}
-use Rattle.rd_history.specs.Vector.{VersionVector}
-use Rattle.rd_history.specs.History.{History, IsExactlyPruned}
-use Rattle.rd_history.specs.Log.{IsTakenFrom}
+use Rattle.std.proofs.Common.{◌≡◌, ℕ, zero, suc, ◌+◌, ◌<◌, take, List, [], ◌∷◌, ◌++◌, length, get_or, refl, sym, ap, ◌∙◌, subst, arith, append_assoc, Bool, true, false, not, append-nil, map, filter, All, ◌&&◌, if◌then◌else◌, ◌≢◌, Some, unwrap_or, IsFalse}
+use Rattle.std.proofs.lemmas.List.{map-append}
+use Rattle.std.proofs.lemmas.List.Elements.{All-append}
+use Rattle.rd_node.proofs.Common.{Text, History, VersionVector, IsTakenFrom, is_unchanged, state_of, Stepped, step, Shown, Ghosts, Keeping, StandsForMessage, StandsForPosts, KeyState, declared_by, AreSpelled, Reply, meant, is_pending, Node, Prepared, Put, StandsForKey, StandsForNode, replication, StandsForOutput, IsStepOf, IsPrepared, IsSoundFor, Prepares, changed_operations, StandForOperations}
+use Rattle.rd_history.specs.History.{IsExactlyPruned}
+use Rattle.rd_model.specs.Entry as model
 use Rattle.rd_model.specs.Entry.{Entry}
+use Rattle.rd_model.specs.Node as nodes
+use Rattle.rd_model.specs.Step.{to_store, is_full}
 use Rattle.rd_model.specs.Message as sending
 use Rattle.rd_model.specs.Message.{Message as Sent}
-use Rattle.rd_model.specs.Node as nodes
-use Rattle.rd_model.specs.Node.{Stepped}
-use Rattle.rd_model.specs.Step.{step, is_full, to_store}
 use Rattle.rd_model.specs.World.{FitsFate}
-use Rattle.rd_kinds.specs.declared.shown.Shown.{Shown}
-use Rattle.rd_lattice.specs.declared.replica.Replica.{Ghosts}
 use Rattle.rd_lattice.specs.declared.spelled.SpelledData.{Ghosts as Spelling}
-use Rattle.rd_keeper.specs.declared.keeper.Keeper.{Ghosts as Keeping}
+use Rattle.rd_keeper.specs.declared.stored.Stored.{Stored as Kept}
 use Rattle.rd_keeper.specs.Calls.{Becomes}
 use Rattle.rd_keeper.specs.Tables.{put_all}
 use Rattle.rd_messages.specs.declared.message.Message.{Message as Code}
 use Rattle.rd_messages.specs.declared.message.Message.TheVariants as message
 use Rattle.rd_messages.specs.declared.message.Post.{Post}
-use Rattle.rd_messages.specs.Standing.{StandsForMessage, StandsForPosts}
-use Rattle.rd_node.specs.declared.node.Node.{Node}
-use Rattle.rd_node.specs.declared.input.Input.{Input}
-use Rattle.rd_node.specs.declared.plan.Prepared.{Prepared}
-use Rattle.rd_node.specs.declared.operations.NextOperation.{NextOperation}
-use Rattle.rd_node.specs.declared.operations.OperationChange.{OperationChange}
-use Rattle.rd_node.specs.declared.operations.OperationChange.TheVariants.{Same, Opened, Put}
-use Rattle.rd_node.specs.declared.reply.Fate.{Fate}
-use Rattle.rd_node.specs.declared.reply.Fate.TheVariants.{NoStore, Stored, StoreFailed}
+use Rattle.rd_node.specs.Stores.{spelled_entry, IsKept}
+use Rattle.rd_node.specs.Storing.{holding, stored_of}
 use Rattle.rd_node.specs.declared.reply.Reply.TheVariants as reply
 use Rattle.rd_node.specs.Replies.{meant_fate}
-use Rattle.rd_node.specs.Members.{IsSafe, StandsForKey, StandsForNode}
-use Rattle.rd_node.specs.Stores.{spelled_entry, IsKept}
-use Rattle.rd_node.specs.Steps.{replication, StandsForOutput, IsCalled, IsKeptBy, KeepsTable, IsImage, IsStepOf}
-use Rattle.rd_node.specs.Planning.{IsPrepared}
-use Rattle.rd_node.specs.Preparing.{IsSoundFor, Prepares}
-use Rattle.rd_node.specs.Outputs.{failed as failed_code, refused as refused_code, refused_post as refused_post_code, is_pending, failed_output, after_fate}
-use Rattle.rd_node.specs.Operations.{after_store, changed_operations, finished_at, opens_one, StandForOperations}
-use Rattle.rd_node.specs.Storing.{AreSpelled}
+use Rattle.rd_node.specs.Outputs.{failed as failed_code, refused as refused_code, refused_post as refused_post_code, failed_output, after_fate}
+use Rattle.rd_node.specs.declared.input.Input.{Input}
+use Rattle.rd_node.specs.declared.operations.NextOperation.{NextOperation}
+use Rattle.rd_node.specs.declared.operations.OperationChange.{OperationChange}
+use Rattle.rd_node.specs.declared.operations.OperationChange.TheVariants.{Same, Opened}
+use Rattle.rd_node.specs.declared.reply.Fate.{Fate}
+use Rattle.rd_node.specs.declared.reply.Fate.TheVariants.{NoStore, Stored, StoreFailed}
+use Rattle.rd_node.specs.Members.{IsSafe}
+use Rattle.rd_node.specs.Steps.{IsCalled, IsKeptBy, KeepsTable, IsImage}
+use Rattle.rd_node.specs.Operations.{after_store, finished_at, opens_one}
 use Rattle.rd_node.specs.Carrying.{IsCarried}
-use Rattle.rd_node.proofs.Keepers.{becomes_same}
-use Rattle.rd_node.proofs.Pending.{failed_meant, opens_meant}
-use Rattle.rd_node.proofs.OperationLists.{finished-pushed}
-use Rattle.rd_node.proofs.Fates.{opens, refused, refused_post, unopened, unstored, failed, failed_reply, same_stored, same_failed, entries_same}
+use Rattle.rd_node.proofs.Lists.{one_more}
+use Rattle.rd_node.proofs.Fates.{opens, failed_reply, refused, refused_post, unopened, unstored, failed, same_stored, same_failed, entries_same}
+use Rattle.rd_node.proofs.Standing.{becomes_same}
+use Rattle.rd_node.proofs.Operating.{finished-pushed}
+
+-- WHAT IS STORED
+
+module _ {T Kind Op Delta : Type 0} (state : KeyState T Kind Op Delta) (old new : model.Entry Op) where
+  -- a key that isn't durable
+  pub stored_not : state.durable ≡ false → stored_of state old new ≡ []
+  stored_not e = ap (λ b. if b && not (is_unchanged old new) then holding state new ∷ [] else []) e
+
+  -- an entry that stays
+  pub stored_same : is_unchanged old new ≡ true → stored_of state old new ≡ []
+  stored_same e = ap (λ b. if state.durable && not b then holding state new ∷ [] else []) e ∙ go state.durable
+    where
+      go : (b : Bool) → (if b && false then holding state new ∷ [] else []) ≡ []
+      go true = refl
+      go false = refl
+
+  -- a durable key whose entry is another
+  pub stored_one : state.durable ≡ true → is_unchanged old new ≡ false → stored_of state old new ≡ holding state new ∷ []
+  stored_one d u = λ i. if d i && not (u i) then holding state new ∷ [] else []
+
+  -- what holds of a key that is stored
+  pub stored_all : (P : nodes.KeyState Kind Op → Type 0) → ((k : ℕ) → k < length (stored_of state old new) → P (holding state new)) → All P (stored_of state old new)
+  stored_all P each = go (state.durable && not (is_unchanged old new)) each
+    where
+      go : (b : Bool) → ((k : ℕ) → k < length (if b then holding state new ∷ [] else []) → P (holding state new)) → All P (if b then holding state new ∷ [] else [])
+      go true each zero d within = each 0 within
+      go true each (suc k) d within = absurd (omega arith)
+      go false each k d within = absurd (omega arith)
+
+module _ {T Kind Op Delta : Type 0} (old next : nodes.Node Kind Op Shown) where
+  -- of these keys
+  abbrev pub put_of : List (KeyState T Kind Op Delta) → List (nodes.KeyState Kind Op)
+  put_of ks = filter (λ (k : nodes.KeyState Kind Op). k.durable) (filter (λ (k : nodes.KeyState Kind Op). not (is_unchanged (old.entries k.name) k.entry)) (map (state_of next) (map declared_by ks)))
+
+  abbrev of_key : KeyState T Kind Op Delta → List (nodes.KeyState Kind Op)
+  of_key x = stored_of x (old.entries x.name) (next.entries x.name)
+
+  put_cons : (x : KeyState T Kind Op Delta) (ks : List (KeyState T Kind Op Delta)) → put_of (x ∷ ks) ≡ of_key x ++ put_of ks
+  put_cons x ks = by (is_unchanged (old.entries x.name) (next.entries x.name)) x.durable refl refl
+    where
+      rest : List (nodes.KeyState Kind Op)
+      rest = filter (λ (k : nodes.KeyState Kind Op). not (is_unchanged (old.entries k.name) k.entry)) (map (state_of next) (map declared_by ks))
+
+      by : (u d : Bool) → is_unchanged (old.entries x.name) (next.entries x.name) ≡ u → x.durable ≡ d → put_of (x ∷ ks) ≡ of_key x ++ put_of ks
+      by true d e f =
+          ap (λ b. filter (λ (k : nodes.KeyState Kind Op). k.durable) (if not b then holding x (next.entries x.name) ∷ filter (λ (k : nodes.KeyState Kind Op). not (is_unchanged (old.entries k.name) k.entry)) (map (state_of next) (map declared_by ks)) else filter (λ (k : nodes.KeyState Kind Op). not (is_unchanged (old.entries k.name) k.entry)) (map (state_of next) (map declared_by ks)))) e
+          ∙ sym (ap (λ l. l ++ put_of ks) (stored_same x (old.entries x.name) (next.entries x.name) e))
+      by false d e f =
+          ap (λ b. filter (λ (k : nodes.KeyState Kind Op). k.durable) (if not b then holding x (next.entries x.name) ∷ filter (λ (k : nodes.KeyState Kind Op). not (is_unchanged (old.entries k.name) k.entry)) (map (state_of next) (map declared_by ks)) else filter (λ (k : nodes.KeyState Kind Op). not (is_unchanged (old.entries k.name) k.entry)) (map (state_of next) (map declared_by ks)))) e
+          ∙ kept d f
+        where
+          kept : (d : Bool) → x.durable ≡ d → (if x.durable then holding x (next.entries x.name) ∷ put_of ks else put_of ks) ≡ of_key x ++ put_of ks
+          kept true f = ap (λ b. if b then holding x (next.entries x.name) ∷ put_of ks else put_of ks) f ∙ sym (ap (λ l. l ++ put_of ks) (stored_one x (old.entries x.name) (next.entries x.name) f e))
+          kept false f = ap (λ b. if b then holding x (next.entries x.name) ∷ put_of ks else put_of ks) f ∙ sym (ap (λ l. l ++ put_of ks) (stored_not x (old.entries x.name) (next.entries x.name) f))
+
+  -- one key more
+  pub put_more : (ks : List (KeyState T Kind Op Delta)) (x : KeyState T Kind Op Delta) → put_of (ks ++ x ∷ []) ≡ put_of ks ++ of_key x
+  put_more [] x = put_cons x [] ∙ append-nil (of_key x)
+  put_more (k ∷ ks) x =
+      put_cons k (ks ++ x ∷ []) ∙ ap (λ l. of_key k ++ l) (put_more ks x) ∙ sym (append_assoc (of_key k) (put_of ks) (of_key x)) ∙ ap (λ l. l ++ of_key x) (sym (put_cons k ks))
+
+  -- where no key has to be stored
+  pub put_none : (ks : List (KeyState T Kind Op Delta)) → ((k : ℕ) (d : KeyState T Kind Op Delta) → k < length ks → stored_of (get_or ks k d) (old.entries (get_or ks k d).name) (next.entries (get_or ks k d).name) ≡ []) → put_of ks ≡ []
+  put_none [] none = refl
+  put_none (x ∷ ks) none = put_cons x ks ∙ ap (λ l. l ++ put_of ks) (none zero x (omega arith)) ∙ put_none ks (λ k d within. none (suc k) d (omega arith))
+
+  -- what a step has to store is that of all its keys
+  pub put_all_keys : (ks : List (KeyState T Kind Op Delta)) → next.keys ≡ map declared_by ks → put_of ks ≡ to_store old next
+  put_all_keys ks same = ap (λ (decls : List (nodes.KeyDecl Kind)). filter (λ (k : nodes.KeyState Kind Op). k.durable) (filter (λ (k : nodes.KeyState Kind Op). not (is_unchanged (old.entries k.name) k.entry)) (map (state_of next) decls))) (sym same)
+
+-- the spellings, one key more
+module _ {T Kind Op Delta : Type 0} (ghosts : Ghosts T Kind Op Delta) (spelling : Spelling T Kind Op Delta) (logs : Text → History Op) (old next : nodes.Node Kind Op Shown) (keys : List (KeyState T Kind Op Delta)) (i : ℕ) (x : KeyState T Kind Op Delta)
+    (within : i < length keys) (is : x ≡ get_or keys i x) (stores after : List Kept) (so_far : AreSpelled ghosts spelling logs stores (put_of old next (take i keys))) where
+  abbrev here : List (nodes.KeyState Kind Op)
+  here = stored_of x (old.entries x.name) (next.entries x.name)
+
+  grown : put_of old next (take (i + 1) keys) ≡ put_of old next (take i keys) ++ here
+  grown = ap (put_of old next) (one_more keys i x within is) ∙ put_more old next (take i keys) x
+
+  pub spelled_more : after ≡ stores ++ map (spelled_entry spelling) here → ((k : ℕ) → k < length here → IsKept ghosts spelling x.kind (logs x.name) (next.entries x.name)) → AreSpelled ghosts spelling logs after (put_of old next (take (i + 1) keys))
+  spelled_more added kept = record {
+    these = added ∙ ap (λ l. l ++ map (spelled_entry spelling) here) so_far.these ∙ sym (map-append (spelled_entry spelling) (put_of old next (take i keys)) here) ∙ sym (ap (map (spelled_entry spelling)) grown);
+    kept = subst (All (λ (k : nodes.KeyState Kind Op). IsKept ghosts spelling k.kind (logs k.name) k.entry)) (sym grown)
+        (All-append (λ (k : nodes.KeyState Kind Op). IsKept ghosts spelling k.kind (logs k.name) k.entry) (put_of old next (take i keys)) here so_far.kept
+        (stored_all x (old.entries x.name) (next.entries x.name) (λ (k : nodes.KeyState Kind Op). IsKept ghosts spelling k.kind (logs k.name) k.entry) kept));
+  }
+
+  -- the same, where its entry stays
+  pub spelled_still : is_unchanged (old.entries x.name) (next.entries x.name) ≡ true → after ≡ stores → AreSpelled ghosts spelling logs after (put_of old next (take (i + 1) keys))
+  spelled_still unchanged same =
+      let none = stored_same x (old.entries x.name) (next.entries x.name) unchanged in
+      spelled_more (same ∙ sym (ap (λ ks. stores ++ map (spelled_entry spelling) ks) none ∙ append-nil stores)) (λ k below. absurd (let l = ap length none in omega arith))
+
+-- REPLIES
+
+-- what is replied where the store failed
+pub failed_meant : (r : Reply) → meant (failed_code r) ≡ failed_reply (meant r)
+failed_meant reply.Done = refl
+failed_meant _ = refl
+
+-- a reply opens an operation in both
+pub opens_meant : (r : Reply) → opens (meant r) ≡ is_pending r
+opens_meant reply.Done = refl
+opens_meant _ = refl
+
+-- THE STEP
 
 -- after a failed store, messages stand for the model's as before
 module _ {T Kind Op Delta : Type 0} {ghosts : Ghosts T Kind Op Delta} (kinds : Text → Kind) (logs : Text → History Op) where
   refused_stands : (m : Code T Kind Op Delta ghosts) (told : Sent Op) → StandsForMessage ghosts.kind_of ghosts.IsDataOf kinds logs m told → StandsForMessage ghosts.kind_of ghosts.IsDataOf kinds logs (refused_code m) (refused told)
   refused_stands (message.Deltas groups entries) told s = record { sent_groups = s.sent_groups; sent_entries = s.sent_entries; is = ap refused s.is; groups_stand = s.groups_stand; entries_stand = s.entries_stand }
-  refused_stands (message.Nack keys) told s = ap refused s
-  refused_stands (message.Status digests) told s = ap refused s
   refused_stands (message.Gossip entries wants) told s = record { sent_entries = s.sent_entries; is = ap refused s.is; entries_stand = s.entries_stand }
   refused_stands (message.Write op key envelope) told s = record { entry = s.entry; is = ap refused s.is; held = s.held }
-  refused_stands (message.WriteAck op) told s = ap refused s
-  refused_stands (message.WriteNack op) told s = ap refused s
-  refused_stands (message.Read op key) told s = ap refused s
-  refused_stands (message.ReadAnswer op key None) told s = ap refused s
   refused_stands (message.ReadAnswer op key (Some envelope)) told s = record { entry = s.entry; is = ap refused s.is; held = s.held }
+  refused_stands _ told s = ap refused s
 
   refused_posts : (posts : List (Post T Kind Op Delta ghosts)) (sent : List (sending.Post Op)) → StandsForPosts ghosts.kind_of ghosts.IsDataOf kinds logs posts sent
       → StandsForPosts ghosts.kind_of ghosts.IsDataOf kinds logs (map refused_post_code posts) (map refused_post sent)
@@ -67,15 +163,13 @@ module _ {T Kind Op Delta : Type 0} {ghosts : Ghosts T Kind Op Delta} (kinds : T
   refused_posts (x ∷ xs) [] s = absurd s
   refused_posts (x ∷ xs) (y ∷ ys) s = (record { to = s.0.to; message = refused_stands x.message y.message s.0.message }, refused_posts xs ys s.1)
 
-stored_same : (o : OperationChange) → after_store NoStore o ≡ o
-stored_same Same = refl
-stored_same (Opened next) = refl
-stored_same (Put op operation) = refl
+after_no_store : (o : OperationChange) → after_store NoStore o ≡ o
+after_no_store Same = refl
+after_no_store _ = refl
 
 kept_same : (o : OperationChange) → after_store Stored o ≡ o
 kept_same Same = refl
-kept_same (Opened next) = refl
-kept_same (Put op operation) = refl
+kept_same _ = refl
 
 -- safety is of the entries alone
 safe_with : {Kind Op : Type 0} (logs : Text → History Op) {one other : nodes.Node Kind Op Shown} → one.entries ≡ other.entries → IsSafe logs one → IsSafe logs other
@@ -201,7 +295,7 @@ module _ {T K Kind Op Delta : Type 0} {ghosts : Ghosts T Kind Op Delta} {keeping
     by_fate NoStore is kept =
         let none : to_put ≡ [] = map_none (spelled_entry spelling) to_put (sym these ∙ kept.0) in
         finish kinds logs node s sent p before (ap (λ f. step (replication ghosts spelling) node sent (meant_fate f)) is) refl
-        (stands_base kinds logs node s sent p (ap (λ f. after_store f prepared.operations) is ∙ stored_same prepared.operations))
+        (stands_base kinds logs node s sent p (ap (λ f. after_store f prepared.operations) is ∙ after_no_store prepared.operations))
         (subst (λ f. FitsFate (replication ghosts spelling) node sent (meant_fate f)) (sym is) (ap (λ st. to_store node st.node) as_stored ∙ none))
         (subst (λ f. StandsForOutput kinds logs (after_fate f prepared.output) before.output) (sym is) p.answers)
         (subst (λ f. KeepsTable spelling keeping f to_put old.keeper new.keeper) (sym is) (subst (λ k. Becomes (keeping.table old.keeper) (keeping.table k) (λ table. table)) (sym kept.1) (becomes_same (keeping.table old.keeper))))
@@ -221,8 +315,7 @@ module _ {T K Kind Op Delta : Type 0} {ghosts : Ghosts T Kind Op Delta} {keeping
 
   called_by : (f : Fate) → IsKeptBy keeping c.items f old.keeper new.keeper → IsCalled keeping f old.keeper new.keeper
   called_by NoStore kept = kept.1
-  called_by Stored kept = kept.1
-  called_by StoreFailed kept = kept.1
+  called_by _ kept = kept.1
 
   -- THE STEP
   pub makes_step : (input : Input T Kind Op Delta ghosts) → Prepares spelling old input prepared → IsStepOf spelling old input fate (after_fate fate prepared.output) new

@@ -1,37 +1,82 @@
+-- Plans, and what is prepared.
+-- What a member stands for after a step that writes at every key.
 -- Plans that can be carried out, and what a member keeps under them.
-use Rattle.std.proofs.Common.{◌≡◌, ◌≢◌, ℕ, zero, suc, ◌+◌, ◌*◌, ◌<◌, ◌≤◌, List, [], ◌∷◌, length, get_or, set, refl, sym, ap, ◌∙◌, subst, arith, false, Option, Some, None, inl, inr, ◌==◌, eq-eqb}
-use Rattle.std.specs.Prelude.{map, All, if◌then◌else◌, slice_get, unwrap_or}
+-- What the parts of a step prepare.
+use Rattle.std.proofs.Common.{◌≡◌, ℕ, suc, ◌<◌, ◌≤◌, List, [], ◌∷◌, length, get_or, refl, sym, ap, ◌∙◌, subst, arith, false, map, ◌≢◌, zero, ◌+◌, ◌*◌, set, Option, Some, None, inl, inr, ◌==◌, eq-eqb, All, if◌then◌else◌, slice_get, unwrap_or, get_or-set_same, get_or-set_other, length-set, option_map}
 use Rattle.std.specs.Global.{Vec}
 use Rattle.std.proofs.lemmas.Bool.{cases_eq}
-use Rattle.std.proofs.lemmas.List.{get_or-set_same, get_or-set_other, get_or_default, length-set}
+use Rattle.std.proofs.lemmas.List.{get_or_default}
 use Rattle.std.proofs.Math.Seq.{map-set_same}
-use Rattle.rd_history.specs.Texts.{Text}
-use Rattle.rd_history.specs.Vector.{VersionVector}
-use Rattle.rd_history.specs.History.{History}
+use Rattle.rd_node.proofs.Common.{Text, VersionVector, History, one_step_later, answered, performed_in, Shown, Ghosts, Keeping, parts_of, Envelope, StandsFor, LogParts, NextRecord, KeyState, Change, HasFewOwn, IsUnpruned, AreLogged, AreOfTheirKinds, declared_by, AreDistinct, own_number, changed, AreMade, KeyTick, IsKeyTick, Nothing, At, Each, StandsForKey, StandsForNode, StandsAfter, recorded, ticked, AreOwned, IsSoundPlan, LeadsOn, IsPrepared, Node, Prepared, Output, Reply, meant, StandsForOutput, changed_operations, StandForOperations, is_pending, IsSoundFor}
 use Rattle.rd_model.specs.Entry as model
 use Rattle.rd_model.specs.Node as nodes
-use Rattle.rd_markers.specs.Marks.{performed_in}
-use Rattle.rd_kinds.specs.declared.shown.Shown.{Shown}
-use Rattle.rd_lattice.specs.declared.replica.Replica.{Ghosts}
-use Rattle.rd_envelope.specs.declared.envelope.Envelope.{Envelope}
-use Rattle.rd_envelope.specs.Images.{StandsFor}
-use Rattle.rd_envelope.specs.Words.{parts_of}
 use Rattle.rd_deltalog.proofs.Following.{last_later, kind_later, origin_later}
-use Rattle.rd_node.specs.declared.ticking.KeyTick.{KeyTick}
-use Rattle.rd_node.specs.Ticking.{IsKeyTick}
-use Rattle.rd_deltalog.specs.declared.delta_log.NextRecord.{NextRecord}
-use Rattle.rd_node.specs.declared.key.KeyState.{KeyState}
-use Rattle.rd_node.specs.declared.change.Change.{Change}
-use Rattle.rd_node.specs.declared.change.Change.TheVariants.{Same, Entry, Flushed}
-use Rattle.rd_node.specs.declared.plan.Plan.TheVariants.{Nothing, At, Each, Ticked}
-use Rattle.rd_node.specs.Own.{IsLogged, AreOfTheirKinds}
-use Rattle.rd_node.specs.Keys.{AreDistinct, declared_by}
-use Rattle.rd_node.specs.Sending.{own_number}
-use Rattle.rd_node.specs.Changes.{changed, AreChanged, AreMade}
-use Rattle.rd_node.specs.Members.{StandsForKey}
-use Rattle.rd_node.specs.Taking.{StandsAfter}
-use Rattle.rd_node.specs.Planning.{recorded, ticked, AreTicked, entry_told, IsPlanned, new_entry, entry_in, CanRecord, AreOwned, IsSoundPlan, LeadsOn}
-use Rattle.rd_node.proofs.Stepping.{map-places, same_name, same_declared, few_changed, unpruned_changed, logged_changed}
+use Rattle.rd_node.specs.Taking.{KeepsOwn}
+use Rattle.rd_node.specs.declared.change.Change.TheVariants.{Same, Entry}
+use Rattle.rd_node.specs.Own.{IsLogged}
+use Rattle.rd_node.specs.Changes.{AreChanged}
+use Rattle.rd_node.specs.declared.plan.Plan.TheVariants.{Ticked}
+use Rattle.rd_node.specs.Members.{StandsForPosts}
+use Rattle.rd_node.specs.Planning.{AreTicked, entry_told, IsPlanned, new_entry, entry_in, CanRecord}
+use Rattle.rd_node.specs.declared.operations.OperationChange.TheVariants.{Same as Unchanged}
+use Rattle.rd_node.specs.declared.plan.Plan.{Plan}
+use Rattle.rd_node.specs.Operations.{finished_meant, opens_one, CanChange}
+use Rattle.rd_node.proofs.Operating.{operates_same}
+
+-- A STEP THAT WRITES AT EVERY KEY
+
+-- lists that f can't tell apart, place by place
+pub map-places : {X Y : Type 0} (f : X → Y) (xs ys : List X) → length ys ≡ length xs → ((k : ℕ) (d : X) → k < length xs → f (get_or ys k d) ≡ f (get_or xs k d)) → map f ys ≡ map f xs
+map-places f [] [] counted same = refl
+map-places f [] (y ∷ ys) counted same = absurd (omega arith)
+map-places f (x ∷ xs) [] counted same = absurd (omega arith)
+map-places f (x ∷ xs) (y ∷ ys) counted same = λ i. same 0 x (omega arith) i ∷ map-places f xs ys (omega arith) (λ k d below. same (suc k) d (omega arith)) i
+
+module _ {T Kind Op Delta : Type 0} where
+  pub same_name : (state : KeyState T Kind Op Delta) (change : Change T Kind Op Delta) → (changed state change).name ≡ state.name
+  same_name state Same = refl
+  same_name state _ = refl
+
+  pub same_declared : (state : KeyState T Kind Op Delta) (change : Change T Kind Op Delta) → declared_by (changed state change) ≡ declared_by state
+  same_declared state Same = refl
+  same_declared state _ = refl
+
+  same_log : (state : KeyState T Kind Op Delta) (change : Change T Kind Op Delta) → (changed state change).log ≡ state.log
+  same_log state Same = refl
+  same_log state _ = refl
+
+  -- where each change keeps what is the member's own
+  module _ (kind_of : T → Kind) (Makes : KeyState T Kind Op Delta → Change T Kind Op Delta → Type 0) (id : ℕ) (keeps : (state : KeyState T Kind Op Delta) (change : Change T Kind Op Delta) → Makes state change → KeepsOwn kind_of id state.entry (changed state change).entry)
+      (old new : List (KeyState T Kind Op Delta)) (changes : List (Change T Kind Op Delta)) (made : AreMade Makes old changes) (after : AreChanged old changes new) (unpruned : IsUnpruned id old) where
+    -- own numbers that stay are small later
+    pub few_changed : (steps later : ℕ) → steps ≤ later → HasFewOwn id steps old → HasFewOwn id later new
+    few_changed steps later more few k d within =
+        let inside : k < length old = (let l = after.same_length in omega arith) in
+        let stays = (keeps (get_or old k d) (get_or changes k Same) (made.made k d Same inside)).own (unpruned k d inside) in
+        let e = ap (own_number id) (after.each k d Same inside) in
+        let before = few k d inside in
+        omega (arith, e, stays, before)
+
+    -- and the logs are still the member's own
+    pub logged_changed : AreLogged kind_of id old → AreLogged kind_of id new
+    logged_changed logged k d within =
+        let inside : k < length old = (let l = after.same_length in omega arith) in
+        let state = get_or old k d in
+        let change = get_or changes k Same in
+        let kept = keeps (get_or old k d) (get_or changes k Same) (made.made k d Same inside) in
+        let before = logged k d inside in
+        subst (IsLogged kind_of id) (sym (after.each k d Same inside)) (record {
+          origin = ap (λ (parts : LogParts Kind Delta). parts.origin) (same_log state change) ∙ before.origin;
+          kind = ap (λ (parts : LogParts Kind Delta). parts.kind) (same_log state change) ∙ before.kind ∙ sym kept.kind;
+          last = ap (λ (parts : LogParts Kind Delta). parts.last) (same_log state change) ∙ before.last ∙ sym (kept.own (unpruned k d inside));
+        })
+
+    pub unpruned_changed : IsUnpruned id new
+    unpruned_changed k d within =
+        let inside : k < length old = (let l = after.same_length in omega arith) in
+        ap (λ (state : KeyState T Kind Op Delta). performed_in (parts_of state.entry).marks id) (after.each k d Same inside) ∙ (keeps (get_or old k d) (get_or changes k Same) (made.made k d Same inside)).unpruned (unpruned k d inside)
+
+-- PLANS
 
 -- some element of a list that has one
 some : {X : Type 0} (xs : List X) (k : ℕ) → k < length xs → X
@@ -58,10 +103,7 @@ module _ {T Kind Op Delta : Type 0} (ghosts : Ghosts T Kind Op Delta) (id steps 
 
   -- A CHANGE FOR EACH
 
-  module _ (Makes : KeyState T Kind Op Delta → Change T Kind Op Delta → Type 0)
-      (same : (state : KeyState T Kind Op Delta) (change : Change T Kind Op Delta) → Makes state change → performed_in (parts_of state.entry).marks id ≡ false → own_number id (changed state change) ≡ own_number id state)
-      (kind : (state : KeyState T Kind Op Delta) (change : Change T Kind Op Delta) → Makes state change → ghosts.kind_of (changed state change).entry.value ≡ ghosts.kind_of state.entry.value)
-      (stays : (state : KeyState T Kind Op Delta) (change : Change T Kind Op Delta) → Makes state change → performed_in (parts_of state.entry).marks id ≡ false → performed_in (parts_of (changed state change).entry).marks id ≡ false)
+  module _ (Makes : KeyState T Kind Op Delta → Change T Kind Op Delta → Type 0) (keeps : (state : KeyState T Kind Op Delta) (change : Change T Kind Op Delta) → Makes state change → KeepsOwn ghosts.kind_of id state.entry (changed state change).entry)
       (changes : Vec (Change T Kind Op Delta)) (made : AreMade Makes keys changes.items) where
     same_kinds : (after : List (KeyState T Kind Op Delta)) → AreChanged keys changes.items after → AreOfTheirKinds ghosts.kind_of after
     same_kinds after is k d within =
@@ -69,20 +111,19 @@ module _ {T Kind Op Delta : Type 0} (ghosts : Ghosts T Kind Op Delta) (id steps 
         let state = get_or keys k d in
         let change = get_or changes.items k Same in
         subst (λ (state : KeyState T Kind Op Delta). ghosts.kind_of state.entry.value ≡ state.kind) (sym (is.each k d Same inside))
-        (kind (get_or keys k d) (get_or changes.items k Same) (made.made k d Same inside) ∙ own.of_kinds k d inside ∙ sym (ap (λ (decl : nodes.KeyDecl Kind). decl.kind) (same_declared (get_or keys k d) (get_or changes.items k Same))))
+        ((keeps (get_or keys k d) (get_or changes.items k Same) (made.made k d Same inside)).kind ∙ own.of_kinds k d inside ∙ sym (ap (λ (decl : nodes.KeyDecl Kind). decl.kind) (same_declared (get_or keys k d) (get_or changes.items k Same))))
 
     changed_entry : (state : KeyState T Kind Op Delta) (change : Change T Kind Op Delta) (entry : Envelope T Kind Op Delta) → new_entry change ≡ Some entry → (changed state change).entry ≡ entry
-    changed_entry state Same entry is = absurd (cc is)
     changed_entry state (Entry e) entry is = cc is
-    changed_entry state (Flushed flushed) entry is = absurd (cc is)
+    changed_entry state _ entry is = absurd (cc is)
 
     pub sound_each : IsSoundPlan ghosts id steps keys (Each changes)
     sound_each = record {
       can = made.one_each;
       owned = λ after is. record {
-        few = few_changed Makes id steps (steps + 1) keys after changes.items (omega arith) same made is own.unpruned own.few;
-        unpruned = unpruned_changed Makes id keys after changes.items stays made is own.unpruned;
-        logged = logged_changed ghosts.kind_of Makes id keys after changes.items same kind made is own.unpruned own.logged;
+        few = few_changed ghosts.kind_of Makes id keeps keys after changes.items made is own.unpruned steps (steps + 1) (omega arith) own.few;
+        unpruned = unpruned_changed ghosts.kind_of Makes id keeps keys after changes.items made is own.unpruned;
+        logged = logged_changed ghosts.kind_of Makes id keeps keys after changes.items made is own.unpruned own.logged;
         of_kinds = same_kinds after is;
         distinct = subst AreDistinct (sym (map-places (λ (state : KeyState T Kind Op Delta). state.name) keys after is.same_length
             (λ k d within. ap (λ (state : KeyState T Kind Op Delta). state.name) (is.each k d Same within) ∙ same_name _ _))) own.distinct;
@@ -92,7 +133,7 @@ module _ {T Kind Op Delta : Type 0} (ghosts : Ghosts T Kind Op Delta) (id steps 
           let state = get_or keys k d in
           let change = get_or changes.items k Same in
           ap (λ (e : Envelope T Kind Op Delta). ghosts.kind_of e.value) (sym (changed_entry (get_or keys k d) (get_or changes.items k Same) entry is))
-          ∙ kind (get_or keys k d) (get_or changes.items k Same) (made.made k d Same within) ∙ own.of_kinds k d within;
+          ∙ (keeps (get_or keys k d) (get_or changes.items k Same) (made.made k d Same within)).kind ∙ own.of_kinds k d within;
     }
 
   -- A TICK OF EACH
@@ -259,9 +300,8 @@ module _ {T Kind Op Delta : Type 0} (ghosts : Ghosts T Kind Op Delta) (kinds : T
       after_by : (state : KeyState T Kind Op Delta) (change : Change T Kind Op Delta)
           → StandsForKey ghosts.kind_of ghosts.IsDataOf ghosts.IsDeltaOf kinds logs (changed state change) (next.entries state.name) (next.flushed state.name)
           → (new_entry change ≡ None → next.entries state.name ≡ old.entries state.name) → StandsAfter ghosts.IsDataOf (logs state.name) (new_entry change) (old.entries state.name) (next.entries state.name)
-      after_by state Same s still = still refl
       after_by state (Entry entry) s still = s.held.image
-      after_by state (Flushed flushed) s still = still refl
+      after_by state _ s still = still refl
 
   -- where each has a tick
   pub leads_ticked : (ticks : Vec (KeyTick T Kind Op Delta)) → length ticks.items ≡ length keys
@@ -285,3 +325,77 @@ module _ {T Kind Op Delta : Type 0} (ghosts : Ghosts T Kind Op Delta) (kinds : T
           → (tick.entry ≡ None → next.entries state.name ≡ old.entries state.name) → StandsAfter ghosts.IsDataOf (logs state.name) o (old.entries state.name) (next.entries state.name)
       after_tick state tick None is s still = still is
       after_tick state tick (Some entry) is s still = subst (λ (e : Envelope T Kind Op Delta). StandsFor ghosts.IsDataOf (parts_of e) (logs state.name) (next.entries state.name)) (ap (λ o. unwrap_or o state.entry) is) s.held.image
+
+-- WHAT IS PREPARED
+
+module _ {T K Kind Op Delta : Type 0} {ghosts : Ghosts T Kind Op Delta} {keeping : Keeping K} (code : Node T K Kind Op Delta ghosts keeping) where
+  -- what a member keeps of its keys
+  pub owned : AreOwned ghosts code.id code.steps code.keys.items
+  owned = record { few = code.few_own; unpruned = code.unpruned; logged = code.logged; of_kinds = code.of_kinds; distinct = code.distinct }
+
+  pub sound_still : (plan : Plan T Kind Op Delta) → plan ≡ Nothing → IsSoundPlan ghosts code.id code.steps code.keys.items plan
+  sound_still plan is = subst (IsSoundPlan ghosts code.id code.steps code.keys.items) (sym is) (sound_nothing ghosts code.id code.steps code.keys.items owned)
+
+  -- a plan, where the operations stay
+  pub sound_as : (prepared : Prepared T Kind Op Delta ghosts) → IsSoundPlan ghosts code.id code.steps code.keys.items prepared.plan → prepared.operations ≡ Unchanged → is_pending prepared.output.reply ≡ false → IsSoundFor code prepared
+  sound_as prepared plan same quiet = record {
+    plan = plan;
+    operations = subst (CanChange code.operations) (sym same) tt;
+    pending = quiet ∙ sym (ap opens_one same);
+  }
+
+  -- a reply and nothing else
+  pub sound_told : (prepared : Prepared T Kind Op Delta ghosts) (reply : Reply) → prepared.plan ≡ Nothing → prepared.operations ≡ Unchanged → prepared.output ≡ record { reply = reply; posts = []; finished = None } → is_pending reply ≡ false → IsSoundFor code prepared
+  sound_told prepared reply nothing same output quiet = sound_as prepared (sound_still prepared.plan nothing) same (ap (λ (o : Output T Kind Op Delta ghosts). is_pending o.reply) output ∙ quiet)
+
+module _ {T K Kind Op Delta : Type 0} {ghosts : Ghosts T Kind Op Delta} {keeping : Keeping K} (kinds : Text → Kind) (logs : Text → History Op)
+    (code : Node T K Kind Op Delta ghosts keeping) (node : nodes.Node Kind Op Shown) (s : StandsForNode ghosts.kind_of ghosts.IsDataOf kinds logs code node) where
+  -- the operations stay where the step leaves them
+  pub operates_still : (prepared : Prepared T Kind Op Delta ghosts) (next : nodes.Node Kind Op Shown) → prepared.operations ≡ Unchanged → next.open_operations ≡ node.open_operations → next.finished ≡ node.finished → next.next_op ≡ node.next_op
+      → StandForOperations (changed_operations code.operations prepared.operations) next
+  operates_still prepared next same opens ends number =
+      subst (λ change. StandForOperations (changed_operations code.operations change) next) (sym same) (operates_same code.operations node next s.operations opens ends number)
+
+  -- a step that changes no key
+  pub prepared_moved : (prepared : Prepared T Kind Op Delta ghosts) (next : nodes.Stepped Kind Op Shown) → prepared.view ≡ None → prepared.plan ≡ Nothing
+      → next.node.identity ≡ node.identity → next.node.keys ≡ node.keys → next.node.steps ≡ node.steps + 1 → next.node.view ≡ node.view → next.node.entries ≡ node.entries → next.node.flushed ≡ node.flushed
+      → StandForOperations (changed_operations code.operations prepared.operations) next.node → StandsForOutput kinds logs prepared.output next.output → IsPrepared {ghosts = ghosts} kinds logs code.keys.items code.operations node next prepared
+  prepared_moved prepared next none nothing identity declared counted viewed entries flushed operates answers = record {
+    identity = identity;
+    declared = declared;
+    counted = counted;
+    viewed = viewed ∙ sym (ap (λ o. unwrap_or o node.view) none);
+    leads_on = subst (LeadsOn ghosts kinds logs code.keys.items node next.node) (sym nothing) (leads_nothing ghosts kinds logs code.keys.items node next.node s.entries entries flushed);
+    operates = operates;
+    answers = answers;
+  }
+
+  -- one that changes no operation either, and is one later
+  pub prepared_later : (prepared : Prepared T Kind Op Delta ghosts) (next : nodes.Stepped Kind Op Shown) → prepared.view ≡ None → prepared.plan ≡ Nothing → prepared.operations ≡ Unchanged → next.node ≡ one_step_later node
+      → StandsForOutput kinds logs prepared.output next.output → IsPrepared {ghosts = ghosts} kinds logs code.keys.items code.operations node next prepared
+  prepared_later prepared next none nothing same is answers =
+      prepared_moved prepared next none nothing (ap (λ n. n.identity) is) (ap (λ n. n.keys) is) (ap (λ n. n.steps) is) (ap (λ n. n.view) is) (ap (λ n. n.entries) is) (ap (λ n. n.flushed) is)
+      (operates_still prepared next.node same (ap (λ n. n.open_operations) is) (ap (λ n. n.finished) is) (ap (λ n. n.next_op) is)) answers
+
+-- no posts, and nothing ended
+pub quiet_output : {T Kind Op Delta : Type 0} {ghosts : Ghosts T Kind Op Delta} (kinds : Text → Kind) (logs : Text → History Op) (output : Output T Kind Op Delta ghosts) (meaning : nodes.Output Op Shown) → output.posts ≡ [] → output.finished ≡ None → meant output.reply ≡ meaning.reply → meaning.posts ≡ [] → meaning.ended ≡ None
+    → StandsForOutput {ghosts = ghosts} kinds logs output meaning
+quiet_output {T} {Kind} {Op} {Delta} {ghosts} kinds logs output meaning none none_ends reply none' ended = record {
+  reply = reply;
+  posts = subst (StandsForPosts {ghosts = ghosts} ghosts.kind_of ghosts.IsDataOf kinds logs output.posts) (sym none') (subst (λ posts. StandsForPosts {ghosts = ghosts} ghosts.kind_of ghosts.IsDataOf kinds logs posts []) (sym none) tt);
+  ended = ended ∙ sym (ap (option_map finished_meant) none_ends);
+}
+
+-- ANSWERS ALONE
+
+module _ {T K Kind Op Delta : Type 0} {ghosts : Ghosts T Kind Op Delta} {keeping : Keeping K} (kinds : Text → Kind) (logs : Text → History Op)
+    (code : Node T K Kind Op Delta ghosts keeping) (node : nodes.Node Kind Op Shown) (s : StandsForNode ghosts.kind_of ghosts.IsDataOf kinds logs code node) (prepared : Prepared T Kind Op Delta ghosts) (reply : Reply)
+    (none : prepared.view ≡ None) (nothing : prepared.plan ≡ Nothing) (still : prepared.operations ≡ Unchanged) (output : prepared.output ≡ record { reply = reply; posts = []; finished = None }) where
+  told : (meaning : nodes.Output Op Shown) → meant reply ≡ meaning.reply → meaning.posts ≡ [] → meaning.ended ≡ None → StandsForOutput kinds logs prepared.output meaning
+  told meaning same = quiet_output kinds logs prepared.output meaning (ap (λ (o : Output T Kind Op Delta ghosts). o.posts) output) (ap (λ (o : Output T Kind Op Delta ghosts). o.finished) output) (ap (λ (o : Output T Kind Op Delta ghosts). meant o.reply) output ∙ same)
+
+  -- a step that is a reply and nothing else
+  pub prepared_answered : (next : nodes.Stepped Kind Op Shown) → next ≡ answered (one_step_later node) (meant reply) → IsPrepared {ghosts = ghosts} kinds logs code.keys.items code.operations node next prepared
+  prepared_answered next is =
+      prepared_later kinds logs code node s prepared next none nothing still (ap (λ (st : nodes.Stepped Kind Op Shown). st.node) is)
+      (told next.output (sym (ap (λ (st : nodes.Stepped Kind Op Shown). st.output.reply) is)) (ap (λ (st : nodes.Stepped Kind Op Shown). st.output.posts) is) (ap (λ (st : nodes.Stepped Kind Op Shown). st.output.ended) is))

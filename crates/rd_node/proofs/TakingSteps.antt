@@ -1,48 +1,32 @@
+-- Steps that take a message, and steps of gossip.
 -- What a member stands for after it took a message.
-use Rattle.std.proofs.Common.{◌≡◌, ℕ, List, get_or, refl, sym, ap, ◌∙◌, subst, true, false, Option, None}
-use Rattle.std.specs.Prelude.{unwrap_or, if◌then◌else◌}
+-- What a write and an answer bring: an entry that is told, or one that is passed over.
+-- Steps of gossip, in the model and at a member.
+use Rattle.std.proofs.Common.{◌≡◌, ℕ, List, get_or, refl, sym, ap, ◌∙◌, subst, true, false, Option, None, unwrap_or, if◌then◌else◌, ◌≢◌, [], ◌∷◌, length, cond, arith, suc, Bool, Some, map, find, option_map, nat_le, All, bytes_eq, not, ◌&&◌, ◌||◌, ◌==◌}
 use Rattle.std.specs.Global.{Vec}
-use Rattle.rd_history.proofs.CutLaws.{uncleaned}
-use Rattle.rd_history.specs.Texts.{Text}
-use Rattle.rd_history.specs.Vector.{VersionVector, IdentitySet}
-use Rattle.rd_history.specs.History.{History, at, versions}
-use Rattle.rd_history.specs.Log.{IsTakenFrom}
-use Rattle.rd_model.specs.View.{is_member}
+use Rattle.rd_node.proofs.Common.{uncleaned, Text, VersionVector, IdentitySet, History, at, versions, IsTakenFrom, is_member, Replication, one_step_later, OpenOperation, state_of, step, step_of_take, answered, after_entries, counted, answer_to, performed_in, Shown, Ghosts, Keeping, Envelope, StandsFor, parts_of, LogParts, StandsForLog, Message, StandsForKeyed, Keyed, Node, KeyState, Change, Flushed, Each, Prepared, changed, AreMade, StandsForKey, StandsForNode, changed_operations, StandForOperations, IsSoundPlan, LeadsOn, IsPrepared, StandsForOutput, IsKept, LeadsTo, AreHeld, declared_by, IsEntryPassedOver, HoldsKey}
+use Rattle.rd_history.specs.Vector.{members_of}
 use Rattle.rd_model.specs.Entry as model
-use Rattle.rd_model.specs.DataType.{Replication}
+use Rattle.rd_model.specs.Message as sending
 use Rattle.rd_model.specs.Message.{Message as Sent}
 use Rattle.rd_model.specs.Node as nodes
-use Rattle.rd_model.specs.Node.{Fate, one_step_later}
-use Rattle.rd_model.specs.Node.Reply.{NotFromMember}
-use Rattle.rd_model.specs.Step.{step, step_of_take, answered}
-use Rattle.rd_kinds.specs.declared.shown.Shown.{Shown}
-use Rattle.rd_markers.specs.Marks.{performed_in}
-use Rattle.rd_lattice.specs.declared.replica.Replica.{Ghosts}
-use Rattle.rd_keeper.specs.declared.keeper.Keeper.{Ghosts as Keeping}
-use Rattle.rd_envelope.specs.declared.envelope.Envelope.{Envelope}
-use Rattle.rd_envelope.specs.Images.{StandsFor}
-use Rattle.rd_envelope.specs.Words.{parts_of}
-use Rattle.rd_deltalog.specs.Contents.{LogParts}
-use Rattle.rd_deltalog.specs.Images.{StandsForLog}
-use Rattle.rd_messages.specs.declared.message.Message.{Message}
-use Rattle.rd_messages.specs.declared.message.Message.TheVariants.{Write, WriteAck, WriteNack, Read, ReadAnswer}
-use Rattle.rd_node.specs.Answers.{is_exchange}
-use Rattle.rd_node.specs.declared.node.Node.{Node}
-use Rattle.rd_node.specs.declared.key.KeyState.{KeyState}
-use Rattle.rd_node.specs.declared.change.Change.{Change}
-use Rattle.rd_node.specs.declared.change.Change.TheVariants.{Same, Entry, Flushed}
-use Rattle.rd_node.specs.declared.plan.Plan.TheVariants.{Each}
-use Rattle.rd_node.specs.declared.plan.Prepared.{Prepared}
-use Rattle.rd_node.specs.Changes.{changed, AreMade}
-use Rattle.rd_node.specs.Members.{StandsForKey, StandsForNode}
+use Rattle.rd_model.specs.Node.{Fate, Input}
+use Rattle.rd_model.specs.Node.Reply.{NotFromMember, Done, NotAPeer}
+use Rattle.rd_model.specs.Step.{keyed_option, with_answer, sent, status_of}
+use Rattle.rd_model.proofs.Cases.{with_taken_entry, counted_for}
+use Rattle.rd_messages.specs.declared.message.Message.TheVariants.{Write, WriteAck, WriteNack, Read, ReadAnswer, Status}
+use Rattle.rd_node.specs.Answers.{is_exchange, is_status}
+use Rattle.rd_node.specs.declared.change.Change.TheVariants.{Same, Entry}
 use Rattle.rd_node.specs.Own.{IsLogged}
-use Rattle.rd_node.specs.Operations.{changed_operations, StandForOperations}
-use Rattle.rd_node.specs.Planning.{new_entry, IsSoundPlan, LeadsOn, IsPrepared}
-use Rattle.rd_node.specs.Steps.{StandsForOutput}
-use Rattle.rd_node.specs.Taking.{KeepsOwn, IsKept, LeadsTo, AreHeld, AreHeldBy}
-use Rattle.rd_node.proofs.Working.{kept_own, kept_kind, kept_unpruned}
-use Rattle.rd_node.proofs.Planned.{sound_each, leads_each}
-use Rattle.rd_node.proofs.PreparedSteps.{owned}
+use Rattle.rd_node.specs.Planning.{new_entry}
+use Rattle.rd_node.specs.Taking.{KeepsOwn, AreHeldBy}
+use Rattle.rd_node.specs.Inputs.{IsWritten, TellsWrite, keyed_entry_of}
+use Rattle.rd_node.proofs.Takings.{kept_changed, undeclared_in, tells_one}
+use Rattle.rd_node.proofs.Planned.{sound_each, leads_each, owned}
+use Rattle.rd_node.proofs.Standing.{apart}
+use Rattle.rd_node.proofs.Takings.TellsOne.{one_told, one_passed}
+
+-- A MEMBER AFTER IT TOOK A MESSAGE
 
 module _ {T K Kind Op Delta : Type 0} {ghosts : Ghosts T Kind Op Delta} {keeping : Keeping K} (kind_of : T → Kind) (IsDataOf : T → History Op → VersionVector → IdentitySet → Type 0) (kinds : Text → Kind) (logs : Text → History Op)
     (code : Node T K Kind Op Delta ghosts keeping) (node : nodes.Node Kind Op Shown) (s : StandsForNode kind_of IsDataOf kinds logs code node) where
@@ -121,7 +105,7 @@ module _ {T K Kind Op Delta : Type 0} {ghosts : Ghosts T Kind Op Delta} {keeping
 module _ {T K Kind Op Delta : Type 0} {ghosts : Ghosts T Kind Op Delta} {keeping : Keeping K} (code : Node T K Kind Op Delta ghosts keeping) (changes : Vec (Change T Kind Op Delta)) (kept : AreMade (IsKept ghosts.kind_of code.id) code.keys.items changes.items) where
   -- what was taken can be carried out
   pub sound_taken : IsSoundPlan ghosts code.id code.steps code.keys.items (Each changes)
-  sound_taken = sound_each ghosts code.id code.steps code.keys.items (owned code) (IsKept ghosts.kind_of code.id) (kept_own ghosts.kind_of code.id) (kept_kind ghosts.kind_of code.id) (kept_unpruned ghosts.kind_of code.id) changes kept
+  sound_taken = sound_each ghosts code.id code.steps code.keys.items (owned code) (IsKept ghosts.kind_of code.id) (kept_changed ghosts.kind_of code.id) changes kept
 
   -- and leads to what it leads to in the model
   module _ (kinds : Text → Kind) (logs : Text → History Op) (node : nodes.Node Kind Op Shown) (s : StandsForNode ghosts.kind_of ghosts.IsDataOf kinds logs code node) where
@@ -147,3 +131,80 @@ module _ {T K Kind Op Delta : Type 0} {ghosts : Ghosts T Kind Op Delta} {keeping
       operates = operates;
       answers = answers;
     }
+
+-- A WRITE AND AN ANSWER
+
+none_named : {T Kind Op Delta : Type 0} (keys : List (KeyState T Kind Op Delta)) (key : Text) → All (λ (state : KeyState T Kind Op Delta). state.name ≢ key) keys → find (λ (state : KeyState T Kind Op Delta). bytes_eq state.name key) keys ≡ None
+none_named [] key others = refl
+none_named (state ∷ keys) key others =
+    ap (λ b. cond b (Some state) (find (λ (state : KeyState _ _ _ _). bytes_eq state.name key) keys)) (apart state.name key (others 0 state (omega arith)))
+    ∙ none_named keys key (λ k d within. others (suc k) d (omega arith))
+
+-- the entry that a write brings is taken as it is told
+pub written_taken : {T Kind Op Delta : Type 0} (ghosts : Ghosts T Kind Op Delta) (kinds : Text → Kind) (logs : Text → History Op) (keys : List (KeyState T Kind Op Delta)) (node : nodes.Node Kind Op Shown) → node.keys ≡ map declared_by keys
+    → (op : ℕ) (key : Text) (envelope : Envelope T Kind Op Delta) (message : Sent Op) (w : TellsWrite ghosts kinds logs keys op key envelope message)
+    → after_entries node (record { key = w.written.key; item = w.written.item } ∷ []) ≡ after_entries node w.told_entries
+written_taken ghosts kinds logs keys node declares op key envelope message w =
+    elim (tells_one (StandsForKeyed ghosts.kind_of ghosts.IsDataOf kinds logs) (IsEntryPassedOver ghosts keys) (record { key = key; item = envelope }) w.told_entries w.entries_stand) [
+      | one_told y is s ↦
+          let same : w.written ≡ y = subst (λ es. IsWritten keys key es w.written) is w.is_written in
+          ap (λ (e : sending.Keyed (model.Entry _)). after_entries node (record { key = e.key; item = e.item } ∷ [])) same ∙ sym (ap (after_entries node) is)
+      | one_passed is passed ↦
+          let others : All (λ (state : KeyState _ _ _ _). state.name ≢ w.written.key) keys = subst (λ es. IsWritten keys key es w.written) is w.is_written in
+          ap (λ o. with_taken_entry node (option_map (state_of node) o) w.written.item) (undeclared_in node keys w.written.key declares (none_named keys w.written.key others)) ∙ sym (ap (after_entries node) is)
+    ]
+
+-- an entry under its key, by the words of both
+pub keyed_same : {Kind Op : Type 0} (D : Replication Kind Op Shown) (key : Text) (entry : Option (model.Entry Op)) → keyed_option D key entry ≡ keyed_entry_of key entry
+keyed_same D key None = refl
+keyed_same D key (Some entry) = refl
+
+-- counting an answer changes no entry
+either : {A : Type 0} (P : A → Type 0) (b : Bool) (x y : A) → P x → P y → P (if b then x else y)
+either P true x y p q = p
+either P false x y p q = q
+
+counted_by : {Kind Op : Type 0} (D : Replication Kind Op Shown) (stepped : nodes.Stepped Kind Op Shown) (from : ℕ) (o : Option OpenOperation) → (counted_for D stepped from o).node.entries ≡ stepped.node.entries
+counted_by D stepped from None = refl
+counted_by D stepped from (Some operation) = either (λ (st : nodes.Stepped _ _ _). st.node.entries ≡ stepped.node.entries) (nat_le operation.needed (length (members_of (with_answer from operation).counted))) _ _ refl refl
+
+pub counted_entries : {Kind Op : Type 0} (D : Replication Kind Op Shown) (stepped : nodes.Stepped Kind Op Shown) (from : ℕ) (test : OpenOperation → Bool) → (counted D stepped from test).node.entries ≡ stepped.node.entries
+counted_entries D stepped from test = counted_by D stepped from (find test stepped.node.open_operations)
+
+-- STEPS OF GOSSIP
+
+module _ {Kind Op : Type 0} (D : Replication Kind Op Shown) (node : nodes.Node Kind Op Shown) (to : ℕ) (fate : Fate) where
+  pub step-gossip-no_peer : ((to == node.identity) || not (is_member node.view to)) ≡ true → step D node (Input.GossipTo to) fate ≡ answered (one_step_later node) NotAPeer
+  step-gossip-no_peer test = ap (λ b. if b then answered (one_step_later node) NotAPeer else sent (one_step_later node) Done (answer_to D to (status_of D (one_step_later node)))) test
+
+  pub step-gossip-peer : ((to == node.identity) || not (is_member node.view to)) ≡ false → step D node (Input.GossipTo to) fate ≡ sent (one_step_later node) Done (answer_to D to (status_of D (one_step_later node)))
+  step-gossip-peer test = ap (λ b. if b then answered (one_step_later node) NotAPeer else sent (one_step_later node) Done (answer_to D to (status_of D (one_step_later node)))) test
+
+-- MEMBERS
+
+neither : (a b p : Bool) → p ≡ (not a && b) → (a || not b) ≡ not p
+neither a b p is = go a b ∙ sym (ap not is)
+  where
+    go : (a b : Bool) → (a || not b) ≡ not (not a && b)
+    go true b = refl
+    go false b = refl
+
+module _ {T K Kind Op Delta : Type 0} {ghosts : Ghosts T Kind Op Delta} {keeping : Keeping K} (kind_of : T → Kind) (IsDataOf : T → History Op → VersionVector → IdentitySet → Type 0) (kinds : Text → Kind) (logs : Text → History Op)
+    (code : Node T K Kind Op Delta ghosts keeping) (node : nodes.Node Kind Op Shown) (s : StandsForNode kind_of IsDataOf kinds logs code node) where
+  -- who is no peer
+  pub no_peer_is : (to : ℕ) (p q : Bool) → p ≡ (not (to == code.id) && is_member code.view to) → p ≡ q → ((to == node.identity) || not (is_member node.view to)) ≡ not q
+  no_peer_is to p q is same =
+      (λ i. (to == s.identity i) || not (member_is kind_of IsDataOf kinds logs code node s to i)) ∙ neither (to == code.id) (is_member code.view to) p is ∙ ap not same
+
+  pub holds_first : All (HoldsKey kind_of IsDataOf kinds logs (one_step_later node)) code.keys.items
+  holds_first = λ k d within. record { kind = (s.entries k d within).kind; held = (s.entries k d within).held }
+
+module _ {T Kind Op Delta : Type 0} (kind_of : T → Kind) (IsDataOf : T → History Op → VersionVector → IdentitySet → Type 0) (kinds : Text → Kind) (logs : Text → History Op) (id : ℕ) (keys : List (KeyState T Kind Op Delta)) (node : nodes.Node Kind Op Shown) where
+  pub holds_held : AreHeld kind_of IsDataOf kinds logs id keys node.entries → All (HoldsKey kind_of IsDataOf kinds logs node) keys
+  holds_held held = λ k d within. record { kind = held.of_kinds k d within; held = held.held k d within }
+
+-- MESSAGES
+
+pub no_status : {T Kind Op Delta : Type 0} {ghosts : Ghosts T Kind Op Delta} (message : Message T Kind Op Delta ghosts) → ((digests : List (Keyed (List ℕ))) → message ≡ Status digests → ⊥) → is_status message ≡ false
+no_status (Status digests) other = absurd (other digests refl)
+no_status message other = refl

@@ -3,18 +3,29 @@
 --     IsAnswered        who is asked, with one answer more
 --     IsCountOf        what an answer makes of the operations, and what ends by it
 --     LooksAt        how an operation of the model stands
-use Rattle.std.specs.Prelude.{◌≡◌, ℕ, ◌<◌, ◌≤◌, ◌==◌, ◌&&◌, List, Bool, true, false, not, Option, Some, None, slice_get, IfSome}
+--     AnswersRead        what is answered to a read of another member
+--     EndsReadIfOk, CountsReadIfOk        what an own read ends with, and what its answers count for
+use Rattle.std.specs.Prelude.{◌≡◌, ℕ, ◌<◌, ◌≤◌, ◌==◌, ◌&&◌, List, Bool, true, false, not, Option, Some, None, slice_get, IfSome, map, Result, IfOk}
 use Rattle.std.specs.List.{list_any}
 use Rattle.std.specs.Str.{bytes_eq}
 use Rattle.rd_history.specs.Texts.{Text}
 use Rattle.rd_history.specs.Vector.{with_member}
+use Rattle.rd_history.specs.History.{History}
+use Rattle.rd_model.specs.Entry.{Entry}
+use Rattle.rd_model.specs.Message.{Message as Sent}
 use Rattle.rd_model.specs.Node as nodes
-use Rattle.rd_model.specs.Node.{OpenOperation}
-use Rattle.rd_model.specs.Step.{with_answer}
+use Rattle.rd_model.specs.Node.{OpenOperation, key_state}
+use Rattle.rd_model.specs.Step.{with_answer, answered_entry, result_of}
 use Rattle.rd_kinds.specs.declared.shown.Shown.{Shown}
 use Rattle.rd_vectors.specs.IdSets.{member_count}
 use Rattle.rd_quorum.specs.Counts.{answered_by}
+use Rattle.rd_lattice.specs.declared.replica.Replica.{Ghosts}
+use Rattle.rd_keeper.specs.declared.keeper.Keeper.{Ghosts as Keeping}
+use Rattle.rd_messages.specs.declared.message.Message.{Message}
+use Rattle.rd_messages.specs.Standing.{StandsForMessage}
+use Rattle.rd_node.specs.declared.change.Change.{Change}
 use Rattle.rd_node.specs.declared.counting.Counted.{Counted}
+use Rattle.rd_node.specs.declared.node.Node.{Node}
 use Rattle.rd_node.specs.declared.operation.Asked.{Asked}
 use Rattle.rd_node.specs.declared.operation.Look.{Look}
 use Rattle.rd_node.specs.declared.operation.Look.TheVariants as look
@@ -23,6 +34,11 @@ use Rattle.rd_node.specs.declared.operation.Operation.TheVariants.{Open, Finishe
 use Rattle.rd_node.specs.declared.operation.OperationResult.{OperationResult}
 use Rattle.rd_node.specs.declared.operations.OperationChange.TheVariants.{Same, Put}
 use Rattle.rd_node.specs.Operations.{asked_meant, result_meant, result_at}
+use Rattle.rd_node.specs.Replies.{delta_groups}
+use Rattle.rd_node.specs.Keys.{declared_by}
+use Rattle.rd_node.specs.Changes.{AreMade}
+use Rattle.rd_node.specs.Taking.{IsKept, LeadsTo, AreHeld}
+use Rattle.rd_node.specs.Members.{StandsForNode}
 
 abbrev pub open_as : Option Operation → Option Asked
 open_as (Some (Open asked)) = Some asked
@@ -63,3 +79,28 @@ abbrev pub LooksAt : {Kind Op : Type 0} → nodes.Node Kind Op Shown → ℕ →
 LooksAt node op look.Open = is_open node op ≡ true
 LooksAt node op (look.Finished end) = (is_open node op ≡ false) × (result_at node.finished op ≡ Some (result_meant end))
 LooksAt node op look.NoSuchOp = (is_open node op ≡ false) × (result_at node.finished op ≡ None)
+
+-- READS, in all logs and for all members of the model
+
+module _ {T K Kind Op Delta : Type 0} {ghosts : Ghosts T Kind Op Delta} {keeping : Keeping K} (code : Node T K Kind Op Delta ghosts keeping) where
+  -- the answer to a read of another member is that of each member of the model for which this stands
+  abbrev pub AnswersRead : (op : ℕ) → Text → Message T Kind Op Delta ghosts → Type 0
+  AnswersRead op key answer =
+      (digest : Kind → Entry Op → List ℕ) (kinds : Text → Kind) (logs : Text → History Op) (node : nodes.Node Kind Op Shown) → StandsForNode ghosts.kind_of ghosts.IsDataOf kinds logs code node
+      → StandsForMessage ghosts.kind_of ghosts.IsDataOf kinds logs answer (Sent.ReadAnswer op key (answered_entry (delta_groups ghosts.data_type digest) (key_state node key)))
+
+  -- what is so of each member of the model to which the changes lead, and each open read of the key there
+  abbrev pub ForReads : Text → List (Change T Kind Op Delta) → ((digest : Kind → Entry Op → List ℕ) → nodes.Node Kind Op Shown → OpenOperation → Type 0) → Type 0
+  ForReads key changes P =
+      (digest : Kind → Entry Op → List ℕ) (kinds : Text → Kind) (logs : Text → History Op) (before : Text → Entry Op) (node : nodes.Node Kind Op Shown) (asked : OpenOperation)
+      → AreHeld ghosts.kind_of ghosts.IsDataOf kinds logs code.id code.keys.items before → AreMade (IsKept ghosts.kind_of code.id) code.keys.items changes
+      → AreMade (LeadsTo ghosts.IsDataOf logs before node.entries) code.keys.items changes → node.keys ≡ map declared_by code.keys.items → asked.key ≡ key → asked.reads ≡ true → P digest node asked
+
+  -- the read ends with what the model's ends with
+  abbrev pub EndsReadIfOk : {E : Type 0} → Text → List (Change T Kind Op Delta) → Result OperationResult E → Type 0
+  EndsReadIfOk key changes result = ForReads key changes (λ digest node asked. IfOk result (λ end. result_meant end ≡ result_of (delta_groups ghosts.data_type digest) node asked))
+
+  -- what one more answer makes of it, which ends so with the last one
+  abbrev pub CountsReadIfOk : {E : Type 0} → (from op : ℕ) → Text → List (Change T Kind Op Delta) → Result Counted E → Type 0
+  CountsReadIfOk from op key changes result =
+      ForReads key changes (λ digest node asked. IfOk result (IsCountOf code.operations from op (is_read_of key) (λ end. result_meant end ≡ result_of (delta_groups ghosts.data_type digest) node asked)))

@@ -2,6 +2,8 @@ pub mod Own
 pub mod Operations
 pub mod Recording
 pub mod Replies
+pub mod Digests
+pub mod Showing
 pub mod Fresh
 pub mod Keys
 pub mod Members
@@ -11,6 +13,9 @@ pub mod Taking
 pub mod Answers
 pub mod Gossip
 pub mod Inputs
+pub mod Entries
+pub mod Groups
+pub mod Flushing
 pub mod Stores
 pub mod Steps
 pub mod Loading
@@ -26,3 +31,4 @@ pub mod Opening
 pub mod Counting
 pub mod Carrying
 pub mod Ticking
+pub mod LeaderTicks

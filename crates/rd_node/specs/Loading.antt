@@ -1,10 +1,13 @@
 -- What loading a member answers.
 --     IsSoundAt        what may be loaded
 --     IsLoaded, IsRefusedLoad        the new member, and the old one that comes back
+--     StandsForLoaded, FindsNoDamage        what comes of a table that has the spellings of a store
 use Rattle.std.specs.Prelude.{◌≡◌, ◌≢◌, ℕ, ◌≤◌, List, true, false, Some, slice_get, take, map, All, Any}
 use Rattle.rd_history.specs.Texts.{Text}
+use Rattle.rd_history.specs.History.{History, IsHistory}
 use Rattle.rd_outside.specs.Causes.{Rose}
 use Rattle.rd_model.specs.View.{View}
+use Rattle.rd_model.specs.World.{Store, loaded_node}
 use Rattle.rd_vectors.specs.Vectors.{number_at}
 use Rattle.rd_vectors.specs.IdSets.{members_in}
 use Rattle.rd_markers.specs.Marks.{mark_of}
@@ -22,8 +25,9 @@ use Rattle.rd_node.specs.declared.key.KeyState.{KeyState}
 use Rattle.rd_node.specs.declared.node.Node.{Node}
 use Rattle.rd_node.specs.declared.loading.LoadError.{LoadError}
 use Rattle.rd_node.specs.declared.loading.LoadError.TheVariants.{LoadFailed, Damaged, Memory}
-use Rattle.rd_node.specs.Keys.{declared_by}
-use Rattle.rd_node.specs.Stores.{IsEarlier}
+use Rattle.rd_node.specs.Keys.{HaveKinds, declared_by}
+use Rattle.rd_node.specs.Members.{StandsForNode}
+use Rattle.rd_node.specs.Stores.{IsEarlier, SpellsStore, AreFit}
 use Rattle.rd_node.specs.Steps.{IsOtherwiseSame, Answers, MayAnswer}
 
 -- WHAT MAY BE LOADED
@@ -96,3 +100,18 @@ module _ {T Kind Op Delta K : Type 0} {ghosts : Ghosts T Kind Op Delta} {keeping
     IsRefusedLoad (LoadFailed back) = ComesBack back × Answers keeping false old.keeper back.keeper × Rose (keeping.faults old.keeper) (keeping.faults back.keeper)
     IsRefusedLoad (Damaged back key) = ComesBack back × Answers keeping true old.keeper back.keeper
     IsRefusedLoad (Memory back) = ComesBack back × MayAnswer keeping old.keeper back.keeper
+
+  -- A TABLE OF SPELLINGS
+
+  module _ (spelling : Spelling T Kind Op Delta) (old : Node T K Kind Op Delta ghosts keeping) (id : ℕ) (view : View) where
+    -- where the keeper's table has the spellings of a store, the new member is the model's that has loaded this
+    abbrev pub StandsForLoaded : Node T K Kind Op Delta ghosts keeping → Type 0
+    StandsForLoaded new =
+        (kinds : Text → Kind) (logs : Text → History Op) (table : Table) (store : Store Op) → keeping.table old.keeper ≡ Some table → HaveKinds kinds old.keys.items → ((key : Text) → IsHistory (logs key))
+        → SpellsStore ghosts spelling kinds logs table store → StandsForNode ghosts.kind_of ghosts.IsDataOf kinds logs new (loaded_node (map declared_by old.keys.items) id view store)
+
+    -- and where the store is fit for it, nothing is found damaged
+    abbrev pub FindsNoDamage : LoadError T K Kind Op Delta ghosts keeping → Type 0
+    FindsNoDamage error =
+        (kinds : Text → Kind) (logs : Text → History Op) (table : Table) (store : Store Op) → keeping.table old.keeper ≡ Some table → HaveKinds kinds old.keys.items
+        → SpellsStore ghosts spelling kinds logs table store → AreFit old.keys.items id view.given store → IsUndamaged error

@@ -1,18 +1,22 @@
 -- What members of the program stand for in the model.
 --     StandsForNode        a member's fields are those of the model's member, and its envelopes stand for the entries
-use Rattle.std.specs.Prelude.{◌≡◌, ℕ, map, All}
+--     IsNewMember        a member without records, in all logs
+use Rattle.std.specs.Prelude.{◌≡◌, ℕ, List, map, All}
 use Rattle.rd_history.specs.Texts.{Text}
 use Rattle.rd_history.specs.Vector.{VersionVector, IdentitySet}
-use Rattle.rd_history.specs.History.{History, IsExactlyPruned}
+use Rattle.rd_history.specs.History.{History, IsHistory, IsExactlyPruned}
 use Rattle.rd_history.specs.Log.{IsTakenFrom}
 use Rattle.rd_model.specs.Entry.{Entry}
 use Rattle.rd_model.specs.Node as nodes
+use Rattle.rd_model.specs.View.{View}
+use Rattle.rd_model.specs.World.{loaded_node, no_entries}
 use Rattle.rd_kinds.specs.declared.shown.Shown.{Shown}
 use Rattle.rd_vectors.specs.Vectors.{number_at}
 use Rattle.rd_lattice.specs.declared.replica.Replica.{Ghosts}
 use Rattle.rd_keeper.specs.declared.keeper.Keeper.{Ghosts as Keeping}
 use Rattle.rd_messages.specs.Standing.{StandsForEntry}
 use Rattle.rd_deltalog.specs.Images.{StandsForLog}
+use Rattle.rd_node.specs.declared.key.KeyDecl.{KeyDecl}
 use Rattle.rd_node.specs.declared.key.KeyState.{KeyState}
 use Rattle.rd_node.specs.declared.node.Node.{Node}
 use Rattle.rd_node.specs.Operations.{StandForOperations}
@@ -50,3 +54,8 @@ module _ {T Kind Op Delta : Type 0} (kind_of : T → Kind) (IsDataOf : T → His
     pub entries : All (λ state. StandsForKey kind_of IsDataOf ghosts.IsDeltaOf kinds logs state (node.entries state.name) (node.flushed state.name)) code.keys.items
     pub operations : StandForOperations code.operations node
     pub steps : node.steps ≡ code.steps
+
+-- a member of this identity and view, with these keys and no records
+abbrev pub IsNewMember : {T K Kind Op Delta : Type 0} {ghosts : Ghosts T Kind Op Delta} {keeping : Keeping K} → List (KeyDecl T Kind Op Delta) → (id : ℕ) → View → Node T K Kind Op Delta ghosts keeping → Type 0
+IsNewMember {T} {K} {Kind} {Op} {Delta} {ghosts} decls id view code =
+    (kinds : Text → Kind) (logs : Text → History Op) → ((key : Text) → IsHistory (logs key)) → AreOfKinds kinds decls → StandsForNode ghosts.kind_of ghosts.IsDataOf kinds logs code (loaded_node (map declared decls) id view no_entries)

@@ -84,6 +84,10 @@ module _ {T Kind Op Delta : Type 0} (ghosts : Ghosts T Kind Op Delta) where
   CanCarryOut keys (Each changes) = length changes.items ≡ length keys
   CanCarryOut keys (Ticked ticks) = AreMade CanFollow keys ticks.items
 
+  -- each new entry is of its key's kind
+  abbrev pub KeepsKinds : List (KeyState T Kind Op Delta) → Plan T Kind Op Delta → Type 0
+  KeepsKinds keys plan = (k : ℕ) (d : KeyState T Kind Op Delta) (entry : Envelope T Kind Op Delta) → k < length keys → entry_in plan k ≡ Some entry → ghosts.kind_of entry.value ≡ (slice_index_or keys k d).kind
+
   -- what a member keeps of its keys
   pub record AreOwned (id steps : ℕ) (keys : List (KeyState T Kind Op Delta)) : Type 0 where
     pub few : HasFewOwn id steps keys
@@ -96,7 +100,7 @@ module _ {T Kind Op Delta : Type 0} (ghosts : Ghosts T Kind Op Delta) where
     pub can : CanCarryOut keys plan
     pub owned : (after : List (KeyState T Kind Op Delta)) → IsPlanned keys plan after → AreOwned id (steps + 1) after
     pub declared : (after : List (KeyState T Kind Op Delta)) → IsPlanned keys plan after → map declared_by after ≡ map declared_by keys
-    pub kinds : (k : ℕ) (d : KeyState T Kind Op Delta) (entry : Envelope T Kind Op Delta) → k < length keys → entry_in plan k ≡ Some entry → ghosts.kind_of entry.value ≡ (slice_index_or keys k d).kind
+    pub kinds : KeepsKinds keys plan
 
 module _ {T Kind Op Delta : Type 0} (ghosts : Ghosts T Kind Op Delta) (kinds : Text → Kind) (logs : Text → History Op) (keys : List (KeyState T Kind Op Delta)) (old next : nodes.Node Kind Op Shown) (plan : Plan T Kind Op Delta) where
   -- the plan leads from one member of the model to the other

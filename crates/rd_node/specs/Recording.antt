@@ -1,10 +1,15 @@
 -- What a member's own operation makes of an entry, and the record of it for the log.
-use Rattle.std.specs.Prelude.{◌≡◌, ℕ, ◌+◌, Some}
+--     IsRecorded        one own record more
+--     MeansRecorded, IsUnrefused, TellsRefusal        it is recorded or refused as in the model, in all logs
+use Rattle.std.specs.Prelude.{◌≡◌, ℕ, ◌+◌, Some, None}
 use Rattle.rd_history.specs.History.{History, at}
 use Rattle.rd_history.specs.History.Action.{Operation}
+use Rattle.rd_history.specs.Log.{IsTakenFrom}
 use Rattle.rd_model.specs.Entry.{Entry, with_action}
 use Rattle.rd_vectors.specs.Vectors.{number_at}
 use Rattle.rd_lattice.specs.declared.replica.Replica.{Ghosts}
+use Rattle.rd_lattice.specs.declared.answers.ApplyError.{ApplyError}
+use Rattle.rd_lattice.specs.Refusals.{IsApplyRefusal}
 use Rattle.rd_envelope.specs.declared.envelope.Envelope.{Envelope}
 use Rattle.rd_envelope.specs.Images.{StandsFor}
 use Rattle.rd_envelope.specs.Words.{parts_of}
@@ -28,3 +33,19 @@ module _ {T Kind Op Delta : Type 0} (ghosts : Ghosts T Kind Op Delta) where
     pub made : Delta
     pub some : next.record.delta ≡ Some made
     pub delta : ghosts.IsDeltaOf made log id (at before.history id) (at before.history id + 1)
+
+module _ {T Kind Op Delta : Type 0} (ghosts : Ghosts T Kind Op Delta) (id : ℕ) (op : Op) (old : Envelope T Kind Op Delta) where
+  -- the operation is the next record, in each history that has it
+  abbrev pub MeansRecorded : (new : Envelope T Kind Op Delta) → NextRecord Delta → Type 0
+  MeansRecorded new next =
+      (history : History Op) (before : Entry Op) → StandsFor ghosts.IsDataOf (parts_of old) history before → IsTakenFrom history (with_action before id (Operation op)).history
+      → StandsForRecorded ghosts history id op before new next
+
+  -- the data type doesn't refuse it
+  abbrev pub IsUnrefused : Type 0
+  IsUnrefused = (history : History Op) (before : Entry Op) → StandsFor ghosts.IsDataOf (parts_of old) history before → ghosts.data_type.refusal (ghosts.kind_of old.value) id op before.history ≡ None
+
+  -- or it does, with this error, unless memory was refused
+  abbrev pub TellsRefusal : ApplyError → Type 0
+  TellsRefusal error =
+      (history : History Op) (before : Entry Op) → StandsFor ghosts.IsDataOf (parts_of old) history before → IsApplyRefusal (ghosts.data_type.refusal (ghosts.kind_of old.value) id op before.history) error

@@ -1,5 +1,8 @@
 -- What of a plan has to be stored.
-use Rattle.std.specs.Prelude.{◌≡◌, List, [], ◌∷◌, ◌&&◌, not, map, if◌then◌else◌, All}
+--     stored_of        a key, if its entry has to be stored
+--     AddsSpellingOnOk, IsReadableOnOk        its entry is spelled, and can be read again
+--     AreStores        what is stored of all keys
+use Rattle.std.specs.Prelude.{◌≡◌, ℕ, ◌<◌, List, [], ◌∷◌, ◌++◌, length, ◌&&◌, not, map, if◌then◌else◌, All, Result, OnOk}
 use Rattle.rd_history.specs.Texts.{Text}
 use Rattle.rd_history.specs.History.{History}
 use Rattle.rd_model.specs.Entry as model
@@ -9,6 +12,9 @@ use Rattle.rd_model.specs.Step.{to_store}
 use Rattle.rd_kinds.specs.declared.shown.Shown.{Shown}
 use Rattle.rd_lattice.specs.declared.replica.Replica.{Ghosts}
 use Rattle.rd_lattice.specs.declared.spelled.SpelledData.{Ghosts as Spelling}
+use Rattle.rd_envelope.specs.declared.envelope.Envelope.{Envelope}
+use Rattle.rd_envelope.specs.Images.{StandsFor}
+use Rattle.rd_envelope.specs.Words.{parts_of}
 use Rattle.rd_keeper.specs.declared.stored.Stored.{Stored}
 use Rattle.rd_node.specs.declared.key.KeyState.{KeyState}
 use Rattle.rd_node.specs.declared.plan.Plan.{Plan}
@@ -27,6 +33,18 @@ module _ {T Kind Op Delta : Type 0} where
   stored_of state old new = if state.durable && not (is_unchanged old new) then holding state new ∷ [] else []
 
 module _ {T Kind Op Delta : Type 0} (ghosts : Ghosts T Kind Op Delta) (spelling : Spelling T Kind Op Delta) where
+  -- the spelling of a key's new entry comes after those before, if it has to be stored
+  abbrev pub AddsSpellingOnOk : {E : Type 0} → KeyState T Kind Op Delta → Envelope T Kind Op Delta → (before after : List Stored) → Result (Unit {0}) E → Type 0
+  AddsSpellingOnOk state entry before after result =
+      (log : History Op) (old new : model.Entry Op) → StandsFor ghosts.IsDataOf (parts_of state.entry) log old → StandsFor ghosts.IsDataOf (parts_of entry) log new
+      → OnOk result (after ≡ before ++ map (spelled_entry spelling) (stored_of state old new))
+
+  -- and it can be read again
+  abbrev pub IsReadableOnOk : {E : Type 0} → KeyState T Kind Op Delta → Envelope T Kind Op Delta → Result (Unit {0}) E → Type 0
+  IsReadableOnOk state entry result =
+      (log : History Op) (old new : model.Entry Op) (k : ℕ) → StandsFor ghosts.IsDataOf (parts_of state.entry) log old → StandsFor ghosts.IsDataOf (parts_of entry) log new
+      → k < length (stored_of state old new) → OnOk result (IsKept ghosts spelling state.kind log new)
+
   -- each by its spelling
   pub record AreSpelled (logs : Text → History Op) (items : List Stored) (entries : List (nodes.KeyState Kind Op)) : Type 0 where
     pub these : items ≡ map (spelled_entry spelling) entries

@@ -1,16 +1,7 @@
-ghost use Rattle.std.specs.Prelude.{◌≡◌, ℕ, List, length, map, IfOk};
-ghost use Rattle.std.specs.List.{AllZip};
-ghost use Rattle.rd_history.specs.Texts.{Text as Name, contains_text};
-ghost use Rattle.rd_history.specs.History.{History};
-ghost use Rattle.rd_model.specs.Entry as model;
-ghost use Rattle.rd_model.specs.Node.{Node as Member};
-ghost use Rattle.rd_model.specs.Step.{named_entries};
-ghost use Rattle.rd_kinds.specs.declared.shown.Shown.{Shown};
-ghost use Rattle.rd_messages.specs.Standing.{StandsForKeyed};
-ghost use Rattle.rd_node.specs.Replies.{delta_groups, meant};
-ghost use Rattle.rd_node.specs.Answers.{reply_to, only_asks, answers_of};
-ghost use Rattle.rd_node.specs.Changes.{AreMade};
-ghost use Rattle.rd_node.specs.Taking.{IsKept, AreHeld, IsAtWork};
+ghost use Rattle.std.specs.Prelude.{◌≡◌, length, map, IfOk};
+ghost use Rattle.rd_history.specs.Texts.{contains_text};
+ghost use Rattle.rd_node.specs.Replies.{meant};
+ghost use Rattle.rd_node.specs.Answers.{reply_to, only_asks, answers_of, MeansNamed};
 
 use crate::change::{Change, current};
 use crate::key::KeyState;
@@ -36,9 +27,7 @@ pub(crate) fn named<T: Replica>(
     names: &[Text],
 ) -> Result<Entries<T>, Memory>
     requires { length changes.now ≡ length keys.now }
-    ensures { (digest : T.Kind → model.Entry T.Op → List ℕ) (kinds : Name → T.Kind) (logs : Name → History T.Op) (id view : ℕ) (before : Name → model.Entry T.Op) (node : Member T.Kind T.Op Shown)
-        → AreHeld T.kind_of T.IsDataOf kinds logs id keys.now before → AreMade (IsKept T.kind_of id) keys.now changes.now → IsAtWork T.kind_of T.IsDataOf kinds logs id keys.now view before changes.now node
-        → IfOk result (λ entries. AllZip (StandsForKeyed T.kind_of T.IsDataOf kinds logs) entries (named_entries (delta_groups T.data_type digest) node names.now)) }
+    ensures { IfOk result (MeansNamed T.Replica keys.now changes.now names.now) }
 {
     let mut entries = Items::new(alloc);
     for (index, state) in keys.iter().enumerate() {

@@ -1,13 +1,8 @@
-ghost use Rattle.std.specs.Prelude.{◌≡◌, ◌<◌, ℕ, List, [], ◌∷◌, true, None, Some, length, map, if◌then◌else◌, IfOk};
+ghost use Rattle.std.specs.Prelude.{◌≡◌, [], ◌∷◌, true, None, Some, length, if◌then◌else◌, IfOk};
 ghost use Rattle.std.specs.Option.{option_copied};
-ghost use Rattle.rd_history.specs.Texts.{Text as Name};
 ghost use Rattle.rd_history.specs.History.{History};
 ghost use Rattle.rd_model.specs.View.{is_member};
-ghost use Rattle.rd_model.specs.Entry as model;
-ghost use Rattle.rd_model.specs.Message.{Message as Sent};
-ghost use Rattle.rd_model.specs.Node.{Node as Member, OpenOperation, key_state};
-ghost use Rattle.rd_model.specs.Step as step;
-ghost use Rattle.rd_kinds.specs.declared.shown.Shown.{Shown};
+ghost use Rattle.rd_model.specs.Entry.{Entry, has_records};
 ghost use Rattle.rd_envelope.specs.Images.{StandsFor};
 ghost use Rattle.rd_envelope.specs.Words.{parts_of};
 ghost use Rattle.rd_messages.specs.declared.message.Message.TheVariants as message;
@@ -15,14 +10,8 @@ ghost use Rattle.rd_node.specs.declared.input.Input.TheVariants as input;
 ghost use Rattle.rd_node.specs.declared.operation.Operation.TheVariants as operation;
 ghost use Rattle.rd_node.specs.declared.operation.OperationResult.TheVariants as ended;
 ghost use Rattle.rd_node.specs.declared.operations.OperationChange.TheVariants as change;
-ghost use Rattle.rd_messages.specs.Standing.{StandsForMessage};
-ghost use Rattle.rd_node.specs.Keys.{declared_by};
-ghost use Rattle.rd_node.specs.Members.{StandsForNode};
-ghost use Rattle.rd_node.specs.Changes.{AreMade};
-ghost use Rattle.rd_node.specs.Taking.{IsKept, AreHeld, LeadsTo};
-ghost use Rattle.rd_node.specs.Replies.{delta_groups};
-ghost use Rattle.rd_node.specs.Operations.{result_meant};
-ghost use Rattle.rd_node.specs.Counting.{open_at, IsAnswered, is_write, is_read_of, IsCountOf};
+ghost use Rattle.rd_node.specs.Showing.{ShowsReadIfOk};
+ghost use Rattle.rd_node.specs.Counting.{open_at, IsAnswered, is_write, is_read_of, IsCountOf, AnswersRead, EndsReadIfOk, CountsReadIfOk};
 ghost use Rattle.rd_node.specs.Preparing.{IsSoundFor, Prepares};
 
 use crate::change::{Change, current};
@@ -136,8 +125,7 @@ impl Counted {
 
 /// What a read ends with, where the key has this entry.
 fn read_result<T: Replica>(alloc: Global, entry: &Envelope<T>) -> Result<OperationResult, Memory>
-    ensures { (digest : T.Kind → model.Entry T.Op → List ℕ) (log : History T.Op) (held : model.Entry T.Op) → StandsFor T.IsDataOf (parts_of entry.now) log held
-        → IfOk result (λ end. result_meant end ≡ step.read_result (delta_groups T.data_type digest) (Some (if model.has_records held then Some (T.data_type.shown (T.kind_of entry.now.value) held.history) else None))) }
+    ensures { ShowsReadIfOk T.Replica entry.now result }
 {
     if !entry.has_records() {
         return Ok(OperationResult::ReadNothing);
@@ -151,7 +139,7 @@ fn copy_with_records<T: Replica>(
     alloc: Global,
     entry: &Envelope<T>,
 ) -> Result<Option<Envelope<T>>, Memory>
-    ensures { (log : History T.Op) (held : model.Entry T.Op) → StandsFor T.IsDataOf (parts_of entry.now) log held → IfOk result (λ copy. copy ≡ (if model.has_records held then Some entry.now else None)) }
+    ensures { (log : History T.Op) (held : Entry T.Op) → StandsFor T.IsDataOf (parts_of entry.now) log held → IfOk result (λ copy. copy ≡ (if has_records held then Some entry.now else None)) }
 {
     if !entry.has_records() {
         return Ok(None);
@@ -190,8 +178,7 @@ impl<T: SpelledData, K: Keeper + Drop> Node<T, K> {
 
     /// What is answered to a read: the entry of the key, where it has records.
     fn read_answer(&self, op: u64, key: &Text) -> Result<Message<T>, Memory>
-        ensures { (digest : T.Kind → model.Entry T.Op → List ℕ) (kinds : Name → T.Kind) (logs : Name → History T.Op) (node : Member T.Kind T.Op Shown) → StandsForNode T.kind_of T.IsDataOf kinds logs self.now node
-            → IfOk result (λ answer. StandsForMessage T.kind_of T.IsDataOf kinds logs answer (Sent.ReadAnswer op key.now (step.answered_entry (delta_groups T.data_type digest) (key_state node key.now)))) }
+        ensures { IfOk result (AnswersRead self.now op key.now) }
     {
         let Some(index) = self.position(key) else {
             let key = key.copy(self.alloc)?;
@@ -261,10 +248,7 @@ impl<T: SpelledData, K: Keeper + Drop> Node<T, K> {
     /// What a read of a key ends with, once these changes are written.
     fn end_of_read(&self, key: &Text, changes: &[Change<T>]) -> Result<OperationResult, Memory>
         requires { length changes.now ≡ length self.now.keys.items }
-        ensures { (digest : T.Kind → model.Entry T.Op → List ℕ) (kinds : Name → T.Kind) (logs : Name → History T.Op) (before : Name → model.Entry T.Op) (node : Member T.Kind T.Op Shown) (asked : OpenOperation)
-            → AreHeld T.kind_of T.IsDataOf kinds logs self.now.id self.now.keys.items before → AreMade (IsKept T.kind_of self.now.id) self.now.keys.items changes.now → AreMade (LeadsTo T.IsDataOf logs before node.entries) self.now.keys.items changes.now
-            → node.keys ≡ map declared_by self.now.keys.items → asked.key ≡ key.now → asked.reads ≡ true
-            → IfOk result (λ end. result_meant end ≡ step.result_of (delta_groups T.data_type digest) node asked) }
+        ensures { EndsReadIfOk self.now key.now changes.now result }
     {
         let Some(index) = self.position(key) else {
             return Ok(OperationResult::ReadNothing);
@@ -283,10 +267,7 @@ impl<T: SpelledData, K: Keeper + Drop> Node<T, K> {
     ) -> Result<Counted, Memory>
         requires { length changes.now ≡ length self.now.keys.items }
         ensures counts { IfOk result (IsCountOf self.now.operations from op (is_read_of key.now) (λ end. Unit {0})) }
-        ensures image { (digest : T.Kind → model.Entry T.Op → List ℕ) (kinds : Name → T.Kind) (logs : Name → History T.Op) (before : Name → model.Entry T.Op) (node : Member T.Kind T.Op Shown) (asked : OpenOperation)
-            → AreHeld T.kind_of T.IsDataOf kinds logs self.now.id self.now.keys.items before → AreMade (IsKept T.kind_of self.now.id) self.now.keys.items changes.now → AreMade (LeadsTo T.IsDataOf logs before node.entries) self.now.keys.items changes.now
-            → node.keys ≡ map declared_by self.now.keys.items → asked.key ≡ key.now → asked.reads ≡ true
-            → IfOk result (IsCountOf self.now.operations from op (is_read_of key.now) (λ end. result_meant end ≡ step.result_of (delta_groups T.data_type digest) node asked)) }
+        ensures image { CountsReadIfOk self.now from op key.now changes.now result }
     {
         let Some(asked) = self.operations.asked(op) else {
             return Ok(Counted::nothing());

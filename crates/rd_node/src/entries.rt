@@ -1,23 +1,15 @@
-ghost use Rattle.std.specs.Prelude.{◌≡◌, ◌≢◌, ℕ, ◌||◌, false, None, List, not, nat_lt, length, map, if◌then◌else◌, IfOk, OnOk, IfSome};
+ghost use Rattle.std.specs.Prelude.{◌≡◌, ◌≢◌, ◌||◌, None, nat_lt, length, IfOk, OnOk, IfSome};
 ghost use Rattle.std.specs.List.{list_any};
 ghost use Rattle.std.specs.Option.{option_copied};
 ghost use Rattle.rd_history.specs.Texts.{Text as Name};
-ghost use Rattle.rd_history.specs.History.{History, union, IsExactlyPruned};
-ghost use Rattle.rd_model.specs.Entry as model;
-ghost use Rattle.rd_model.specs.Entry.{merged, seen_by, is_unchanged};
-ghost use Rattle.rd_model.specs.Message as sending;
-ghost use Rattle.rd_model.specs.Node.{Node as Member};
-ghost use Rattle.rd_model.specs.Step.{is_entry_passed_over, take_entry, after_entries};
-ghost use Rattle.rd_kinds.specs.declared.shown.Shown.{Shown};
+ghost use Rattle.rd_history.specs.History.{History};
+ghost use Rattle.rd_model.specs.Entry.{Entry};
 ghost use Rattle.rd_vectors.specs.Vectors.{number_at};
 ghost use Rattle.rd_markers.specs.Marks.{performed_in};
-ghost use Rattle.rd_envelope.specs.Images.{StandsFor};
-ghost use Rattle.rd_envelope.specs.Words.{parts_of};
-ghost use Rattle.rd_messages.specs.Standing.{StandsForKeyed};
 ghost use Rattle.rd_node.specs.Changes.{AreMade};
-ghost use Rattle.rd_node.specs.Own.{AreOfTheirKinds};
-ghost use Rattle.rd_node.specs.Inputs.{IsEntryPassedOver, TellsEntries, keyed_envelope};
-ghost use Rattle.rd_node.specs.Taking.{KeepsOwn, IsKept, StandsAfter, LeadsTo, AreExactAt, AreHeld, AreHeldBy, AreOnTheWay, IsAtWork};
+ghost use Rattle.rd_node.specs.Inputs.{keyed_envelope};
+ghost use Rattle.rd_node.specs.Taking.{KeepsOwn, IsKept, LeadsTo};
+ghost use Rattle.rd_node.specs.Entries.{MeansEntryTaken, MeansEnvelopeTaken, MeansEntriesTaken, MeansMerged, PassesEntryOver, is_changed_at};
 
 use crate::change::{Change, current, put, unchanged};
 use crate::key::{KeyState, index_of};
@@ -45,9 +37,7 @@ fn take_entry<T: Replica>(
 ) -> Result<Option<Envelope<T>>, Memory>
     ensures kept { IfOk result (λ taken. IfSome taken (KeepsOwn T.kind_of id mine.now)) }
     ensures passed_over { T.kind_of mine.now.value ≢ T.kind_of theirs.now.value → IfOk result (λ taken. taken ≡ None) }
-    ensures image { (log : History T.Op) (before other : model.Entry T.Op) → performed_in (parts_of mine.now).marks id ≡ false → T.kind_of mine.now.value ≡ T.kind_of theirs.now.value
-        → StandsFor T.IsDataOf (parts_of mine.now) log before → StandsFor T.IsDataOf (parts_of theirs.now) log other → (is_entry_passed_over id before other ≡ false → IsExactlyPruned (union before.history other.history))
-        → IfOk result (λ taken. StandsAfter T.IsDataOf log taken before (if is_entry_passed_over id before other then before else seen_by id view (merged before other))) }
+    ensures image { IfOk result (MeansEntryTaken T.Replica id view mine.now theirs.now) }
 {
     if is_strange(mine, theirs, id) || !mine.value().same_kind(theirs.value()) {
         return Ok(None);
@@ -73,11 +63,8 @@ pub(crate) fn take_envelope<T: Replica>(
 ) -> Result<(), Memory>
     requires { length changes.old ≡ length keys.now }
     ensures kept { AreMade (IsKept T.kind_of id) keys.now changes.old → OnOk result (AreMade (IsKept T.kind_of id) keys.now changes.new) }
-    ensures image { (kinds : Name → T.Kind) (logs : Name → History T.Op) (entries : Name → model.Entry T.Op) (node : Member T.Kind T.Op Shown) (sent : sending.Keyed (model.Entry T.Op))
-        → AreExactAt keys.now (take_entry node sent).entries → AreHeld T.kind_of T.IsDataOf kinds logs id keys.now entries → AreMade (IsKept T.kind_of id) keys.now changes.old → StandsForKeyed T.kind_of T.IsDataOf kinds logs (record { key = key.now; item = envelope.now }) sent
-        → IsAtWork T.kind_of T.IsDataOf kinds logs id keys.now view entries changes.old node
-        → OnOk result (IsAtWork T.kind_of T.IsDataOf kinds logs id keys.now view entries changes.new (take_entry node sent)) }
-    ensures passed_over { AreOfTheirKinds T.kind_of keys.now → AreMade (IsKept T.kind_of id) keys.now changes.old → IsEntryPassedOver T.Replica keys.now (record { key = key.now; item = envelope.now }) → OnOk result (changes.new ≡ changes.old) }
+    ensures image { OnOk result (MeansEnvelopeTaken T.Replica id view keys.now (record { key = key.now; item = envelope.now }) changes.old changes.new) }
+    ensures passed_over { OnOk result (PassesEntryOver T.Replica id keys.now (record { key = key.now; item = envelope.now }) changes.old changes.new) }
 {
     let Some(index) = index_of(keys, key) else {
         return Ok(());
@@ -99,10 +86,7 @@ pub(crate) fn take_entries<T: Replica>(
 ) -> Result<(), Memory>
     requires { length changes.old ≡ length keys.now }
     ensures kept { AreMade (IsKept T.kind_of id) keys.now changes.old → OnOk result (AreMade (IsKept T.kind_of id) keys.now changes.new) }
-    ensures image { (kinds : Name → T.Kind) (logs : Name → History T.Op) (before : Name → model.Entry T.Op) (node : Member T.Kind T.Op Shown) (sent : List (sending.Keyed (model.Entry T.Op)))
-        → AreExactAt keys.now (after_entries node sent).entries → AreOnTheWay T.kind_of T.IsDataOf kinds logs id keys.now before changes.old → TellsEntries T.Replica kinds logs keys.now entries.now sent
-        → IsAtWork T.kind_of T.IsDataOf kinds logs id keys.now view before changes.old node
-        → OnOk result (IsAtWork T.kind_of T.IsDataOf kinds logs id keys.now view before changes.new (after_entries node sent)) }
+    ensures image { OnOk result (MeansEntriesTaken T.Replica id view keys.now entries.now changes.old changes.new) }
 {
     for keyed in entries {
         take_envelope(alloc, keys, changes, id, view, &keyed.key, &keyed.item)?;
@@ -120,10 +104,7 @@ pub(crate) fn merged<T: Replica>(
     envelope: Option<&Envelope<T>>,
 ) -> Result<Vec<Change<T>>, Memory>
     ensures kept { IfOk result (λ changes. AreMade (IsKept T.kind_of id) keys.now changes.items) }
-    ensures image { (kinds : Name → T.Kind) (logs : Name → History T.Op) (node : Member T.Kind T.Op Shown) (sent : List (sending.Keyed (model.Entry T.Op)))
-        → AreExactAt keys.now (after_entries node sent).entries → AreHeldBy T.kind_of T.IsDataOf kinds logs id keys.now view node
-        → TellsEntries T.Replica kinds logs keys.now (keyed_envelope key.now (option_copied envelope.entry)) sent
-        → IfOk result (λ changes. IsAtWork T.kind_of T.IsDataOf kinds logs id keys.now view node.entries changes.items (after_entries node sent)) }
+    ensures image { IfOk result (λ changes. MeansMerged T.Replica id view keys.now (keyed_envelope key.now (option_copied envelope.entry)) changes.items) }
 {
     let mut changes = unchanged(alloc, keys)?;
     let Some(envelope) = envelope else {
@@ -135,7 +116,7 @@ pub(crate) fn merged<T: Replica>(
 
 /// Whether the entry would be another.
 fn is_changed<T: Replica>(state: &KeyState<T>, change: &Change<T>) -> bool
-    ensures { (logs : Name → History T.Op) (old new : Name → model.Entry T.Op) → LeadsTo T.IsDataOf logs old new state.now change.now → result ≡ not (is_unchanged (old state.now.name) (new state.now.name)) }
+    ensures { (logs : Name → History T.Op) (old new : Name → Entry T.Op) → LeadsTo T.IsDataOf logs old new state.now change.now → result ≡ is_changed_at old new state.now }
 {
     match change {
         Change::Entry(entry) => !entry.is_unchanged(state.entry.envelope()),
@@ -146,7 +127,7 @@ fn is_changed<T: Replica>(state: &KeyState<T>, change: &Change<T>) -> bool
 /// Whether some entry would be another.
 pub(crate) fn any_changed<T: Replica>(keys: &[KeyState<T>], changes: &[Change<T>]) -> bool
     requires { length changes.now ≡ length keys.now }
-    ensures { (logs : Name → History T.Op) (old new : Name → model.Entry T.Op) → AreMade (LeadsTo T.IsDataOf logs old new) keys.now changes.now → result ≡ list_any (λ state. not (is_unchanged (old state.name) (new state.name))) keys.now }
+    ensures { (logs : Name → History T.Op) (old new : Name → Entry T.Op) → AreMade (LeadsTo T.IsDataOf logs old new) keys.now changes.now → result ≡ list_any (is_changed_at old new) keys.now }
 {
     for (index, state) in keys.iter().enumerate() {
         if is_changed(state, &changes[index]) {

@@ -1,21 +1,6 @@
-ghost use Rattle.std.specs.Prelude.{◌≡◌, ◌≤◌, ◌&&◌, ◌||◌, not, nat_eq, ℕ, List, length, map, find, option_map, All, IfOk};
-ghost use Rattle.std.specs.List.{AllZip};
+ghost use Rattle.std.specs.Prelude.{◌≡◌, ◌≤◌, ◌&&◌, ◌||◌, not, nat_eq, length, find, option_map, IfOk};
 ghost use Rattle.std.specs.Str.{bytes_eq};
-ghost use Rattle.rd_history.specs.Texts.{Text as Name};
-ghost use Rattle.rd_history.specs.History.{History};
-ghost use Rattle.rd_model.specs.Entry as model;
-ghost use Rattle.rd_model.specs.DataType.{Replication};
-ghost use Rattle.rd_model.specs.Message as sending;
-ghost use Rattle.rd_model.specs.Message.{Message as Sent};
-ghost use Rattle.rd_model.specs.Node.{Node as Member, state_of};
-ghost use Rattle.rd_model.specs.Step.{news_for, wanted_from, gossip_to, answer_to, status_of};
-ghost use Rattle.rd_kinds.specs.declared.shown.Shown.{Shown};
-ghost use Rattle.rd_envelope.specs.Images.{StandsFor};
-ghost use Rattle.rd_envelope.specs.Words.{parts_of};
-ghost use Rattle.rd_envelope_codec.specs.Entries.{entry_digest};
-ghost use Rattle.rd_messages.specs.Standing.{digest_told, StandsForKeyed, StandsForPosts};
-ghost use Rattle.rd_node.specs.Keys.{declared_by};
-ghost use Rattle.rd_node.specs.Gossip.{is_told, HoldsKey, IsComparison};
+ghost use Rattle.rd_node.specs.Gossip.{TellsAlike, MeansComparison, MeansNews, MeansWants, GossipsIfOk, AnswersDigestsIfOk, MeansDigests, MeansStatus};
 
 use crate::key::KeyState;
 use rd_bytes::{Items, Memory, Text};
@@ -39,8 +24,7 @@ pub(crate) fn told_of(digests: &[Keyed<Digest>], key: &Text) -> Option<Digest>
 
 /// Whether a digest is told, and is the one of the key's entry, which is made only then, if none is kept.
 fn is_alike<T: SpelledData>(state: &KeyState<T>, told: Option<Digest>) -> Result<bool, Memory>
-    ensures { (log : History T.Op) (entry : model.Entry T.Op) → StandsFor T.IsDataOf (parts_of state.now.entry) log entry
-        → IfOk result (λ alike. alike ≡ is_told told (entry_digest T.byte_of T.history_spelled (T.kind_of state.now.entry.value) entry)) }
+    ensures { IfOk result (TellsAlike T.Replica T.SpelledData.own state.now told) }
 {
     match told {
         Some(told) => Ok(told == state.entry.digest()?),
@@ -73,9 +57,7 @@ fn compare<T: SpelledData>(
     state: &KeyState<T>,
     digests: &[Keyed<Digest>],
 ) -> Result<Comparison, Memory>
-    ensures { (D : Replication T.Kind T.Op Shown) (kinds : Name → T.Kind) (logs : Name → History T.Op) (node : Member T.Kind T.Op Shown)
-        → D.digest ≡ entry_digest T.byte_of T.history_spelled → HoldsKey T.kind_of T.IsDataOf kinds logs node state.now
-        → IfOk result (IsComparison D (map digest_told digests.now) (state_of node (declared_by state.now))) }
+    ensures { IfOk result (MeansComparison T.Replica T.SpelledData.own state.now digests.now) }
 {
     let told = told_of(digests, &state.name);
     let is_alike = is_alike(state, told)?;
@@ -96,12 +78,8 @@ fn news<T: SpelledData>(
     keys: &[KeyState<T>],
     digests: &[Keyed<Digest>],
 ) -> Result<Differences<T>, Memory>
-    ensures entries { (D : Replication T.Kind T.Op Shown) (kinds : Name → T.Kind) (logs : Name → History T.Op) (node : Member T.Kind T.Op Shown)
-        → D.digest ≡ entry_digest T.byte_of T.history_spelled → All (HoldsKey T.kind_of T.IsDataOf kinds logs node) keys.now → node.keys ≡ map declared_by keys.now
-        → IfOk result (λ news. AllZip (StandsForKeyed T.kind_of T.IsDataOf kinds logs) news.entries (news_for D node (map digest_told digests.now))) }
-    ensures wants { (D : Replication T.Kind T.Op Shown) (kinds : Name → T.Kind) (logs : Name → History T.Op) (node : Member T.Kind T.Op Shown)
-        → D.digest ≡ entry_digest T.byte_of T.history_spelled → All (HoldsKey T.kind_of T.IsDataOf kinds logs node) keys.now → node.keys ≡ map declared_by keys.now
-        → IfOk result (λ news. news.wants ≡ wanted_from D node (map digest_told digests.now)) }
+    ensures entries { IfOk result (λ news. MeansNews T.Replica T.SpelledData.own keys.now digests.now news.entries) }
+    ensures wants { IfOk result (λ news. MeansWants T.Replica T.SpelledData.own keys.now digests.now news.wants) }
 {
     let mut entries = Items::new(alloc);
     let mut wants = Items::new(alloc);
@@ -134,8 +112,7 @@ fn gossip<T: Replica>(
     entries: Entries<T>,
     wants: Texts,
 ) -> Result<Posts<T>, Memory>
-    ensures image { (D : Replication T.Kind T.Op Shown) (kinds : Name → T.Kind) (logs : Name → History T.Op) (sent : List (sending.Keyed (model.Entry T.Op)))
-        → AllZip (StandsForKeyed T.kind_of T.IsDataOf kinds logs) entries sent → IfOk result (λ posts. StandsForPosts T.kind_of T.IsDataOf kinds logs posts (gossip_to D to sent wants)) }
+    ensures image { GossipsIfOk T.Replica to entries wants result }
     ensures few { IfOk result (λ posts. length posts ≤ 1) }
 {
     let mut posts = Items::new(alloc);
@@ -154,9 +131,7 @@ pub(crate) fn answer<T: SpelledData>(
     from: Id,
     digests: &[Keyed<Digest>],
 ) -> Result<Posts<T>, Memory>
-    ensures image { (D : Replication T.Kind T.Op Shown) (kinds : Name → T.Kind) (logs : Name → History T.Op) (node : Member T.Kind T.Op Shown)
-        → D.digest ≡ entry_digest T.byte_of T.history_spelled → All (HoldsKey T.kind_of T.IsDataOf kinds logs node) keys.now → node.keys ≡ map declared_by keys.now
-        → IfOk result (λ posts. StandsForPosts T.kind_of T.IsDataOf kinds logs posts (gossip_to D from (news_for D node (map digest_told digests.now)) (wanted_from D node (map digest_told digests.now)))) }
+    ensures image { AnswersDigestsIfOk T.Replica T.SpelledData.own from keys.now digests.now result }
     ensures few { IfOk result (λ posts. length posts ≤ 1) }
 {
     let news = news(alloc, keys, digests)?;
@@ -166,9 +141,7 @@ pub(crate) fn answer<T: SpelledData>(
 
 /// The digests of the entries that have records.
 fn digests<T: SpelledData>(alloc: Global, keys: &[KeyState<T>]) -> Result<Digests, Memory>
-    ensures { (D : Replication T.Kind T.Op Shown) (kinds : Name → T.Kind) (logs : Name → History T.Op) (node : Member T.Kind T.Op Shown)
-        → D.digest ≡ entry_digest T.byte_of T.history_spelled → All (HoldsKey T.kind_of T.IsDataOf kinds logs node) keys.now → node.keys ≡ map declared_by keys.now
-        → IfOk result (λ digests. status_of D node ≡ Sent.Status (map digest_told digests)) }
+    ensures { IfOk result (MeansDigests T.Replica T.SpelledData.own keys.now) }
 {
     let mut digests = Items::new(alloc);
     for state in keys {
@@ -187,9 +160,7 @@ pub(crate) fn status<T: SpelledData>(
     keys: &[KeyState<T>],
     to: Id,
 ) -> Result<Posts<T>, Memory>
-    ensures image { (D : Replication T.Kind T.Op Shown) (kinds : Name → T.Kind) (logs : Name → History T.Op) (node : Member T.Kind T.Op Shown)
-        → D.digest ≡ entry_digest T.byte_of T.history_spelled → All (HoldsKey T.kind_of T.IsDataOf kinds logs node) keys.now → node.keys ≡ map declared_by keys.now
-        → IfOk result (λ posts. StandsForPosts T.kind_of T.IsDataOf kinds logs posts (answer_to D to (status_of D node))) }
+    ensures image { IfOk result (MeansStatus T.Replica T.SpelledData.own to keys.now) }
     ensures few { IfOk result (λ posts. length posts ≤ 1) }
 {
     let digests = digests(alloc, keys)?;

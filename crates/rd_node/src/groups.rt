@@ -1,19 +1,8 @@
-ghost use Rattle.std.specs.Prelude.{◌≡◌, ℕ, ◌==◌, ◌||◌, ◌++◌, true, false, None, List, length, map, IfOk, OnOk, IfSome};
-ghost use Rattle.rd_history.specs.Texts.{Text as Name};
-ghost use Rattle.rd_history.specs.History.{History};
-ghost use Rattle.rd_model.specs.Entry as model;
-ghost use Rattle.rd_model.specs.Message as sending;
-ghost use Rattle.rd_model.specs.Node.{Node as Member};
-ghost use Rattle.rd_model.specs.Step.{AfterGroups, is_group_passed_over, take_group, after_groups};
-ghost use Rattle.rd_kinds.specs.declared.shown.Shown.{Shown};
+ghost use Rattle.std.specs.Prelude.{◌≡◌, ◌==◌, ◌||◌, ◌++◌, false, None, length, IfOk, OnOk, IfSome};
 ghost use Rattle.rd_markers.specs.Marks.{performed_in};
-ghost use Rattle.rd_envelope.specs.Images.{StandsFor, StandsForGroup};
-ghost use Rattle.rd_envelope.specs.Words.{parts_of, group_parts};
-ghost use Rattle.rd_messages.specs.Standing.{StandsForKeyedGroup};
-ghost use Rattle.rd_node.specs.Own.{AreOfTheirKinds};
-ghost use Rattle.rd_node.specs.Inputs.{IsGroupPassedOver, TellsGroups};
 ghost use Rattle.rd_node.specs.Changes.{AreMade};
-ghost use Rattle.rd_node.specs.Taking.{KeepsOwn, IsKept, StandsAfter, AreHeld, IsAtWork, judged_for, entry_after, lacking_in, gap_told, gaps_at};
+ghost use Rattle.rd_node.specs.Taking.{KeepsOwn, IsKept, gaps_at};
+ghost use Rattle.rd_node.specs.Groups.{TellsPassedOver, MeansGroupTaken, MeansGroupTakenAt, PassesGroupOver, MeansGroupsTaken, MeansGaps};
 
 use crate::change::{Change, current, put};
 use crate::key::{KeyState, index_of};
@@ -37,8 +26,7 @@ pub(crate) struct GroupTaken<T: Replica> {
 /// Whether no run sends the group: it is of the taker itself, or of an identity that was pruned.
 fn is_strange<T: Replica>(mine: &Envelope<T>, group: &Group<T>, id: Id) -> bool
     ensures value { result ≡ ((group.now.origin == id) || performed_in mine.now.markers group.now.origin) }
-    ensures image { (log : History T.Op) (before : model.Entry T.Op) (theirs : model.Group T.Op) → StandsFor T.IsDataOf (parts_of mine.now) log before → StandsForGroup T.IsDeltaOf (group_parts group.now) log theirs
-        → result ≡ is_group_passed_over id before theirs }
+    ensures image { TellsPassedOver T.Replica id mine.now group.now result }
 {
     group.origin == id || mine.is_pruned(group.origin)
 }
@@ -52,9 +40,7 @@ fn take_group<T: Replica>(
 ) -> Result<GroupTaken<T>, Memory>
     ensures kept { IfOk result (λ taken. IfSome taken.entry (KeepsOwn T.kind_of id mine.now)) }
     ensures passed_over { T.delta_fits_kind (T.kind_of mine.now.value) group.now.delta ≡ false → IfOk result (λ taken. taken ≡ record { entry = None; lacking = None }) }
-    ensures image { (log : History T.Op) (before : model.Entry T.Op) (theirs : model.Group T.Op) → T.delta_fits_kind (T.kind_of mine.now.value) group.now.delta ≡ true
-        → StandsFor T.IsDataOf (parts_of mine.now) log before → StandsForGroup T.IsDeltaOf (group_parts group.now) log theirs
-        → IfOk result (λ taken. StandsAfter T.IsDataOf log taken.entry before (entry_after before theirs (judged_for id before theirs)) × (taken.lacking ≡ lacking_in (judged_for id before theirs))) }
+    ensures image { IfOk result (MeansGroupTaken T.Replica id mine.now group.now) }
 {
     if is_strange(mine, group, id) || !mine.value().delta_fits(&group.delta) {
         return Ok(GroupTaken {
@@ -104,11 +90,8 @@ fn take_group_at<T: Replica>(
 ) -> Result<(), Memory>
     requires { length changes.old ≡ length keys.now }
     ensures kept { AreMade (IsKept T.kind_of id) keys.now changes.old → OnOk result (AreMade (IsKept T.kind_of id) keys.now changes.new) }
-    ensures image { (kinds : Name → T.Kind) (logs : Name → History T.Op) (view : ℕ) (entries : Name → model.Entry T.Op) (so_far : AfterGroups T.Kind T.Op Shown) (sent : sending.Keyed (model.Group T.Op))
-        → AreHeld T.kind_of T.IsDataOf kinds logs id keys.now entries → AreMade (IsKept T.kind_of id) keys.now changes.old → StandsForKeyedGroup kinds logs keyed.now sent
-        → IsAtWork T.kind_of T.IsDataOf kinds logs id keys.now view entries changes.old so_far.node → gaps.old ≡ map gap_told so_far.gaps
-        → OnOk result (IsAtWork T.kind_of T.IsDataOf kinds logs id keys.now view entries changes.new (take_group so_far sent).node × (gaps.new ≡ map gap_told (take_group so_far sent).gaps)) }
-    ensures passed_over { AreOfTheirKinds T.kind_of keys.now → AreMade (IsKept T.kind_of id) keys.now changes.old → IsGroupPassedOver T.Replica keys.now keyed.now → OnOk result ((changes.new ≡ changes.old) × (gaps.new ≡ gaps.old)) }
+    ensures image { OnOk result (MeansGroupTakenAt T.Replica id keys.now keyed.now changes.old gaps.old changes.new gaps.new) }
+    ensures passed_over { OnOk result (PassesGroupOver T.Replica id keys.now keyed.now changes.old gaps.old changes.new gaps.new) }
 {
     let Some(index) = index_of(keys, &keyed.key) else {
         return Ok(());
@@ -131,14 +114,8 @@ pub(crate) fn take_groups<T: Replica>(
 ) -> Result<Gaps, Memory>
     requires { length changes.old ≡ length keys.now }
     ensures kept { AreMade (IsKept T.kind_of id) keys.now changes.old → OnOk result (AreMade (IsKept T.kind_of id) keys.now changes.new) }
-    ensures image { (kinds : Name → T.Kind) (logs : Name → History T.Op) (view : ℕ) (entries : Name → model.Entry T.Op) (node : Member T.Kind T.Op Shown) (sent : List (sending.Keyed (model.Group T.Op)))
-        → AreOfTheirKinds T.kind_of keys.now → AreHeld T.kind_of T.IsDataOf kinds logs id keys.now entries → AreMade (IsKept T.kind_of id) keys.now changes.old → TellsGroups T.Replica kinds logs keys.now groups.now sent
-        → IsAtWork T.kind_of T.IsDataOf kinds logs id keys.now view entries changes.old node
-        → OnOk result (IsAtWork T.kind_of T.IsDataOf kinds logs id keys.now view entries changes.new (after_groups node sent).node) }
-    ensures gaps { (kinds : Name → T.Kind) (logs : Name → History T.Op) (view : ℕ) (entries : Name → model.Entry T.Op) (node : Member T.Kind T.Op Shown) (sent : List (sending.Keyed (model.Group T.Op)))
-        → AreOfTheirKinds T.kind_of keys.now → AreHeld T.kind_of T.IsDataOf kinds logs id keys.now entries → AreMade (IsKept T.kind_of id) keys.now changes.old → TellsGroups T.Replica kinds logs keys.now groups.now sent
-        → IsAtWork T.kind_of T.IsDataOf kinds logs id keys.now view entries changes.old node
-        → IfOk result (λ gaps. gaps ≡ map gap_told (after_groups node sent).gaps) }
+    ensures image { OnOk result (MeansGroupsTaken T.Replica id keys.now groups.now changes.old changes.new) }
+    ensures gaps { IfOk result (MeansGaps T.Replica id keys.now groups.now changes.old) }
 {
     let mut gaps = Items::new(alloc);
     for keyed in groups {

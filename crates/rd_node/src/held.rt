@@ -31,7 +31,7 @@ impl<T: Replica> Model for HeldEntry<T> {
 
 impl<T: Replica> HeldEntry<T> {
     ghost use Rattle.std.specs.Borrow.{sem, Lends};
-    ghost use Rattle.rd_envelope.specs.contracts.envelope.Envelope as envelope;
+    ghost use Rattle.rd_envelope.specs.contracts.envelope.Envelope as entry;
     ghost use Rattle.rd_node.specs.contracts.held.HeldEntry as held;
 
     /// The entry, without a digest.
@@ -52,7 +52,7 @@ impl<T: Replica> HeldEntry<T> {
 
     /// The entry to be changed. Its digest is no longer kept.
     pub(crate) fn change(&mut self) -> &mut Envelope<T>
-        ensures* writes_back { sem 𝓛 (Lends (held.the_row T.row T.Kind.row T.Op.row T.Delta.row T.Replica) (envelope.the_row T.row T.Kind.row T.Op.row T.Delta.row) self.entry result (λ envelope. envelope)) }
+        ensures* writes_back { sem 𝓛 (Lends (held.the_row T.row T.Kind.row T.Op.row T.Delta.row T.Replica) (entry.the_row T.row T.Kind.row T.Op.row T.Delta.row T.Replica) self.entry result (λ now. now)) }
         ensures value { result.now ≡ self.old }
     {
         self.digested.change()
@@ -72,12 +72,12 @@ impl<T: SpelledData> HeldEntry<T> {
     ghost use Rattle.rd_model.specs.Entry.{Entry};
     ghost use Rattle.rd_envelope.specs.Images.{StandsFor};
     ghost use Rattle.rd_envelope.specs.Words.{parts_of};
-    ghost use Rattle.rd_envelope_codec.specs.Entries.{entry_digest};
+    ghost use Rattle.rd_node.specs.Digests.{spelled_digest};
 
     /// The digest, which is made where none is kept.
     pub(crate) fn digest(&self) -> Result<[u8; 20], Memory>
         ensures { (log : History T.Op) (entry : Entry T.Op) → StandsFor T.IsDataOf (parts_of self.now) log entry
-            → IfOk result (λ digest. digest ≡ entry_digest T.byte_of T.history_spelled (T.kind_of self.now.value) entry) }
+            → IfOk result (λ digest. digest ≡ spelled_digest T.Replica T.SpelledData.own self.now entry) }
     {
         self.digested.told()
     }

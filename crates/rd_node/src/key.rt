@@ -32,19 +32,15 @@ pub struct KeyState<T: Replica> {
 }
 
 impl<T: Replica> KeyState<T> {
-    ghost use Rattle.std.specs.Prelude.{ℕ, ◌<◌, ◌^◌, List, true, false, None, Some, if◌then◌else◌, IfOk, map, All};
-    ghost use Rattle.rd_history.specs.History.{History};
-    ghost use Rattle.rd_model.specs.Entry.{Entry, has_records};
-    ghost use Rattle.rd_model.specs.Step.{value_reply};
+    ghost use Rattle.std.specs.Prelude.{◌<◌, ◌^◌, true, false, IfOk, map, All};
     ghost use Rattle.rd_node.specs.Outputs.{is_pending};
     ghost use Rattle.rd_vectors.specs.Vectors.{number_at};
     ghost use Rattle.rd_markers.specs.Marks.{performed_in};
-    ghost use Rattle.rd_envelope.specs.Images.{StandsFor};
     ghost use Rattle.rd_envelope.specs.Words.{parts_of};
     ghost use Rattle.rd_node.specs.Own.{IsLogged};
     ghost use Rattle.rd_node.specs.Keys.{declared, declared_by};
     ghost use Rattle.rd_node.specs.Fresh.{IsFresh};
-    ghost use Rattle.rd_node.specs.Replies.{delta_groups, meant};
+    ghost use Rattle.rd_node.specs.Showing.{MeansShown};
     ghost use Rattle.rd_node.specs.Updates.{IsOwn, MeansUpdate};
 
     /// A key without records.
@@ -132,8 +128,7 @@ impl<T: Replica> KeyState<T> {
     /// The value as it is shown, or that there is none.
     pub(crate) fn show(&self, alloc: Global) -> Result<Reply, Memory>
         ensures quiet { IfOk result (λ reply. is_pending reply ≡ false) }
-        ensures image { (digest : T.Kind → Entry T.Op → List ℕ) (log : History T.Op) (held : Entry T.Op) → StandsFor T.IsDataOf (parts_of self.now.entry) log held
-            → IfOk result (λ reply. meant reply ≡ value_reply (delta_groups T.data_type digest) (if has_records held then Some (T.data_type.shown (T.kind_of self.now.entry.value) held.history) else None)) }
+        ensures image { IfOk result (MeansShown T.Replica self.now.entry) }
     {
         let entry = self.entry.envelope();
         if !entry.has_records() {

@@ -1,13 +1,7 @@
-ghost use Rattle.std.specs.Prelude.{◌≡◌, true, Some, map, IfOk, IfErr};
-ghost use Rattle.rd_history.specs.Texts.{Text as Name};
-ghost use Rattle.rd_history.specs.History.{History, IsHistory};
+ghost use Rattle.std.specs.Prelude.{◌≡◌, true, Some, IfOk, IfErr};
 ghost use Rattle.rd_model.specs.View.{is_member};
-ghost use Rattle.rd_model.specs.World.{Store, loaded_node};
 ghost use Rattle.rd_keeper.specs.Tables.{Table};
-ghost use Rattle.rd_node.specs.Keys.{declared_by, HaveKinds};
-ghost use Rattle.rd_node.specs.Members.{StandsForNode};
-ghost use Rattle.rd_node.specs.Stores.{SpellsStore, AreFit};
-ghost use Rattle.rd_node.specs.Loading.{IsLoaded, IsRefusedLoad, IsUndamaged, IsFirstUnfit, AreSound};
+ghost use Rattle.rd_node.specs.Loading.{IsLoaded, IsRefusedLoad, IsFirstUnfit, AreSound, StandsForLoaded, FindsNoDamage};
 
 use crate::node::Node;
 use crate::operations::Operations;
@@ -39,15 +33,13 @@ impl<T: SpelledData, K: Keeper + Drop> Node<T, K> {
     /// not given or the new member's; or memory was refused.
     pub fn loaded(old: Node<T, K>, id: Id, view: View) -> Result<Node<T, K>, LoadError<T, K>>
         requires member { is_member view id ≡ true }
-        ensures stands { (kinds : Name → T.Kind) (logs : Name → History T.Op) (table : Table) (store : Store T.Op) → K.table old.keeper ≡ Some table → HaveKinds kinds old.keys.items → ((key : Name) → IsHistory (logs key))
-            → SpellsStore T.Replica T.SpelledData.own kinds logs table store → IfOk result (λ node. StandsForNode T.kind_of T.IsDataOf kinds logs node (loaded_node (map declared_by old.keys.items) id view store)) }
+        ensures stands { IfOk result (StandsForLoaded T.SpelledData.own old id view) }
         ensures loaded { IfOk result (IsLoaded old id view) }
         ensures refused { IfErr result (IsRefusedLoad old) }
         ensures sound { (table : Table) → K.table old.keeper ≡ Some table → IfOk result (λ _node. AreSound T.Replica T.SpelledData.own old.keys.items id view.given table) }
         ensures damaged { (table : Table) → K.table old.keeper ≡ Some table → IfErr result (IsFirstUnfit T.SpelledData.own old.keys.items id view.given table) }
         // A keeper that keeps what members stored is not damaged.
-        ensures undamaged { (kinds : Name → T.Kind) (logs : Name → History T.Op) (table : Table) (store : Store T.Op) → K.table old.keeper ≡ Some table → HaveKinds kinds old.keys.items
-            → SpellsStore T.Replica T.SpelledData.own kinds logs table store → AreFit old.keys.items id view.given store → IfErr result IsUndamaged }
+        ensures undamaged { IfErr result (FindsNoDamage T.SpelledData.own old id view) }
     {
         let mut old = old;
         let loaded = match old.keeper.load() {

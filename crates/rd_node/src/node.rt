@@ -45,12 +45,10 @@ impl<T: SpelledData, K: Keeper + Drop> Node<T, K> {
     ghost use Rattle.std.specs.Prelude.{true, map, find, position, IfOk, IfErr, OnErr, Err, ◌↔◌};
     ghost use Rattle.std.specs.Option.{option_copied, option_map};
     ghost use Rattle.std.specs.Str.{bytes_eq};
-    ghost use Rattle.rd_history.specs.History.{History, IsHistory};
     ghost use Rattle.rd_model.specs.View.{is_member};
-    ghost use Rattle.rd_model.specs.World.{loaded_node, no_entries};
     ghost use Rattle.rd_node.specs.declared.reply.StepError.TheVariants as StepError;
-    ghost use Rattle.rd_node.specs.Keys.{declared, AreDistinct, AreOfKinds};
-    ghost use Rattle.rd_node.specs.Members.{StandsForNode};
+    ghost use Rattle.rd_node.specs.Keys.{AreDistinct};
+    ghost use Rattle.rd_node.specs.Members.{IsNewMember};
     ghost use Rattle.rd_node.specs.Steps.{MakesStep, MayRefuse, IsUnchanged};
     ghost use Rattle.rd_node.specs.Planning.{IsSoundPlan};
     ghost use Rattle.rd_node.specs.Operations.{CanChange};
@@ -72,8 +70,7 @@ impl<T: SpelledData, K: Keeper + Drop> Node<T, K> {
     ) -> Result<Node<T, K>, (K, Memory)>
         requires member { is_member view id ≡ true }
         requires distinct { AreDistinct (map (λ decl. decl.key) keys.now) }
-        ensures stands { (kinds : Text → T.Kind) (logs : Text → History T.Op) → ((key : Text) → IsHistory (logs key)) → AreOfKinds kinds keys.now
-            → IfOk result (λ node. StandsForNode T.kind_of T.IsDataOf kinds logs node (loaded_node (map declared keys.now) id view no_entries)) }
+        ensures stands { IfOk result (IsNewMember keys.now id view) }
         ensures identity { IfOk result (λ node. node.id ≡ id) }
         ensures view { IfOk result (λ node. node.view ≡ view) }
         ensures keeper { IfOk result (λ node. node.keeper ≡ keeper) }

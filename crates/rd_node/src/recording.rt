@@ -1,14 +1,8 @@
-ghost use Rattle.std.specs.Prelude.{◌≡◌, ℕ, ◌<◌, ◌^◌, true, false, None, IfOk, IfErr, OnErr, OnOk};
-ghost use Rattle.rd_history.specs.History.{History};
-ghost use Rattle.rd_history.specs.History.Action.{Operation};
-ghost use Rattle.rd_history.specs.Log.{IsTakenFrom};
-ghost use Rattle.rd_model.specs.Entry.{Entry, with_action};
+ghost use Rattle.std.specs.Prelude.{◌≡◌, ◌<◌, ◌^◌, true, false, IfOk, IfErr, OnErr, OnOk};
 ghost use Rattle.rd_vectors.specs.Vectors.{number_at};
 ghost use Rattle.rd_markers.specs.Marks.{performed_in};
-ghost use Rattle.rd_lattice.specs.Refusals.{IsApplyRefusal};
-ghost use Rattle.rd_envelope.specs.Images.{StandsFor};
 ghost use Rattle.rd_envelope.specs.Words.{parts_of};
-ghost use Rattle.rd_node.specs.Recording.{IsRecorded, StandsForRecorded};
+ghost use Rattle.rd_node.specs.Recording.{IsRecorded, MeansRecorded, IsUnrefused, TellsRefusal};
 
 use rd_deltalog::{DeltaLog, NextRecord};
 use rd_envelope::Envelope;
@@ -29,12 +23,9 @@ pub(crate) fn next_record<T: Replica>(
     requires member { performed_in (parts_of entry.old).marks id ≡ false }
     requires room { number_at (parts_of entry.old).versions id < 2 ^ 62 }
     ensures recorded { IfOk result (IsRecorded T.Replica id log.now entry.old entry.new) }
-    ensures image { (history : History T.Op) (before : Entry T.Op) → StandsFor T.IsDataOf (parts_of entry.old) history before → IsTakenFrom history (with_action before id (Operation op.now)).history
-        → IfOk result (StandsForRecorded T.Replica history id op.now before entry.new) }
-    ensures unrefused { (history : History T.Op) (before : Entry T.Op) → StandsFor T.IsDataOf (parts_of entry.old) history before
-        → OnOk result (T.data_type.refusal (T.kind_of entry.old.value) id op.now before.history ≡ None) }
-    ensures refused { (history : History T.Op) (before : Entry T.Op) → StandsFor T.IsDataOf (parts_of entry.old) history before
-        → IfErr result (IsApplyRefusal (T.data_type.refusal (T.kind_of entry.old.value) id op.now before.history)) }
+    ensures image { IfOk result (MeansRecorded T.Replica id op.now entry.old entry.new) }
+    ensures unrefused { OnOk result (IsUnrefused T.Replica id op.now entry.old) }
+    ensures refused { IfErr result (TellsRefusal T.Replica id op.now entry.old) }
     ensures err { OnErr result (entry.new ≡ entry.old) }
 {
     let _below_limit = id.number();

@@ -1,19 +1,9 @@
-ghost use Rattle.std.specs.Prelude.{◌≡◌, ◌≤◌, ◌^◌, ℕ, [], ◌∷◌, ◌++◌, true, List, map, nat_lt, All, IfOk, OnOk, ◌==◌, if◌then◌else◌};
-ghost use Rattle.std.specs.List.{AllZip, list_any};
-ghost use Rattle.rd_history.specs.Texts.{Text as Name};
-ghost use Rattle.rd_history.specs.History.{History};
-ghost use Rattle.rd_model.specs.View.{identities_of};
-ghost use Rattle.rd_model.specs.Entry as model;
-ghost use Rattle.rd_model.specs.DataType.{Replication};
-ghost use Rattle.rd_model.specs.Message as sending;
-ghost use Rattle.rd_model.specs.Node.{Node as Member};
-ghost use Rattle.rd_model.specs.Step as step;
-ghost use Rattle.rd_kinds.specs.declared.shown.Shown.{Shown};
+ghost use Rattle.std.specs.Prelude.{◌≡◌, ◌≤◌, ◌^◌, ℕ, IfOk, OnOk, ◌==◌, if◌then◌else◌};
+ghost use Rattle.std.specs.List.{list_any};
 ghost use Rattle.rd_vectors.specs.Vectors.{number_at};
-ghost use Rattle.rd_messages.specs.Standing.{StandsForKeyed, StandsForKeyedGroup, StandsForMessage, StandsForPosts};
 ghost use Rattle.rd_node.specs.Changes.{AreMade, IsFlush};
-ghost use Rattle.rd_node.specs.Keys.{declared_by};
-ghost use Rattle.rd_node.specs.Sending.{own_number, is_behind, state_in, IsHeldBy, groups_of, entries_of, IsGroupFor, IsPostFor, peers_of, flushed_to};
+ghost use Rattle.rd_node.specs.Sending.{own_number, is_behind, peers_of, flushed_to};
+ghost use Rattle.rd_node.specs.Flushing.{MeansGroup, AddsGroups, AddsEntries, MeansDeltas, MeansPost, MeansPosts};
 
 use crate::change::Change;
 use crate::key::KeyState;
@@ -53,9 +43,7 @@ fn group_for<T: Replica>(
     state: &KeyState<T>,
     peer: Id,
 ) -> Result<Option<Group<T>>, Memory>
-    ensures { (D : Replication T.Kind T.Op Shown) (kinds : Name → T.Kind) (logs : Name → History T.Op) (id : ℕ) (node : Member T.Kind T.Op Shown)
-        → D.log_length ≡ 50 → IsHeldBy T.kind_of T.IsDataOf T.IsDeltaOf kinds logs id node state.now → step.is_behind D node peer (state_in node state.now) ≡ true
-        → IfOk result (IsGroupFor kinds logs D node peer state.now) }
+    ensures { IfOk result (MeansGroup T.Replica peer state.now) }
 {
     match state.log.group(alloc, state.flushed.at(peer))? {
         Grouped::Group(group) => Ok(Some(group)),
@@ -72,12 +60,8 @@ fn add_deltas<T: Replica>(
     groups: &mut Groups<T>,
     entries: &mut Entries<T>,
 ) -> Result<(), Memory>
-    ensures groups { (D : Replication T.Kind T.Op Shown) (kinds : Name → T.Kind) (logs : Name → History T.Op) (node : Member T.Kind T.Op Shown) (sent : List (sending.Keyed (model.Group T.Op)))
-        → D.log_length ≡ 50 → IsHeldBy T.kind_of T.IsDataOf T.IsDeltaOf kinds logs id node state.now → AllZip (StandsForKeyedGroup kinds logs) groups.old sent
-        → OnOk result (AllZip (StandsForKeyedGroup kinds logs) groups.new (sent ++ groups_of D node peer (state_in node state.now ∷ []))) }
-    ensures entries { (D : Replication T.Kind T.Op Shown) (kinds : Name → T.Kind) (logs : Name → History T.Op) (node : Member T.Kind T.Op Shown) (sent : List (sending.Keyed (model.Entry T.Op)))
-        → D.log_length ≡ 50 → IsHeldBy T.kind_of T.IsDataOf T.IsDeltaOf kinds logs id node state.now → AllZip (StandsForKeyed T.kind_of T.IsDataOf kinds logs) entries.old sent
-        → OnOk result (AllZip (StandsForKeyed T.kind_of T.IsDataOf kinds logs) entries.new (sent ++ entries_of D node peer (state_in node state.now ∷ []))) }
+    ensures groups { OnOk result (AddsGroups T.Replica id peer state.now groups.old groups.new) }
+    ensures entries { OnOk result (AddsEntries T.Replica id peer state.now entries.old entries.new) }
 {
     if !is_behind(state, id, peer) {
         return Ok(());
@@ -104,9 +88,7 @@ fn deltas<T: Replica>(
     id: Id,
     peer: Id,
 ) -> Result<Message<T>, Memory>
-    ensures { (D : Replication T.Kind T.Op Shown) (kinds : Name → T.Kind) (logs : Name → History T.Op) (node : Member T.Kind T.Op Shown)
-        → D.log_length ≡ 50 → All (IsHeldBy T.kind_of T.IsDataOf T.IsDeltaOf kinds logs id node) keys.now → node.keys ≡ map declared_by keys.now
-        → IfOk result (λ message. StandsForMessage T.kind_of T.IsDataOf kinds logs message (step.deltas_for D node peer)) }
+    ensures { IfOk result (MeansDeltas T.Replica id keys.now peer) }
 {
     let mut groups = Items::new(alloc);
     let mut entries = Items::new(alloc);
@@ -123,9 +105,7 @@ fn post<T: Replica>(
     id: Id,
     peer: Id,
 ) -> Result<Option<Post<T>>, Memory>
-    ensures { (D : Replication T.Kind T.Op Shown) (kinds : Name → T.Kind) (logs : Name → History T.Op) (node : Member T.Kind T.Op Shown)
-        → D.log_length ≡ 50 → All (IsHeldBy T.kind_of T.IsDataOf T.IsDeltaOf kinds logs id node) keys.now → node.keys ≡ map declared_by keys.now
-        → IfOk result (IsPostFor T.kind_of T.IsDataOf kinds logs D node id peer) }
+    ensures { IfOk result (MeansPost T.Replica id keys.now peer) }
 {
     if peer == id || !any_behind(keys, id, peer) {
         return Ok(None);
@@ -141,9 +121,7 @@ pub(crate) fn posts<T: Replica>(
     id: Id,
     members: &[Id],
 ) -> Result<Posts<T>, Memory>
-    ensures { (D : Replication T.Kind T.Op Shown) (kinds : Name → T.Kind) (logs : Name → History T.Op) (node : Member T.Kind T.Op Shown)
-        → D.log_length ≡ 50 → All (IsHeldBy T.kind_of T.IsDataOf T.IsDeltaOf kinds logs id node) keys.now → node.keys ≡ map declared_by keys.now → node.identity ≡ id → identities_of node.view ≡ members.now
-        → IfOk result (λ posts. StandsForPosts T.kind_of T.IsDataOf kinds logs posts (step.step_of_flush D node).output.posts) }
+    ensures { IfOk result (MeansPosts T.Replica id keys.now members.now) }
 {
     let mut posts = Items::new(alloc);
     for peer in members {

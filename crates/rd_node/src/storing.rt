@@ -1,12 +1,6 @@
-ghost use Rattle.std.specs.Prelude.{◌≡◌, ◌++◌, ℕ, ◌<◌, ◌≤◌, [], ◌∷◌, Some, length, map, slice_index_or, IfOk, OnOk, IfErr, OnErr};
-ghost use Rattle.rd_history.specs.History.{History};
-ghost use Rattle.rd_model.specs.Entry.{Entry};
-ghost use Rattle.rd_envelope.specs.Images.{StandsFor};
-ghost use Rattle.rd_envelope.specs.Words.{parts_of};
-ghost use Rattle.rd_keeper.specs.Calls.{IsCaused};
-ghost use Rattle.rd_node.specs.Stores.{spelled_entry, IsKept};
-ghost use Rattle.rd_node.specs.Planning.{entry_in};
-ghost use Rattle.rd_node.specs.Storing.{stored_of, AreStores};
+ghost use Rattle.std.specs.Prelude.{◌≡◌, ◌≤◌, IfOk, OnErr};
+ghost use Rattle.rd_node.specs.Planning.{KeepsKinds};
+ghost use Rattle.rd_node.specs.Storing.{AddsSpellingOnOk, IsReadableOnOk, AreStores};
 ghost use Rattle.rd_node.specs.Steps.{TellsSame, IsKeptBy};
 
 use crate::key::KeyState;
@@ -27,10 +21,8 @@ fn add<T: SpelledData>(
     stores: &mut Items<Stored>,
 ) -> Result<(), Memory>
     requires { T.kind_of entry.now.value ≡ state.now.kind }
-    ensures spelled { (log : History T.Op) (old new : Entry T.Op) → StandsFor T.IsDataOf (parts_of state.now.entry) log old → StandsFor T.IsDataOf (parts_of entry.now) log new
-        → OnOk result (stores.new ≡ stores.old ++ map (spelled_entry T.SpelledData.own) (stored_of state.now old new)) }
-    ensures kept { (log : History T.Op) (old new : Entry T.Op) (k : ℕ) → StandsFor T.IsDataOf (parts_of state.now.entry) log old → StandsFor T.IsDataOf (parts_of entry.now) log new
-        → k < length (stored_of state.now old new) → OnOk result (IsKept T.Replica T.SpelledData.own state.now.kind log new) }
+    ensures spelled { AddsSpellingOnOk T.Replica T.SpelledData.own state.now entry.now stores.old stores.new result }
+    ensures kept { IsReadableOnOk T.Replica T.SpelledData.own state.now entry.now result }
 {
     if !state.durable || entry.is_unchanged(state.entry.envelope()) {
         return Ok(());
@@ -46,7 +38,7 @@ pub(crate) fn stores<T: SpelledData>(
     keys: &[KeyState<T>],
     plan: &Plan<T>,
 ) -> Result<Items<Stored>, Memory>
-    requires { (k : ℕ) (d : KeyState T T.Kind T.Op T.Delta) (entry : Envelope T T.Kind T.Op T.Delta) → k < length keys.now → entry_in plan.now k ≡ Some entry → T.kind_of entry.value ≡ (slice_index_or keys.now k d).kind }
+    requires { KeepsKinds T.Replica keys.now plan.now }
     ensures { IfOk result (AreStores T.Replica T.SpelledData.own keys.now plan.now) }
 {
     let mut stores = Items::new(alloc);

@@ -1,18 +1,7 @@
-ghost use Rattle.std.specs.Prelude.{◌≡◌, ◌≤◌, ℕ, true, false, List, length, map, vec_len, None, IfOk};
-ghost use Rattle.rd_history.specs.Texts.{Text as Name};
-ghost use Rattle.rd_history.specs.History.{History};
-ghost use Rattle.rd_model.specs.Entry.{Entry};
-ghost use Rattle.rd_model.specs.Message.{Message as Sent};
-ghost use Rattle.rd_model.specs.Node.{Node as Member, Fate};
-ghost use Rattle.rd_model.specs.Step as step;
-ghost use Rattle.rd_kinds.specs.declared.shown.Shown.{Shown};
-ghost use Rattle.rd_messages.specs.Standing.{digest_told};
-ghost use Rattle.rd_node.specs.Replies.{delta_groups, spelled_groups};
-ghost use Rattle.rd_node.specs.Keys.{declared_by};
+ghost use Rattle.std.specs.Prelude.{◌≡◌, ◌≤◌, false, length, vec_len, None, IfOk};
 ghost use Rattle.rd_node.specs.Changes.{AreMade};
-ghost use Rattle.rd_node.specs.Inputs.{StandsForTaken};
-ghost use Rattle.rd_node.specs.Taking.{IsKept, AreHeld, AreHeldBy, AreExactAt};
-ghost use Rattle.rd_node.specs.Answers.{is_status, is_exchange, IsTaken};
+ghost use Rattle.rd_node.specs.Taking.{IsKept};
+ghost use Rattle.rd_node.specs.Answers.{ComparesIfOk, BringsIfOk, TakesIfOk};
 ghost use Rattle.rd_node.specs.Outputs.{is_pending};
 
 use crate::answering::{answers, named, reply};
@@ -48,10 +37,7 @@ fn compared<T: SpelledData>(
     ensures opens_none { IfOk result (λ taken. is_pending taken.output.reply ≡ false) }
     ensures ends_none { IfOk result (λ taken. taken.output.finished ≡ None) }
     ensures kept { IfOk result (λ taken. AreMade (IsKept T.kind_of id) keys.now taken.changes.items) }
-    ensures image { (kinds : Name → T.Kind) (logs : Name → History T.Op) (node : Member T.Kind T.Op Shown)
-        → AreHeld T.kind_of T.IsDataOf kinds logs id keys.now node.entries → node.keys ≡ map declared_by keys.now
-        → let next = step.step_of_take (spelled_groups T.data_type T.byte_of T.history_spelled) node from Fate.NoStore (Sent.Status (map digest_told digests.now)) in
-        IfOk result (IsTaken T.kind_of T.IsDataOf kinds logs keys.now node next) }
+    ensures image { ComparesIfOk T.SpelledData.own id from keys.now digests.now result }
 {
     let changes = unchanged(alloc, keys)?;
     let posts = answer(alloc, keys, from, digests)?;
@@ -78,10 +64,7 @@ fn brought<T: Replica>(
     ensures opens_none { IfOk result (λ taken. is_pending taken.output.reply ≡ false) }
     ensures ends_none { IfOk result (λ taken. taken.output.finished ≡ None) }
     ensures kept { IfOk result (λ taken. AreMade (IsKept T.kind_of id) keys.now taken.changes.items) }
-    ensures image { (digest : T.Kind → Entry T.Op → List ℕ) (kinds : Name → T.Kind) (logs : Name → History T.Op) (node : Member T.Kind T.Op Shown) (sent : Sent T.Op)
-        → AreHeldBy T.kind_of T.IsDataOf kinds logs id keys.now view node → StandsForTaken kinds logs keys.now message.now sent → is_status message.now ≡ false → is_exchange message.now ≡ true
-        → AreExactAt keys.now (step.step_of_take (delta_groups T.data_type digest) node from Fate.NoStore sent).node.entries
-        → IfOk result (IsTaken T.kind_of T.IsDataOf kinds logs keys.now node (step.step_of_take (delta_groups T.data_type digest) node from Fate.NoStore sent)) }
+    ensures image { BringsIfOk id view from keys.now message.now result }
 {
     let mut changes = unchanged(alloc, keys)?;
     let gaps = take_groups(alloc, keys, changes.as_mut_slice(), id, message.groups())?;
@@ -119,10 +102,7 @@ pub(crate) fn taken<T: SpelledData>(
     ensures opens_none { IfOk result (λ taken. is_pending taken.output.reply ≡ false) }
     ensures ends_none { IfOk result (λ taken. taken.output.finished ≡ None) }
     ensures kept { IfOk result (λ taken. AreMade (IsKept T.kind_of id) keys.now taken.changes.items) }
-    ensures image { (kinds : Name → T.Kind) (logs : Name → History T.Op) (node : Member T.Kind T.Op Shown) (sent : Sent T.Op)
-        → AreHeldBy T.kind_of T.IsDataOf kinds logs id keys.now view node → StandsForTaken kinds logs keys.now message.now sent → is_exchange message.now ≡ true
-        → AreExactAt keys.now (step.step_of_take (spelled_groups T.data_type T.byte_of T.history_spelled) node from Fate.NoStore sent).node.entries
-        → IfOk result (IsTaken T.kind_of T.IsDataOf kinds logs keys.now node (step.step_of_take (spelled_groups T.data_type T.byte_of T.history_spelled) node from Fate.NoStore sent)) }
+    ensures image { TakesIfOk T.SpelledData.own id view from keys.now message.now result }
 {
     match message {
         Message::Status { digests } => compared(alloc, keys, id, from, digests.as_slice()),

@@ -1,22 +1,14 @@
-ghost use Rattle.std.specs.Prelude.{◌≡◌, ◌++◌, ℕ, ◌+◌, ◌<◌, ◌≤◌, ◌^◌, [], ◌∷◌, true, false, nat_lt, List, length, map, Some, All, IfOk, OnOk, slice_index_or, slice_set};
+ghost use Rattle.std.specs.Prelude.{◌≡◌, ◌+◌, ◌<◌, ◌≤◌, ◌^◌, true, false, nat_lt, length, Some, All, IfOk, OnOk, slice_index_or, slice_set};
 ghost use Rattle.std.specs.List.{list_any};
-ghost use Rattle.rd_history.specs.Texts.{Text as Name};
-ghost use Rattle.rd_history.specs.History.{History, IsPartOf};
-ghost use Rattle.rd_model.specs.Entry.{Entry};
-ghost use Rattle.rd_model.specs.Node.{Node as Member, KeyOutcome as Told};
-ghost use Rattle.rd_model.specs.Step.{Ticking as Course, tick_identity};
-ghost use Rattle.rd_kinds.specs.declared.shown.Shown.{Shown};
 ghost use Rattle.rd_vectors.specs.Vectors.{number_at};
 ghost use Rattle.rd_markers.specs.Marks.{performed_in};
-ghost use Rattle.rd_envelope.specs.Images.{StandsFor};
 ghost use Rattle.rd_envelope.specs.Words.{parts_of};
 ghost use Rattle.rd_envelope.specs.Pruning.{init_of};
 ghost use Rattle.rd_envelope.specs.declared.outcomes.Init.TheVariants as initial;
-ghost use Rattle.rd_node.specs.Replies.{delta_groups, meant_at_key};
-ghost use Rattle.rd_node.specs.Sending.{state_in};
 ghost use Rattle.rd_node.specs.Changes.{AreMade};
 ghost use Rattle.rd_node.specs.Planning.{ticked as after_tick, AreTicked, CanFollow};
-ghost use Rattle.rd_node.specs.Ticking.{tick_of, tick_at, is_prune, TicksOwn, IsTickOf, IsTicked, IsNoted, IsOwnCourse, IsInCourse, CanTick, IsKeyTick, TicksIn, IsDue, TellsMore, IsTickedAs};
+ghost use Rattle.rd_node.specs.Ticking.{TicksOwn, IsNoted, IsOwnCourse, CanTick, IsKeyTick};
+ghost use Rattle.rd_node.specs.LeaderTicks.{MeansTick, MeansTickAt, TicksOnOk, TellsTickOnOk, MeansKeyTick, TellsKeyTick, MeansTicks, TellsTicks};
 
 use crate::key::KeyState;
 use crate::outcome::{KeyOutcome, Outcome, Outcomes};
@@ -49,8 +41,7 @@ fn performed<T: Replica>(
     requires room { number_at entry.old.versions owner < 2 ^ 62 }
     requires stands { init_of (parts_of entry.old) removed view ≡ initial.Standing }
     ensures own { IfOk result (λ outcome. TicksOwn T.kind_of owner entry.old (Some outcome) entry.new) }
-    ensures image { (log : History T.Op) (before : Entry T.Op) → StandsFor T.IsDataOf (parts_of entry.old) log before
-        → IfOk result (λ outcome. IsTicked T.IsDataOf log owner removed before (tick_of T.data_type (T.kind_of entry.old.value) owner view members.now before removed) outcome entry.new) }
+    ensures image { IfOk result (λ outcome. MeansTick T.Replica owner view members.now removed entry.old outcome entry.new) }
 {
     match entry.perform(removed, owner, view, members)? {
         Perform::Performed => Ok(Outcome::Performed),
@@ -78,8 +69,7 @@ fn outcome_of<T: Replica>(
     requires member { performed_in entry.old.markers owner ≡ false }
     requires room { number_at entry.old.versions owner < 2 ^ 62 }
     ensures own { IfOk result (λ told. TicksOwn T.kind_of owner entry.old told entry.new) }
-    ensures image { (log : History T.Op) (before : Entry T.Op) → StandsFor T.IsDataOf (parts_of entry.old) log before
-        → IfOk result (λ told. IsTickOf T.IsDataOf log owner removed before (tick_at T.data_type (T.kind_of entry.old.value) owner view members.now before removed) told entry.new) }
+    ensures image { IfOk result (λ told. MeansTickAt T.Replica owner view members.now removed entry.old told entry.new) }
 {
     match entry.init_prune(removed, owner, view)? {
         Init::NothingKnown => Ok(None),
@@ -135,14 +125,8 @@ impl<T: Replica> KeyTicking<T> {
         requires room { number_at (parts_of self.old.entry).versions id < 2 ^ 62 }
         ensures own { OnOk result (IsOwnCourse T.kind_of id state.now self.new) }
         ensures few { OnOk result (length self.new.prunes ≤ length self.old.prunes + 1) }
-        ensures image { (digest : T.Kind → Entry T.Op → List ℕ) (log : History T.Op) (node : Member T.Kind T.Op Shown) (so_far : Course T.Op)
-            → state.now.log.origin ≡ id → TicksIn node id view members.now → IsInCourse T.Replica log state.now so_far self.old
-            → let next = tick_identity (delta_groups T.data_type digest) node (state_in node state.now) so_far removed in
-            IsPartOf next.entry.history log → OnOk result (IsInCourse T.Replica log state.now next self.new) }
-        ensures told { (digest : T.Kind → Entry T.Op → List ℕ) (log : History T.Op) (node : Member T.Kind T.Op Shown) (so_far : Course T.Op)
-            → TicksIn node id view members.now → IsInCourse T.Replica log state.now so_far self.old
-            → let next = tick_identity (delta_groups T.data_type digest) node (state_in node state.now) so_far removed in
-            (first : List Told) → map meant_at_key outcomes.old ≡ first ++ so_far.outcomes → OnOk result (map meant_at_key outcomes.new ≡ first ++ next.outcomes) }
+        ensures image { TicksOnOk T.Replica id view members.now removed state.now self.old self.new result }
+        ensures told { TellsTickOnOk T.Replica id view members.now removed state.now self.old outcomes.old outcomes.new result }
     {
         let _below_limit = id.number();
         let told = outcome_of(&mut self.entry, removed, id, view, members)?;
@@ -179,12 +163,8 @@ fn key_tick<T: Replica>(
 ) -> Result<KeyTick<T>, Memory>
     requires { CanTick T.kind_of id removed.now state.now }
     ensures own { IfOk result (IsKeyTick T.Replica id state.now) }
-    ensures image { (digest : T.Kind → Entry T.Op → List ℕ) (kinds : Name → T.Kind) (logs : Name → History T.Op) (node : Member T.Kind T.Op Shown)
-        → TicksIn node id view members.now → IsDue (delta_groups T.data_type digest) node T.Replica kinds logs id removed.now state.now
-        → IfOk result (IsTickedAs (delta_groups T.data_type digest) node T.Replica logs state.now) }
-    ensures told { (digest : T.Kind → Entry T.Op → List ℕ) (kinds : Name → T.Kind) (logs : Name → History T.Op) (node : Member T.Kind T.Op Shown)
-        → TicksIn node id view members.now → IsDue (delta_groups T.data_type digest) node T.Replica kinds logs id removed.now state.now
-        → OnOk result (TellsMore (delta_groups T.data_type digest) node outcomes.old (state.now ∷ []) outcomes.new) }
+    ensures image { IfOk result (MeansKeyTick T.Replica id view members.now removed.now state.now) }
+    ensures told { OnOk result (TellsKeyTick T.Replica id view members.now removed.now state.now outcomes.old outcomes.new) }
 {
     let held = state.entry.envelope();
     if !knows_any(held, removed) {
@@ -230,12 +210,8 @@ pub(crate) fn tick_all<T: Replica>(
 ) -> Result<Ticks<T>, Memory>
     requires { All (CanTick T.kind_of id removed.now) keys.now }
     ensures own { IfOk result (λ ticks. AreMade (IsKeyTick T.Replica id) keys.now ticks.keys.items) }
-    ensures image { (digest : T.Kind → Entry T.Op → List ℕ) (kinds : Name → T.Kind) (logs : Name → History T.Op) (node : Member T.Kind T.Op Shown)
-        → TicksIn node id view members.now → All (IsDue (delta_groups T.data_type digest) node T.Replica kinds logs id removed.now) keys.now
-        → IfOk result (λ ticks. AreMade (IsTickedAs (delta_groups T.data_type digest) node T.Replica logs) keys.now ticks.keys.items) }
-    ensures told { (digest : T.Kind → Entry T.Op → List ℕ) (kinds : Name → T.Kind) (logs : Name → History T.Op) (node : Member T.Kind T.Op Shown)
-        → TicksIn node id view members.now → All (IsDue (delta_groups T.data_type digest) node T.Replica kinds logs id removed.now) keys.now
-        → IfOk result (λ ticks. TellsMore (delta_groups T.data_type digest) node [] keys.now ticks.outcomes) }
+    ensures image { IfOk result (λ ticks. MeansTicks T.Replica id view members.now removed.now keys.now ticks.keys.items) }
+    ensures told { IfOk result (λ ticks. TellsTicks T.Replica id view members.now removed.now keys.now ticks.outcomes) }
 {
     let mut ticks = Items::new(alloc);
     let mut outcomes = Items::new(alloc);

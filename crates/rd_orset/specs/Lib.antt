@@ -11,6 +11,7 @@ pub mod JoinLaws
 pub mod DataLaws
 pub mod OperationLaws
 pub mod PruneLaws
+pub mod MentionLaws
 pub mod ShownLaws
 pub mod Elements
 pub mod Reading

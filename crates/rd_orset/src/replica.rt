@@ -11,6 +11,7 @@ ghost use Rattle.rd_orset.specs.JoinLaws as joins;
 ghost use Rattle.rd_orset.specs.DataLaws as laws;
 ghost use Rattle.rd_orset.specs.OperationLaws as operations;
 ghost use Rattle.rd_orset.specs.PruneLaws as prunes;
+ghost use Rattle.rd_orset.specs.MentionLaws as mentions;
 ghost use Rattle.rd_orset.specs.ShownLaws as meaning;
 
 use crate::set::{OrSet, SetDelta};
@@ -193,6 +194,22 @@ impl Replica for OrSet {
     ghost data_unmentioned = { laws.data_unmentioned };
 
     ghost data_once = { λ state other log held gone _. laws.data_once state other log held gone };
+
+    ghost empty_mentions = { λ _. mentions.empty_mentions };
+
+    ghost applied_mentions = { mentions.applied_mentions };
+
+    ghost joined_mentions = { mentions.joined_mentions };
+
+    ghost absorbed_mentions = { mentions.absorbed_mentions };
+
+    ghost cleaned_mentions = { mentions.cleaned_mentions };
+
+    ghost cleaned_unmentioned = { mentions.cleaned_unmentioned };
+
+    ghost pruned_mentions = { mentions.pruned_mentions };
+
+    ghost pruned_unmentioned = { mentions.pruned_unmentioned };
 
     ghost refusal_means = { λ state log held gone op origin pruned is _ fits. meaning.refusal_means state log held gone pruned is op origin fits };
 

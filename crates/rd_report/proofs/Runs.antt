@@ -25,7 +25,7 @@ use Rattle.rd_script.specs.declared.script.ScriptKey.{ScriptKey}
 use Rattle.rd_world.specs.declared.world.World.{World}
 use Rattle.rd_world.specs.Places.{keeper_of, keepers_of}
 use Rattle.rd_world.specs.Keeping.{Given, Keeps, KeepsAt, IsKept, AtEachPlace, AreKept, IsNotCleared}
-use Rattle.rd_world.proofs.Unkept.{not_called}
+use Rattle.rd_world.proofs.Storing.{not_called}
 use Rattle.rd_world.specs.Standing.{TellsStore}
 use Rattle.rd_world.specs.Steps.{Starts, HaveAnswered}
 use Rattle.rd_world.specs.Ways.{Means}
@@ -46,7 +46,7 @@ use Rattle.rd_report.proofs.Holding.{holds_store}
 use Rattle.rd_report.proofs.KeepersBack.{keeper_past, ComeBack, come_back}
 use Rattle.rd_report.proofs.NamedKinds.{kind_among, are_of_kinds}
 use Rattle.rd_report.proofs.Orders.{distinct_keys, in_ordered, from_ordered, in_mapped, from_mapped}
-use Rattle.rd_world.proofs.StoredKeys.{run_stores_declared, any_in}
+use Rattle.rd_world.proofs.StoredNames.{run_stores_declared, any_in}
 use Rattle.rd_report.proofs.Unfailing.{none_failed}
 
 -- what an index has

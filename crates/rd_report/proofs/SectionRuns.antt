@@ -37,7 +37,7 @@ use Rattle.rd_world.specs.Keeping.{Given, Keeps, IsKept, AtEachPlace, AreKept}
 use Rattle.rd_world.specs.Places.{item_at, first_keeper, keeper_of, keepers_of}
 use Rattle.rd_world.specs.Steps.{step_of, Starts}
 use Rattle.rd_world.specs.Threads.{run_step_of, GivesBack}
-use Rattle.rd_world.proofs.Unkept.{not_called_at}
+use Rattle.rd_world.proofs.Storing.{not_called_at}
 use Rattle.rd_report.specs.declared.playing.Ending.{Ending}
 use Rattle.rd_report.specs.declared.playing.Ending.TheVariants.{Told, NotCleared, Memory}
 use Rattle.rd_report.specs.Kept.{answers_by, HoldsStore, NoneRose, IsWholeRun, EndsSo, IsPlayed}

@@ -28,7 +28,7 @@ use Rattle.rd_world.specs.Keeping.{Given, KeepsAt, IsKept}
 use Rattle.rd_world.specs.Steps.{step_of, Foretells, HaveAnswered, LoadsWhatItTook, Plays}
 use Rattle.rd_world.specs.Threads.{run_step_of, GivesBack}
 use Rattle.rd_world.specs.Ways.{Means}
-use Rattle.rd_world.proofs.Unkept.{not_called_at}
+use Rattle.rd_world.proofs.Storing.{not_called_at}
 use Rattle.rd_report.specs.Finals.{IsBlockOf}
 use Rattle.rd_report.specs.Lines.{event_text}
 use Rattle.rd_report.specs.Sections.{restarts, until_restarts, SectionsLoad, IsLines, IsWhole, BeginsSections, TellsStep, TellsSome, TellsSections}

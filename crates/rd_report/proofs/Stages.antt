@@ -28,7 +28,7 @@ use Rattle.rd_world.specs.Places.{keeper_of}
 use Rattle.rd_world.specs.Keeping.{Given, KeepsAt}
 use Rattle.rd_world.specs.Steps.{step_of, Foretells, Reaches, LoadsWhatItTook, Plays}
 use Rattle.rd_world.specs.Ways.{Means}
-use Rattle.rd_world.proofs.Unkept.{not_called_at}
+use Rattle.rd_world.proofs.Storing.{not_called_at}
 use Rattle.rd_report.specs.Lines.{event_text}
 use Rattle.rd_report.specs.Run.{is_restart, until_restart}
 use Rattle.rd_report.specs.Finals.{IsBlockOf}

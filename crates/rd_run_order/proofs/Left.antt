@@ -24,7 +24,7 @@ use Rattle.rd_world.specs.declared.world.World.{World}
 use Rattle.rd_world.specs.Channels.{Channel, Channels, channel_at, extended}
 use Rattle.rd_world.specs.Parts.{ArePlaced}
 use Rattle.rd_world.specs.Places.{item_at, identity_at, seat_of, keepers_of}
-use Rattle.rd_world.proofs.ByPlace.{no_seat, identity_seated, few_places}
+use Rattle.rd_world.proofs.Seats.{no_seat, identity_seated, few_places}
 use Rattle.rd_run_order.specs.Images.{EntryOf}
 use Rattle.rd_run_order.specs.Section.{takes_of, IsGiven, sent_to, taken_from, history_of, after_section}
 use Rattle.rd_run_order.specs.Finishing.{after_taken, AreSentByAll, ArePassed, IsLeftOf, members_in}

@@ -10,7 +10,7 @@ use Rattle.rd_views.specs.Sound.{IsView}
 use Rattle.rd_views.proofs.Others.{All-find, pairs_head, pairs_tail}
 use Rattle.rd_history.specs.Table.{identity_limit}
 use Rattle.rd_world.specs.Places.{identity_at, seat_of}
-use Rattle.rd_world.proofs.ByPlace.{with_identity, with_place, few_places, place_seated}
+use Rattle.rd_world.proofs.Seats.{with_identity, with_place, few_places, place_seated}
 
 -- the member found by its place is found by its identity
 found_by_place : (k : ℕ) (ms : List Member) (m : Member) → AllPairs (λ (a b : Member). a.identity < b.identity) ms → with_place k ms ≡ Some m → with_identity m.identity ms ≡ Some m

@@ -22,7 +22,7 @@ use Rattle.rd_node.specs.Steps.{IsUnchanged}
 use Rattle.rd_world.specs.declared.world.World.{World}
 use Rattle.rd_world.specs.Places.{item_at, identity_at, seat_of}
 use Rattle.rd_world.specs.Ways.{Means}
-use Rattle.rd_world.proofs.ByPlace.{item-set_same, item-set_other}
+use Rattle.rd_world.proofs.Seats.{item-set_same, item-set_other}
 use Rattle.rd_world.proofs.Entering.{refused_world, refused_means, same_id, changes_with, links_with}
 use Rattle.rd_run_order.specs.Images.{EntryOf}
 use Rattle.rd_run_order.proofs.Forward.{Goes}

@@ -50,12 +50,11 @@ use Rattle.rd_world.specs.Places.{item_at, identity_at, seat_of, member_of, keep
 use Rattle.rd_world.specs.Sending.{messages_to}
 use Rattle.rd_world.specs.Standing.{StandsForLink, StandsForRunning, StandsForWorld, TellsStore}
 use Rattle.rd_world.specs.Ways.{Throughout, Means}
-use Rattle.rd_world.proofs.ByPlace.{some_seat, identity_seated}
+use Rattle.rd_world.proofs.Seats.{some_seat, identity_seated}
 use Rattle.rd_world.proofs.Entering.{item_within}
 use Rattle.rd_world.proofs.Linking.{link_next, link_count}
 use Rattle.rd_world.proofs.Onward.{way_logs, throughout_same, stands_before}
-use Rattle.rd_world.proofs.Present.{present_runs}
-use Rattle.rd_world.proofs.Standings.{last_is}
+use Rattle.rd_world.proofs.Standings.{present_runs, last_is}
 use Rattle.rd_run_order.specs.Orders.{AtPlace, entries_of, ComesBefore, AreSorted, IsRunOrder}
 use Rattle.rd_run_order.specs.Images.{EntryOf, AreImages}
 use Rattle.rd_run_order.specs.Section.{takes_of, IsGiven, IsSection, AreHeard, posts_to, takes_from, sent_to, taken_from, history_of, after_section, IsLeft}

@@ -45,7 +45,7 @@ use Rattle.rd_node.specs.declared.node.Node.{Node}
 use Rattle.rd_node.specs.declared.reply.Fate.{Fate}
 use Rattle.rd_node.specs.declared.reply.Output.{Output}
 use Rattle.rd_node.specs.declared.reply.StepError.{StepError}
-use Rattle.rd_node.proofs.Messages.{told_whole}
+use Rattle.rd_node.proofs.Takings.{told_whole}
 use Rattle.rd_node.specs.Inputs.{StandsForInput}
 use Rattle.rd_node.specs.Members.{StandsForMessage, IsSafe}
 use Rattle.rd_node.specs.Replies.{meant_fate}
@@ -59,10 +59,10 @@ use Rattle.rd_world.specs.Places.{item_at, identity_at, seat_of}
 use Rattle.rd_world.specs.Sending.{messages_to, told_of}
 use Rattle.rd_world.specs.Ways.{Throughout, Means}
 use Rattle.rd_world.proofs.Entering.{with_member, changes_with, links_with, IsEntered, meant_input, input_means, input_enters, meant_message, message_there, message_sketch, take_enters}
-use Rattle.rd_world.proofs.ByPlace.{item-set_same, item-set_other}
+use Rattle.rd_world.proofs.Seats.{item-set_same, item-set_other}
 use Rattle.rd_world.proofs.Linking.{link_message}
 use Rattle.rd_world.proofs.Onward.{means_same, way_logs, throughout_earlier, throughout_same, safe_now}
-use Rattle.rd_world.proofs.Pairs.{IsPair, both, neither}
+use Rattle.rd_world.proofs.Lists.{IsPair, both, neither}
 use Rattle.rd_run_order.specs.Orders.{AtPlace, entries_of, AreSorted}
 use Rattle.rd_run_order.specs.Images.{EntryOf, IsMeantBy, IsImage, AreImages}
 use Rattle.rd_run_order.specs.Section.{takes_of, IsGiven}

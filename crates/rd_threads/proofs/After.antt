@@ -36,7 +36,7 @@ use Rattle.rd_world.specs.declared.client_line.ClientLine.{ClientLine}
 use Rattle.rd_world.specs.declared.world.World.{World}
 use Rattle.rd_world.specs.Places.{item_at, identity_at}
 use Rattle.rd_world.specs.Threads.{PlaysSection}
-use Rattle.rd_world.proofs.Changing.{last_sound}
+use Rattle.rd_world.proofs.Seats.{last_sound}
 use Rattle.rd_run_order.specs.Images.{EntryOf}
 use Rattle.rd_run_order.specs.Runs.{answers_in}
 use Rattle.rd_run_order.specs.Section.{IsGiven, IsSection, IsLeft}

@@ -42,9 +42,9 @@ use Rattle.rd_world.specs.Keeping.{IsKept}
 use Rattle.rd_world.specs.Parts.{ArePlaced}
 use Rattle.rd_world.specs.Places.{item_at, identity_at, keeper_of, first_keeper}
 use Rattle.rd_world.specs.Threads.{GivesBack}
-use Rattle.rd_world.proofs.Changing.{last_sound}
-use Rattle.rd_world.proofs.Placing.{slice_get-last, slice_get-first}
-use Rattle.rd_world.proofs.Unkept.{kept_same}
+use Rattle.rd_world.proofs.Seats.{last_sound}
+use Rattle.rd_world.proofs.Lists.{slice_get-last, slice_get-first}
+use Rattle.rd_world.proofs.Storing.{kept_same}
 use Rattle.rd_run_order.proofs.Places.{ids_apart, none_past}
 use Rattle.rd_clients.specs.declared.clients.Played.{Played}
 use Rattle.rd_clients.specs.Playing.{IsBack, AreBack, AreAllPlayed}

@@ -23,10 +23,9 @@ use Rattle.rd_node.specs.Steps.{IsStepOf, IsUnchanged}
 use Rattle.rd_world.specs.declared.world.World.{World}
 use Rattle.rd_world.specs.Keeping.{Keeps, KeepsAt}
 use Rattle.rd_world.specs.Places.{item_at, keeper_of, first_keeper}
-use Rattle.rd_world.proofs.Answering.{tells_keeps, called_keeps}
+use Rattle.rd_world.proofs.Answering.{tells_keeps, called_keeps, answers_of}
 use Rattle.rd_world.proofs.Sequences.{kept_then}
-use Rattle.rd_world.proofs.Turns.{answers_of}
-use Rattle.rd_world.proofs.Unkept.{not_called}
+use Rattle.rd_world.proofs.Storing.{not_called}
 use Rattle.rd_world.proofs.Entering.{item_within}
 use Rattle.rd_run_order.specs.Images.{EntryOf}
 use Rattle.rd_run_order.specs.Section.{IsSection, IsLeft}

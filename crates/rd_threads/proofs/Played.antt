@@ -42,9 +42,9 @@ use Rattle.rd_world.specs.Steps.{Foretells}
 use Rattle.rd_world.specs.Threads as given
 use Rattle.rd_world.specs.Threads.{EndsSection}
 use Rattle.rd_world.specs.Ways.{Means}
-use Rattle.rd_world.proofs.Doing.{view_of}
+use Rattle.rd_world.proofs.Telling.{view_of}
 use Rattle.rd_world.proofs.Onward.{way_logs}
-use Rattle.rd_world.proofs.Present.{absent_gone, present_runs}
+use Rattle.rd_world.proofs.Standings.{absent_gone, present_runs}
 use Rattle.rd_run_order.specs.Orders.{AtPlace, IsRunOrder}
 use Rattle.rd_run_order.specs.Images.{EntryOf}
 use Rattle.rd_run_order.specs.Section.{IsSection, IsLeft}

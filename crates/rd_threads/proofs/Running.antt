@@ -30,7 +30,7 @@ use Rattle.rd_world.specs.Keeping.{IsKept}
 use Rattle.rd_world.specs.Parts.{ArePlaced}
 use Rattle.rd_world.specs.Places.{item_at, keeper_of, keepers_of, first_keeper}
 use Rattle.rd_world.specs.Threads.{GivesBack}
-use Rattle.rd_world.proofs.Unkept.{not_called_at}
+use Rattle.rd_world.proofs.Storing.{not_called_at}
 use Rattle.rd_run_order.specs.Images.{EntryOf}
 use Rattle.rd_run_order.specs.Runs.{answers_in}
 use Rattle.rd_threads.specs.declared.giving.Rest.{Rest}

@@ -37,8 +37,8 @@ use Rattle.rd_node.specs.Steps.{replication, IsStepOf, IsUnchanged}
 use Rattle.rd_world.specs.declared.world.World.{World}
 use Rattle.rd_world.specs.Places.{item_at, identity_at}
 use Rattle.rd_world.specs.Ways.{Means}
-use Rattle.rd_world.proofs.ByPlace.{some_seat, identity_seated}
-use Rattle.rd_world.proofs.Doing.{view_of}
+use Rattle.rd_world.proofs.Seats.{some_seat, identity_seated}
+use Rattle.rd_world.proofs.Telling.{view_of}
 use Rattle.rd_world.proofs.Entering.{item_within}
 use Rattle.rd_run_order.specs.Orders.{AtPlace, IsRunOrder}
 use Rattle.rd_run_order.specs.Images.{EntryOf}

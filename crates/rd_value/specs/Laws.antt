@@ -266,6 +266,82 @@ data_once (Flag state) (Flag other) log held gone k p q = ap Flag (flag.data_onc
 data_once (LwwRegister state) (LwwRegister other) log held gone k p q = ap LwwRegister (register.data_once-law state other log held gone refl p q)
 data_once state other log held gone k p q = absurd (cc k)
 
+-- WHAT ANY VALUE MENTIONS
+
+-- nothing is mentioned where there was no record
+pub empty_mentions : (kind : Kind) (id : ℕ) → mentioned (empty_of kind) id ≡ false
+empty_mentions kinds.GCounter id = gcounter.empty_mentions-law tt id
+empty_mentions kinds.PnCounter id = pncounter.empty_mentions-law tt id
+empty_mentions kinds.GSet id = gset.empty_mentions-law tt id
+empty_mentions kinds.OrSet id = orset.empty_mentions-law tt id
+empty_mentions kinds.Flag id = flag.empty_mentions-law tt id
+empty_mentions kinds.LwwRegister id = register.empty_mentions-law tt id
+
+-- an operation adds no mention but of its origin
+pub applied_mentions : (state : Data) (op : Op) (dot : Dot) (id : ℕ) → (id ≡ dot.origin → ⊥) → mentioned state id ≡ false → mentioned (applied state op dot) id ≡ false
+applied_mentions (GCounter state) op dot id other none = gcounter.applied_mentions-law state op dot id other none
+applied_mentions (PnCounter state) op dot id other none = pncounter.applied_mentions-law state op dot id other none
+applied_mentions (GSet state) op dot id other none = gset.applied_mentions-law state op dot id other none
+applied_mentions (OrSet state) op dot id other none = orset.applied_mentions-law state op dot id other none
+applied_mentions (Flag state) op dot id other none = flag.applied_mentions-law state op dot id other none
+applied_mentions (LwwRegister state) op dot id other none = register.applied_mentions-law state op dot id other none
+
+-- what a join mentions, either side does
+pub joined_mentions : (state : Data) (mine : VersionVector) (other : Data) (theirs : VersionVector) (id : ℕ) → mentioned state id ≡ false → mentioned other id ≡ false → mentioned (joined state mine other theirs) id ≡ false
+joined_mentions (GCounter state) mine (GCounter other) theirs id none none_too = gcounter.joined_mentions-law state mine other theirs id none none_too
+joined_mentions (PnCounter state) mine (PnCounter other) theirs id none none_too = pncounter.joined_mentions-law state mine other theirs id none none_too
+joined_mentions (GSet state) mine (GSet other) theirs id none none_too = gset.joined_mentions-law state mine other theirs id none none_too
+joined_mentions (OrSet state) mine (OrSet other) theirs id none none_too = orset.joined_mentions-law state mine other theirs id none none_too
+joined_mentions (Flag state) mine (Flag other) theirs id none none_too = flag.joined_mentions-law state mine other theirs id none none_too
+joined_mentions (LwwRegister state) mine (LwwRegister other) theirs id none none_too = register.joined_mentions-law state mine other theirs id none none_too
+joined_mentions state mine other theirs id none none_too = none
+
+-- a delta adds no mention but of its origin
+pub absorbed_mentions : (state : Data) (mine : VersionVector) (change : Delta) (origin id : ℕ) → IsOfOrigin change origin → (id ≡ origin → ⊥) → mentioned state id ≡ false → mentioned (absorbed state mine change) id ≡ false
+absorbed_mentions (GCounter state) mine (changes.GCounter change) origin id made_by other none = gcounter.absorbed_mentions-law state mine change origin id made_by other none
+absorbed_mentions (PnCounter state) mine (changes.PnCounter change) origin id made_by other none = pncounter.absorbed_mentions-law state mine change origin id made_by other none
+absorbed_mentions (GSet state) mine (changes.GSet change) origin id made_by other none = gset.absorbed_mentions-law state mine change origin id made_by other none
+absorbed_mentions (OrSet state) mine (changes.OrSet change) origin id made_by other none = orset.absorbed_mentions-law state mine change origin id made_by other none
+absorbed_mentions (Flag state) mine (changes.Flag change) origin id made_by other none = flag.absorbed_mentions-law state mine change origin id made_by other none
+absorbed_mentions (LwwRegister state) mine (changes.LwwRegister change) origin id made_by other none = register.absorbed_mentions-law state mine change origin id made_by other none
+absorbed_mentions state mine change origin id made_by other none = none
+
+-- cleaning adds no mention
+pub cleaned_mentions : (state : Data) (removed id : ℕ) → mentioned state id ≡ false → mentioned (cleaned state removed) id ≡ false
+cleaned_mentions (GCounter state) removed id none = gcounter.cleaned_mentions-law state removed id none
+cleaned_mentions (PnCounter state) removed id none = pncounter.cleaned_mentions-law state removed id none
+cleaned_mentions (GSet state) removed id none = gset.cleaned_mentions-law state removed id none
+cleaned_mentions (OrSet state) removed id none = orset.cleaned_mentions-law state removed id none
+cleaned_mentions (Flag state) removed id none = flag.cleaned_mentions-law state removed id none
+cleaned_mentions (LwwRegister state) removed id none = register.cleaned_mentions-law state removed id none
+
+-- what was cleaned away is mentioned no more
+pub cleaned_unmentioned : (state : Data) (removed : ℕ) → mentioned (cleaned state removed) removed ≡ false
+cleaned_unmentioned (GCounter state) removed = gcounter.cleaned_unmentioned-law state removed
+cleaned_unmentioned (PnCounter state) removed = pncounter.cleaned_unmentioned-law state removed
+cleaned_unmentioned (GSet state) removed = gset.cleaned_unmentioned-law state removed
+cleaned_unmentioned (OrSet state) removed = orset.cleaned_unmentioned-law state removed
+cleaned_unmentioned (Flag state) removed = flag.cleaned_unmentioned-law state removed
+cleaned_unmentioned (LwwRegister state) removed = register.cleaned_unmentioned-law state removed
+
+-- a prune adds no mention but of its origin
+pub pruned_mentions : (state : Data) (removed : ℕ) (dot : Dot) (id : ℕ) → (id ≡ dot.origin → ⊥) → mentioned state id ≡ false → mentioned (pruned state removed dot) id ≡ false
+pruned_mentions (GCounter state) removed dot id other none = gcounter.pruned_mentions-law state removed dot id other none
+pruned_mentions (PnCounter state) removed dot id other none = pncounter.pruned_mentions-law state removed dot id other none
+pruned_mentions (GSet state) removed dot id other none = gset.pruned_mentions-law state removed dot id other none
+pruned_mentions (OrSet state) removed dot id other none = orset.pruned_mentions-law state removed dot id other none
+pruned_mentions (Flag state) removed dot id other none = flag.pruned_mentions-law state removed dot id other none
+pruned_mentions (LwwRegister state) removed dot id other none = register.pruned_mentions-law state removed dot id other none
+
+-- what was pruned is mentioned no more
+pub pruned_unmentioned : (state : Data) (removed : ℕ) (dot : Dot) → (removed ≡ dot.origin → ⊥) → mentioned (pruned state removed dot) removed ≡ false
+pruned_unmentioned (GCounter state) removed dot other = gcounter.pruned_unmentioned-law state removed dot other
+pruned_unmentioned (PnCounter state) removed dot other = pncounter.pruned_unmentioned-law state removed dot other
+pruned_unmentioned (GSet state) removed dot other = gset.pruned_unmentioned-law state removed dot other
+pruned_unmentioned (OrSet state) removed dot other = orset.pruned_unmentioned-law state removed dot other
+pruned_unmentioned (Flag state) removed dot other = flag.pruned_unmentioned-law state removed dot other
+pruned_unmentioned (LwwRegister state) removed dot other = register.pruned_unmentioned-law state removed dot other
+
 pub refusal_means : (state : Data) (log : History Op) (held : VersionVector) (gone : IdentitySet) (op : Op) (origin : ℕ) → IsPrunedCut log held gone → IsDataOf state log held gone → gone origin ≡ false → six_kinds.fits (kind_of state) op ≡ true
     → apply_refusal state op origin ≡ six_kinds.refusal (kind_of state) origin op (cut log held)
 refusal_means (GCounter state) log held gone op origin p is stays fits = gcounter.refusal_means-law state log held gone op origin p is stays fits

@@ -318,6 +318,22 @@ impl Replica for Data {
 
     ghost data_once = { laws.data_once };
 
+    ghost empty_mentions = { laws.empty_mentions };
+
+    ghost applied_mentions = { laws.applied_mentions };
+
+    ghost joined_mentions = { laws.joined_mentions };
+
+    ghost absorbed_mentions = { laws.absorbed_mentions };
+
+    ghost cleaned_mentions = { laws.cleaned_mentions };
+
+    ghost cleaned_unmentioned = { laws.cleaned_unmentioned };
+
+    ghost pruned_mentions = { laws.pruned_mentions };
+
+    ghost pruned_unmentioned = { laws.pruned_unmentioned };
+
     ghost refusal_means = { laws.refusal_means };
 
     ghost blocked_means = { laws.blocked_means };

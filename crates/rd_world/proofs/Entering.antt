@@ -2,11 +2,10 @@
 --     with_member        a world with another member at a place, and other links
 --     IsEntered        what comes of a step
 --     input_enters, take_enters        for an input of a client, and for a message by its number
-use Rattle.std.proofs.Common.{◌≡◌, ◌≢◌, ℕ, ◌+◌, ◌-◌, ◌<◌, List, [], ◌∷◌, ◌++◌, length, map, refl, sym, ap, subst, ◌∙◌, arith, Bool, true, false, Option, Some, None, inl, inr, set}
-use Rattle.std.specs.Prelude.{is_some, not, if◌then◌else◌, ◌==◌, ◌&&◌, option_map, option_and_then, slice_get}
+use Rattle.std.proofs.Common.{◌≡◌, ℕ, ◌+◌, ◌-◌, ◌<◌, List, [], ◌∷◌, ◌++◌, length, map, refl, sym, ap, subst, ◌∙◌, arith, Bool, true, false, Option, Some, None, set}
+use Rattle.std.specs.Prelude.{is_some, if◌then◌else◌, ◌==◌, ◌&&◌, option_map, option_and_then, slice_get}
 use Rattle.std.specs.List.{range_with_len}
 use Rattle.std.specs.Vec.{with_item}
-use Rattle.std.proofs.lemmas.Bool.Decides.{eqb_tells}
 use Rattle.std.proofs.lemmas.Option.{slice_get_within}
 use Rattle.rd_history.specs.Table.{identity_limit}
 use Rattle.rd_history.specs.Texts.{Text}
@@ -23,7 +22,7 @@ use Rattle.rd_model.specs.World as worlds
 use Rattle.rd_model.specs.World.{Links, Event, views_of, message_at, moved_on, with_posts, after_step, happens, FitsFate, IsRun}
 use Rattle.rd_model.specs.World.Event.{InputAt, Delivery}
 use Rattle.rd_model.specs.Script as script
-use Rattle.rd_model.specs.Script.{Playing, ScriptStep, IsStep, told, given, deliver, install, played, answers_between}
+use Rattle.rd_model.specs.Script.{Playing, ScriptStep, IsStep, told, given, install, played}
 use Rattle.rd_runs.proofs.Playing.{step_is_run, played_appends}
 use Rattle.rd_kinds.specs.declared.operation.Op.{Op}
 use Rattle.rd_kinds.specs.declared.shown.Shown.{Shown}
@@ -34,7 +33,6 @@ use Rattle.rd_quorum.specs.Levels.{level_meant}
 use Rattle.rd_messages.specs.declared.message.Message.{Message}
 use Rattle.rd_messages.specs.Sketches.{sketch_of}
 use Rattle.rd_views.specs.Sound.{IsView, last_view}
-use Rattle.rd_node.specs.declared.key.KeyState.{KeyState}
 use Rattle.rd_node.specs.declared.node.Node.{Node}
 use Rattle.rd_node.specs.declared.input.Input as given_input
 use Rattle.rd_node.specs.declared.input.Input.TheVariants as form
@@ -45,29 +43,27 @@ use Rattle.rd_node.specs.Members.{StandsForPosts, StandsForMessage}
 use Rattle.rd_node.specs.Operations.{finished_meant}
 use Rattle.rd_node.specs.Replies.{meant, meant_fate}
 use Rattle.rd_node.specs.Steps.{replication, IsStepOf, IsImage, IsUnchanged}
-use Rattle.rd_node.proofs.Messages.{told_whole}
+use Rattle.rd_node.proofs.Takings.{told_whole}
 use Rattle.rd_world.specs.declared.world.World.{World}
 use Rattle.rd_world.specs.declared.event.Head.{Head}
 use Rattle.rd_world.specs.declared.event.Head.TheVariants as head
 use Rattle.rd_world.specs.Channels.{Channel, Channels, channel_at, message_on, passed, extended}
 use Rattle.rd_world.specs.Entering.{IsGivenFrom}
-use Rattle.rd_world.specs.Giving.{ChangesAt, Refuses}
+use Rattle.rd_world.specs.Giving.{ChangesAt}
 use Rattle.rd_world.specs.Keeping.{AreSeated}
 use Rattle.rd_world.specs.Lines.{IsHead, sketched, sketched_post}
-use Rattle.rd_world.specs.Places.{item_at, identity_at, seat_of}
+use Rattle.rd_world.specs.Places.{item_at, seat_of}
 use Rattle.rd_world.specs.Sending.{messages_to, told_of, AreFew}
 use Rattle.rd_world.specs.Standing.{StandsForLink, StandsForWorld}
 use Rattle.rd_world.specs.Steps.{Foretells, Reaches}
 use Rattle.rd_world.specs.Ways.{IsPrefix, Throughout, Means}
-use Rattle.rd_world.proofs.Answering.{means_refused}
-use Rattle.rd_world.proofs.ByPlace.{item-set_same, item-set_other}
-use Rattle.rd_world.proofs.Delivering.{sent, stands_in, is_given, is_head, at_delivery, run_handing, more_handing}
-use Rattle.rd_world.proofs.Going.{given_at, image, next_is, reaches_made}
+use Rattle.rd_world.proofs.Answering.{means_refused, given_at, image, next_is, reaches_made, answers_of, taken_with, world_taken}
+use Rattle.rd_world.proofs.Seats.{seated_set}
+use Rattle.rd_world.proofs.Steps.{sent, stands_in, is_given, is_head, at_delivery, run_handing, more_handing}
 use Rattle.rd_world.proofs.Linking.{links_sent, links_moved, same_told, same_sketch}
 use Rattle.rd_world.proofs.Onward.{means_same, stands_before, way_logs}
 use Rattle.rd_world.proofs.Standings.{IsAtWork, at_work_there}
 use Rattle.rd_world.proofs.Telling.{IsEventAt, input_at}
-use Rattle.rd_world.proofs.Turns.{answers_of, taken_with, called_for, world_taken}
 
 -- WORLDS WITH ANOTHER MEMBER
 
@@ -83,23 +79,7 @@ module _ {T K Kind Op Delta : Type 0} {ghosts : Ghosts T Kind Op Delta} {keeping
   within = item_within old.nodes.items place before was
 
   seated_with : AreSeated old.views (set old.nodes.items place (Some after)) old.spare.items
-  seated_with =
-      record {
-        members = λ k small. elim (eqb_tells k place) [
-          | inl here ↦
-              ap (λ j. option_map (λ (node : Node T K Kind Op Delta ghosts keeping). node.id) (item_at (set old.nodes.items place (Some after)) j)) here.1
-              ∙ ap (option_map (λ (node : Node T K Kind Op Delta ghosts keeping). node.id)) (item-set_same old.nodes.items place (Some after) within) ∙ ap Some same
-              ∙ sym (ap (option_map (λ (node : Node T K Kind Op Delta ghosts keeping). node.id)) was)
-              ∙ sym (ap (λ j. option_map (λ (node : Node T K Kind Op Delta ghosts keeping). node.id) (item_at old.nodes.items j)) here.1) ∙ old.seated.members k small
-          | inr other ↦ ap (option_map (λ (node : Node T K Kind Op Delta ghosts keeping). node.id)) (item-set_other old.nodes.items place k (Some after) other.1) ∙ old.seated.members k small
-        ];
-        spares = λ k small. old.seated.spares k small ∙ elim (eqb_tells k place) [
-          | inl here ↦
-              ap (λ j. not (is_some (item_at old.nodes.items j))) here.1 ∙ ap (λ (o : Option (Node T K Kind Op Delta ghosts keeping)). not (is_some o)) was
-              ∙ sym (ap (λ j. not (is_some (item_at (set old.nodes.items place (Some after)) j))) here.1 ∙ ap (λ (o : Option (Node T K Kind Op Delta ghosts keeping)). not (is_some o)) (item-set_same old.nodes.items place (Some after) within))
-          | inr other ↦ sym (ap (λ (o : Option (Node T K Kind Op Delta ghosts keeping)). not (is_some o)) (item-set_other old.nodes.items place k (Some after) other.1))
-        ];
-      }
+  seated_with = seated_set old.views old.nodes.items old.spare.items old.seated place before after within was same
 
   pub with_member : Channels (Message T Kind Op Delta ghosts) → World T K Kind Op Delta ghosts keeping
   with_member links =

@@ -1,96 +1,51 @@
 -- A new member starts at a free place.
-use Rattle.std.proofs.Common.{◌≡◌, ◌≢◌, ℕ, suc, ◌+◌, ◌-◌, ◌<◌, List, [], ◌∷◌, ◌++◌, length, map, refl, sym, ap, subst, ◌∙◌, arith, Bool, true, false, not, Option, None, Some, inl, inr}
-use Rattle.std.specs.Prelude.{option_map, is_some, if◌then◌else◌, ◌==◌, ◌||◌, nat_lt, find}
-use Rattle.std.specs.List.{list_any, range_with_len}
+--     plays_anew        it starts
+--     plays_failed, remains_join        no new member starts
+use Rattle.std.proofs.Common.{◌≡◌, ◌≢◌, ℕ, ◌+◌, ◌-◌, ◌<◌, List, [], ◌∷◌, ◌++◌, map, refl, sym, ap, subst, ◌∙◌, arith, Bool, true, false, not, Option, None, Some, inl, inr, Vec, Global}
+use Rattle.std.specs.Prelude.{option_map, is_some, if◌then◌else◌, ◌==◌, ◌||◌, nat_lt, find, option_and_then}
+use Rattle.std.specs.List.{list_any}
 use Rattle.std.proofs.lemmas.Bool.Decides.{eqb_tells, nat_tests}
 use Rattle.rd_history.specs.Texts.{Text}
 use Rattle.rd_history.specs.Table.{with_at, identity_limit}
 use Rattle.rd_history.specs.History.{History, IsHistory}
-use Rattle.rd_history.proofs.HistoryLaws.{with_at_same, with_at_other}
-use Rattle.rd_model.specs.View.{View, Member, is_taken, with_joined}
-use Rattle.rd_model.specs.DataType.{Replication}
-use Rattle.rd_model.specs.Node as nodes
-use Rattle.rd_model.specs.Node.{KeyDecl}
-use Rattle.rd_model.specs.World as worlds
-use Rattle.rd_model.specs.World.{Store, happens, no_entries, loaded_node}
-use Rattle.rd_model.specs.World.Event.{Joining}
-use Rattle.rd_model.specs.Script as script
-use Rattle.rd_model.specs.Script.{Playing, ScriptStep, played, told, did_plainly, called, with_call, next_answer, answers_between}
+use Rattle.rd_history.proofs.HistoryLaws.{with_at_same}
 use Rattle.rd_kinds.specs.declared.operation.Op.{Op}
 use Rattle.rd_kinds.specs.declared.shown.Shown.{Shown}
-use Rattle.rd_lattice.specs.declared.replica.Replica.{Ghosts}
-use Rattle.rd_lattice.specs.declared.spelled.SpelledData.{Ghosts as Spelling}
-use Rattle.rd_keeper.specs.declared.keeper.Keeper.{Ghosts as Keeping}
+use Rattle.rd_model.specs.Node as nodes
+use Rattle.rd_model.specs.World as worlds
+use Rattle.rd_model.specs.Script as script
+use Rattle.rd_model.specs.View.{View, Member, is_taken, with_joined}
+use Rattle.rd_model.specs.DataType.{Replication}
+use Rattle.rd_model.specs.World.{Store, happens, no_entries, loaded_node}
+use Rattle.rd_model.specs.World.Event.{Joining}
+use Rattle.rd_model.specs.Script.{Playing, ScriptStep, played, told, did_plainly, called, with_call, next_answer}
 use Rattle.rd_views.specs.Sound.{IsView, AreViews, last_view}
 use Rattle.rd_views.specs.Changes.{CanJoin}
 use Rattle.rd_views.proofs.Others.{All-find}
+use Rattle.rd_keeper.specs.declared.keeper.Keeper.{Ghosts as Keeping}
+use Rattle.rd_lattice.specs.declared.replica.Replica.{Ghosts}
+use Rattle.rd_lattice.specs.declared.spelled.SpelledData.{Ghosts as Spelling}
 use Rattle.rd_node.specs.declared.key.KeyDecl.{KeyDecl as Declared}
 use Rattle.rd_node.specs.declared.node.Node.{Node}
-use Rattle.rd_node.specs.Members.{AreOfKinds, declared}
+use Rattle.rd_node.specs.Members.{declared}
 use Rattle.rd_node.specs.Steps.{replication}
 use Rattle.rd_script.specs.declared.script.Step.TheVariants as form
-use Rattle.rd_world.specs.declared.world.World.{World}
 use Rattle.rd_world.specs.declared.event.Head.TheVariants as head
 use Rattle.rd_world.specs.declared.event.Answer.TheVariants as answer
+use Rattle.rd_world.specs.declared.world.World.{World}
 use Rattle.rd_world.specs.declared.event.Event.{Event}
-use Rattle.rd_world.specs.Channels.{channel_at}
-use Rattle.rd_world.specs.Keeping.{AreSeated, Keeps, KeepsAt, IsCleared}
+use Rattle.rd_world.specs.Keeping.{AreSeated, IsCleared, Keeps, KeepsAt, FailsToClear}
 use Rattle.rd_world.specs.Places.{item_at, identity_at, seat_of, member_of, keeper_of, first_keeper}
-use Rattle.rd_world.specs.Seating.{IsNewMember, SeatsAnew}
-use Rattle.rd_world.specs.Standing.{StandsForLink, StandsForRunning, StandsForWorld, TellsStore}
-use Rattle.rd_world.specs.Steps.{Plays, LeadsTo, Foretells, HaveAnswered}
-use Rattle.rd_world.proofs.ByPlace.{identity_seated, seated}
-use Rattle.rd_world.proofs.Emptied.{tells_nothing}
-use Rattle.rd_world.proofs.Going.{given_at}
-use Rattle.rd_world.proofs.SeatChanges.{seat_joined, new_seat, last_sound}
-use Rattle.rd_world.proofs.Reseating.{IsReseated, member_elsewhere, member_here, keeper_elsewhere, still_seated}
-use Rattle.rd_world.proofs.Doing.{view_of, reaches_did}
-use Rattle.rd_world.proofs.Standings.{last_pushed}
-use Rattle.rd_world.proofs.Unkept.{not_called_at}
-
--- ONE CALL OF A KEEPER
-
-pub given_here : (place k : ℕ) (answers : List Bool) → k ≡ place → given_at place answers k ≡ answers
-given_here place k answers e = elim (eqb_tells k place) [
-  | inl same ↦ ap (λ b. if b then answers else []) same.0
-  | inr other ↦ absurd (other.1 e)
-]
-
-pub given_elsewhere : (place k : ℕ) (answers : List Bool) → k ≢ place → given_at place answers k ≡ []
-given_elsewhere place k answers apart = elim (eqb_tells k place) [
-  | inl same ↦ absurd (apart same.1)
-  | inr other ↦ ap (λ b. if b then answers else []) other.0
-]
-
-module _ {Kind Op Shown : Type 0} (p : Playing Kind Op Shown) (place : ℕ) (b : Bool) where
-  -- the keeper answers as it was foretold
-  pub next_is : Foretells p (given_at place (b ∷ [])) → next_answer p place ≡ b
-  next_is foretold = go (subst (λ (answers : List Bool). answers_between p.answers place (p.calls place) (p.calls place + length answers) ≡ answers) (given_here place place (b ∷ []) refl) (foretold place))
-    where
-      go : answers_between p.answers place (p.calls place) (p.calls place + 1) ≡ b ∷ [] → next_answer p place ≡ b
-      go e =
-          let one : p.calls place + 1 - p.calls place ≡ 1 = omega arith in
-          let f : next_answer p place ∷ [] ≡ b ∷ [] = sym (ap (λ n. map (p.answers place) (range_with_len (p.calls place) n)) one) ∙ e in cc f
-
-  pub one_call : HaveAnswered p (with_call p place) (given_at place (b ∷ []))
-  one_call k = elim (eqb_tells k place) [
-    | inl same ↦
-        ap (with_at p.calls place (suc (p.calls place))) same.1 ∙ with_at_same p.calls place (suc (p.calls place)) ∙ (let more : suc (p.calls place) ≡ p.calls place + 1 = omega arith in more)
-        ∙ sym (ap (λ answers. p.calls k + length answers) (given_here place k (b ∷ []) same.1) ∙ ap (λ i. p.calls i + 1) same.1)
-    | inr other ↦
-        with_at_other p.calls place (suc (p.calls place)) k other.1 ∙ (let none : p.calls k ≡ p.calls k + 0 = omega arith in none) ∙ sym (ap (λ answers. p.calls k + length answers) (given_elsewhere place k (b ∷ []) other.1))
-  ]
-
--- the keeper of one place gave an answer, and the others none
-pub kept_one : {K : Type 0} (keeping : Keeping K) (place : ℕ) (answers : List Bool) (old new : ℕ → Option K) (before after : K) → old place ≡ Some before → new place ≡ Some after → Keeps keeping answers before after → ((k : ℕ) → k ≢ place → new k ≡ old k)
-    → (k : ℕ) → KeepsAt keeping (given_at place answers k) (old k) (new k)
-kept_one keeping place answers old new before after was is keeps others k = elim (eqb_tells k place) [
-  | inl same ↦
-      subst (λ given. KeepsAt keeping given (old k) (new k)) (sym (given_here place k answers same.1))
-      (subst (λ i. KeepsAt keeping answers (old i) (new i)) (sym same.1) (subst (λ o. KeepsAt keeping answers o (new place)) (sym was) (subst (λ o. KeepsAt keeping answers (Some before) o) (sym is) keeps)))
-  | inr other ↦
-      subst (λ given. KeepsAt keeping given (old k) (new k)) (sym (given_elsewhere place k answers other.1)) (subst (λ o. KeepsAt keeping [] (old k) o) (sym (others k other.1)) (not_called_at keeping (old k)))
-]
+use Rattle.rd_world.specs.Seating.{IsNewMember, SeatsAnew, ActsAt}
+use Rattle.rd_world.specs.Standing.{StandsForRunning, StandsForWorld, TellsStore}
+use Rattle.rd_world.specs.Steps.{Plays, LeadsTo, Remains}
+use Rattle.rd_world.specs.Giving.{IsSame}
+use Rattle.rd_world.proofs.Seats.{identity_seated, seated, last_sound, seat_joined, new_seat}
+use Rattle.rd_world.proofs.Lists.{at_each, some_there, at_one}
+use Rattle.rd_world.proofs.Storing.{tells_nothing}
+use Rattle.rd_world.proofs.Answering.{given_at, answer_told, one_call, kept_one}
+use Rattle.rd_world.proofs.Standings.{IsReseated, member_elsewhere, member_here, keeper_elsewhere, still_seated, last_pushed, stands_in, stores_still}
+use Rattle.rd_world.proofs.Telling.{view_of, reaches_did, reaches_said, plays_told}
 
 -- THE SCRIPT
 
@@ -149,17 +104,13 @@ no_item : {X Y : Type 0} (f : X → Y) (o : Option X) → option_map f o ≡ Non
 no_item f None e = refl
 no_item f (Some x) e = absurd (cc e)
 
-some_item : {X : Type 0} (o : Option X) → is_some o ≡ true → (x : X) × (o ≡ Some x)
-some_item None e = absurd (cc e)
-some_item (Some x) e = (x, refl)
-
 -- nobody runs at a free place, so there is a spare keeper
 module _ {T K Kind Op Delta : Type 0} {ghosts : Ghosts T Kind Op Delta} {keeping : Keeping K} (views : List View) (place : ℕ) (able : CanJoin (last_view views) place) (nodes : List (Option (Node T K Kind Op Delta ghosts keeping))) (spare : List (Option K)) (seated : AreSeated views nodes spare) (within : place < 8) where
   pub free_there : item_at nodes place ≡ None
   free_there = no_item (λ (node : Node T K Kind Op Delta ghosts keeping). node.id) (item_at nodes place) (seated.members place within ∙ free_identity (last_view views) place able.0)
 
   pub spare_there : (keeper : K) × (item_at spare place ≡ Some keeper)
-  spare_there = some_item (item_at spare place) (seated.spares place within ∙ ap (λ (o : Option (Node T K Kind Op Delta ghosts keeping)). not (is_some o)) free_there)
+  spare_there = some_there (item_at spare place) (seated.spares place within ∙ ap (λ (o : Option (Node T K Kind Op Delta ghosts keeping)). not (is_some o)) free_there)
 
 module _ (views : List View) (place : ℕ) (sound : IsView (last_view views)) (is_next : IsView (with_joined (last_view views) place)) (able : CanJoin (last_view views) place) where
   seated_new : seat_of (with_joined (last_view views) place) (last_view views).given ≡ Some place
@@ -218,50 +169,31 @@ module _ {T K Kind Delta : Type 0} {ghosts : Ghosts T Kind Op Delta} {keeping : 
         ∙ ap (λ v. made (map declared old.keys.items) (last_view old.views).given (with_joined v place) (with_at world.stores place no_entries place)) (sym view_is)
         ∙ ap (made (map declared old.keys.items) (last_view old.views).given (with_joined (last_view old.views) place)) (with_at_same world.stores place no_entries)
 
-    nodes_now : ℕ → Option (nodes.Node Kind Op Shown)
-    nodes_now j = with_at world.nodes (world.view.given + 1 - 1) (Some (made world.keys (world.view.given + 1 - 1) (with_joined world.view place) (with_at world.stores place no_entries place))) j
-
     running_after : (j : ℕ) → Running (member_of (last_view new.views) new.nodes.items j) (with_at world.nodes (world.view.given + 1 - 1) (Some (made world.keys (world.view.given + 1 - 1) (with_joined world.view place) (with_at world.stores place no_entries place))) j)
     running_after j =
         let stored = Some (made world.keys (world.view.given + 1 - 1) (with_joined world.view place) (with_at world.stores place no_entries place)) in
-        elim (eqb_tells j (last_view old.views).given) [
-          | inl here ↦
-              subst (λ o. Running (member_of (last_view new.views) new.nodes.items j) o)
-              (sym (ap (λ i. with_at world.nodes i stored j) index_is ∙ ap (with_at world.nodes (last_view old.views).given stored) here.1 ∙ with_at_same world.nodes (last_view old.views).given stored ∙ ap Some node_is))
-              (subst (λ o. Running o (Some node_now)) (sym (member_here (with_joined (last_view old.views) place) place old new r j (Some place) (ap (seat_of (with_joined (last_view old.views) place)) here.1 ∙ new_seat (last_view old.views) place sound.given) ∙ is))
-              (node_now, refl, member.stands kinds logs histories s.of_kinds))
-          | inr other ↦
-              subst (λ o. Running (member_of (last_view new.views) new.nodes.items j) o) (sym (ap (λ i. with_at world.nodes i stored j) index_is ∙ with_at_other world.nodes (last_view old.views).given stored j other.1))
-              (subst (λ o. Running o (world.nodes j)) (sym (member_elsewhere (with_joined (last_view old.views) place) place old new r j (seat_joined (last_view old.views) place j other.1) (free_seat (last_view old.views) sound place able.0 j))) (s.running j))
-        ]
+        subst (λ i. Running (member_of (last_view new.views) new.nodes.items j) (with_at world.nodes i stored j)) (sym index_is)
+        (at_each (λ k o. Running (member_of (last_view new.views) new.nodes.items k) o) world.nodes (last_view old.views).given stored
+        (subst (λ o. Running o stored) (sym (member_here (with_joined (last_view old.views) place) place old new r (last_view old.views).given (Some place) (new_seat (last_view old.views) place sound.given) ∙ is)) (node_now, ap Some node_is, member.stands kinds logs histories s.of_kinds))
+        (λ k other. subst (λ o. Running o (world.nodes k)) (sym (member_elsewhere (with_joined (last_view old.views) place) place old new r k (seat_joined (last_view old.views) place k other) (free_seat (last_view old.views) sound place able.0 k))) (s.running k)) j)
 
     stores_after : (q : ℕ) → TellsStore ghosts keeping spelling kinds logs (keeper_of new.nodes.items new.spare.items q) (with_at world.stores place no_entries q)
-    stores_after q = elim (eqb_tells q place) [
-      | inl here ↦
-          subst (λ store. TellsStore ghosts keeping spelling kinds logs (keeper_of new.nodes.items new.spare.items q) store) (sym (ap (with_at world.stores place no_entries) here.1 ∙ with_at_same world.stores place no_entries))
-          (subst (λ o. TellsStore ghosts keeping spelling kinds logs o no_entries) (sym (ap (keeper_of new.nodes.items new.spare.items) here.1 ∙ keeper_is)) (tells_nothing ghosts keeping spelling kinds logs alike before after cleared))
-      | inr other ↦
-          subst (λ store. TellsStore ghosts keeping spelling kinds logs (keeper_of new.nodes.items new.spare.items q) store) (sym (with_at_other world.stores place no_entries q other.1))
-          (subst (λ o. TellsStore ghosts keeping spelling kinds logs o (world.stores q)) (sym (keeper_elsewhere (with_joined (last_view old.views) place) place old new r q other.1)) (s.stores q))
-    ]
+    stores_after =
+        at_each (λ q store. TellsStore ghosts keeping spelling kinds logs (keeper_of new.nodes.items new.spare.items q) store) world.stores place no_entries
+        (subst (λ o. TellsStore ghosts keeping spelling kinds logs o no_entries) (sym keeper_is) (tells_nothing ghosts keeping spelling kinds logs alike before after cleared))
+        (λ q other. subst (λ o. TellsStore ghosts keeping spelling kinds logs o (world.stores q)) (sym (keeper_elsewhere (with_joined (last_view old.views) place) place old new r q other)) (s.stores q))
 
     stands_joined : StandsForWorld spelling kinds logs new (happens (replication ghosts spelling) world (Joining place))
     stands_joined =
-        record {
-          views = ap (λ vs. vs ++ with_joined world.view place ∷ []) s.views ∙ ap (λ v. old.views ++ with_joined v place ∷ []) (sym view_is) ∙ sym r.views;
-          keys = s.keys ∙ ap (λ (keys : _). map declared keys.items) (sym r.keys);
-          of_kinds = subst (λ (keys : _). AreOfKinds kinds keys.items) (sym r.keys) s.of_kinds;
-          running = running_after;
-          links = λ a b small few. subst (λ (links : _). StandsForLink {ghosts = ghosts} kinds logs (channel_at links a b) (world.links a b)) (sym r.links) (s.links a b small few);
-          stores = stores_after;
-        }
+        stands_in spelling kinds logs old new world s (happens (replication ghosts spelling) world (Joining place))
+        (ap (λ vs. vs ++ with_joined world.view place ∷ []) s.views ∙ ap (λ v. old.views ++ with_joined v place ∷ []) (sym view_is) ∙ sym r.views) refl refl r.keys r.links running_after stores_after
 
   module _ (number given : ℕ) (numbered : number ≡ (last_view old.views).number + 1) (given_is : given ≡ (last_view old.views).given) where
     leads : LeadsTo spelling (λ p. played (replication ghosts spelling) p (ScriptStep.Join place)) (given_at place (true ∷ [])) old new (record { head = head.Join place; answer = answer.NewId given number; sent = []; finished = None } ∷ [])
     leads kinds members decls p m foretold =
         let view_is = view_of spelling kinds members decls p old m in
         reaches_did spelling kinds members decls p old m (ScriptStep.Join place) within (with_call p place) new (Joining place) (script.Head.JoinHead place) (new_line (replication ghosts spelling) p place) (given_at place (true ∷ [])) refl refl
-        (does_join (replication ghosts spelling) p place (ap (λ v. is_taken v place) (sym view_is) ∙ able.0) (ap (λ (v : View). nat_lt v.given identity_limit) (sym view_is) ∙ (let room = able.1 in grind (arith, nat_tests))) (next_is p place true foretold))
+        (does_join (replication ghosts spelling) p place (ap (λ v. is_taken v place) (sym view_is) ∙ able.0) (ap (λ (v : View). nat_lt v.given identity_limit) (sym view_is) ∙ (let room = able.1 in grind (arith, nat_tests))) (answer_told p place true foretold))
         (λ logs histories s. stands_joined kinds logs histories p.world view_is s) (head.Join place) (answer.NewId given number) refl
         (ap (λ (v : View). script.Answer.NewIdentity v.given (v.number + 1)) (sym view_is) ∙ ap (λ n. script.Answer.NewIdentity (last_view old.views).given n) (sym numbered) ∙ ap (λ i. script.Answer.NewIdentity i number) (sym given_is))
         (one_call p place true)
@@ -297,3 +229,95 @@ module _ {T K Kind Delta : Type 0} {ghosts : Ghosts T Kind Op Delta} {keeping : 
       let k = spare_there old.views place able old.nodes.items old.spare.items old.seated within in
       let s = anew.seated k.0 k.1 in
       plays_joined spelling alike place within old new sound able r anew k.0 s.0 s.2 nobody k.1 s.1 s.3 s.4 number given numbered given_is event same
+
+-- NO NEW MEMBER
+
+-- all but a spare keeper is the same
+pub record IsSpared {T K Kind Op Delta : Type 0} {ghosts : Ghosts T Kind Op Delta} {keeping : Keeping K} (Does : K → K → Type 0) (place : ℕ) (old new : World T K Kind Op Delta ghosts keeping) : Type 0 where
+  pub views : new.views ≡ old.views
+  pub keys : new.keys ≡ old.keys
+  pub nodes : new.nodes ≡ old.nodes
+  pub links : new.links ≡ old.links
+  pub acts : ActsAt Does place old.spare.items new.spare.items
+
+-- as many places have a spare keeper
+pub seated_spared : {T K Kind Op Delta : Type 0} {ghosts : Ghosts T Kind Op Delta} {keeping : Keeping K} (Does : K → K → Type 0) (place : ℕ) (views now : List View) (nodes new : Vec (Option (Node T K Kind Op Delta ghosts keeping)) Global) (spare left : List (Option K)) (keeper : K) → item_at spare place ≡ Some keeper
+    → ActsAt Does place spare left → now ≡ views → new ≡ nodes → AreSeated views nodes.items spare → AreSeated now new.items left
+seated_spared {T} {K} {Kind} {Op} {Delta} {ghosts} {keeping} Does place views now nodes new spare left keeper was acts same_views same_nodes seated =
+    subst (λ vs. AreSeated vs new.items left) (sym same_views)
+    (subst (λ (ns : Vec (Option (Node T K Kind Op Delta ghosts keeping)) Global). AreSeated views ns.items left) (sym same_nodes)
+    (record {
+      members = seated.members;
+      spares = at_one (λ q. q < 8 → is_some (item_at left q) ≡ not (is_some (item_at nodes.items q))) place
+          (λ within. ap is_some (acts.there keeper was).1 ∙ sym (ap is_some was) ∙ seated.spares place within) (λ q other within. ap (λ o. is_some (option_and_then (λ (y : Option K). y) o)) (acts.others q other) ∙ seated.spares q within);
+    }))
+
+module _ {T K Kind Delta : Type 0} {ghosts : Ghosts T Kind Op Delta} {keeping : Keeping K} (spelling : Spelling T Kind Op Delta) (place : ℕ) (old new : World T K Kind Op Delta ghosts keeping) (Does : K → K → Type 0) (spared : IsSpared Does place old new) (before : K) (empty : item_at old.nodes.items place ≡ None) (was : item_at old.spare.items place ≡ Some before) where
+  abbrev after : K
+  after = (spared.acts.there before was).0
+
+  spared_was : keeper_of old.nodes.items old.spare.items place ≡ Some before
+  spared_was = ap (λ o. first_keeper o (item_at old.spare.items place)) empty ∙ was
+
+  spared_is : keeper_of new.nodes.items new.spare.items place ≡ Some after
+  spared_is = ap (λ (nodes : Vec (Option (Node T K Kind Op Delta ghosts keeping)) Global). first_keeper (item_at nodes.items place) (item_at new.spare.items place)) spared.nodes ∙ ap (λ o. first_keeper o (item_at new.spare.items place)) empty ∙ (spared.acts.there before was).1
+
+  elsewhere : (q : ℕ) → q ≢ place → keeper_of new.nodes.items new.spare.items q ≡ keeper_of old.nodes.items old.spare.items q
+  elsewhere q apart =
+      ap (λ (nodes : Vec (Option (Node T K Kind Op Delta ghosts keeping)) Global). first_keeper (item_at nodes.items q) (item_at new.spare.items q)) spared.nodes
+      ∙ ap (λ o. first_keeper (item_at old.nodes.items q) (option_and_then (λ (y : Option K). y) o)) (spared.acts.others q apart)
+
+  pub keeps_so : (answers : List Bool) → Keeps keeping answers before after → (q : ℕ) → KeepsAt keeping (given_at place answers q) (keeper_of old.nodes.items old.spare.items q) (keeper_of new.nodes.items new.spare.items q)
+  keeps_so answers keeps = kept_one keeping place answers (keeper_of old.nodes.items old.spare.items) (keeper_of new.nodes.items new.spare.items) before after spared_was spared_is keeps elsewhere
+
+  -- after want of memory
+  pub remains_join : (answers : List Bool) → Keeps keeping answers before after → Remains spelling (form.Join place) old new
+  remains_join answers keeps =
+      record {
+        kept = λ q. record { answers = given_at place answers q; keeps = keeps_so answers keeps q };
+        remains = record {
+          views = spared.views;
+          keys = spared.keys;
+          nodes = spared.nodes;
+          links = spared.links;
+          others = λ other apart. ap (option_and_then (λ (y : Option K). y)) (spared.acts.others other apart);
+          spare = ap is_some (spared.acts.there before was).1 ∙ sym (ap is_some was);
+        };
+      }
+
+  module _ (alike : (a b : K) → is_some (keeping.table a) ≡ is_some (keeping.table b)) (fails : FailsToClear keeping before after) (able : CanJoin (last_view old.views) place) (within : place < 8) where
+    stands_failed : (kinds : Text → Kind) (logs : Text → History Op) (world : worlds.World Kind Op Shown) → StandsForWorld spelling kinds logs old world → StandsForWorld spelling kinds logs new world
+    stands_failed kinds logs world s =
+        stands_in spelling kinds logs old new world s world (s.views ∙ sym spared.views) refl refl spared.keys spared.links
+        (λ i. subst (λ o. StandsForRunning {ghosts = ghosts} {keeping = keeping} spelling kinds logs o (world.nodes i)) (sym (ap (λ vs. member_of (last_view vs) new.nodes.items i) spared.views ∙ ap (λ (nodes : Vec (Option (Node T K Kind Op Delta ghosts keeping)) Global). member_of (last_view old.views) nodes.items i) spared.nodes)) (s.running i))
+        (stores_still spelling kinds logs old new world s alike place before after spared_was spared_is fails.table elsewhere)
+
+    leads_failed : LeadsTo spelling (λ p. played (replication ghosts spelling) p (ScriptStep.Join place)) (given_at place (false ∷ [])) old new (record { head = head.Join place; answer = answer.ClearFailed; sent = []; finished = None } ∷ [])
+    leads_failed kinds members decls p m foretold =
+        let view_is = view_of spelling kinds members decls p old m in
+        reaches_said spelling kinds members decls p old m (ScriptStep.Join place) (with_call p place) new (script.Head.JoinHead place) script.Answer.ClearFailed (given_at place (false ∷ [])) refl refl refl
+        (fails_join (replication ghosts spelling) p place (ap (λ v. is_taken v place) (sym view_is) ∙ able.0) (ap (λ (v : View). nat_lt v.given identity_limit) (sym view_is) ∙ (let room = able.1 in grind (arith, nat_tests))) (answer_told p place false foretold))
+        (record { run = m.run; stands = λ logs through. stands_failed kinds logs p.world (m.stands logs through) }) (head.Join place) answer.ClearFailed refl refl (one_call p place false)
+
+    pub plays_failed : (event : Event) → event ≡ record { head = head.Join place; answer = answer.ClearFailed; sent = []; finished = None } → Plays spelling (form.Join place) old new (event ∷ [])
+    plays_failed event same =
+        subst (λ (e : Event). Plays spelling (form.Join place) old new (e ∷ [])) (sym same)
+        (record { given = given_at place (false ∷ []); kept = keeps_so (false ∷ []) fails.answered; damaged = λ e. absurd (cc e); does = λ took. (λ kinds members decls p m. refl, leads_failed) })
+
+-- NOTHING WAS CALLED
+
+module _ {T K Kind Delta : Type 0} {ghosts : Ghosts T Kind Op Delta} {keeping : Keeping K} (spelling : Spelling T Kind Op Delta) (place : ℕ) (old new : World T K Kind Op Delta ghosts keeping) (same : IsSame old new) where
+  pub plays_taken : is_taken (last_view old.views) place ≡ true → (event : Event) → event ≡ record { head = head.Join place; answer = answer.PlaceTaken; sent = []; finished = None } → Plays spelling (form.Join place) old new (event ∷ [])
+  plays_taken taken event is = plays_told spelling old new same (form.Join place) (head.Join place) answer.PlaceTaken event is refl (λ kinds members decls p m.
+      let view_is = view_of spelling kinds members decls p old m in
+      (script.Head.JoinHead place, script.Answer.PlaceTaken, tells_taken (replication ghosts spelling) p place (ap (λ v. is_taken v place) (sym view_is) ∙ taken), refl, refl))
+
+  pub plays_many : (is_taken (last_view old.views) place ≡ false) × ((last_view old.views).given ≡ identity_limit) → (event : Event) → event ≡ record { head = head.Join place; answer = answer.TooManyIdentities; sent = []; finished = None } → Plays spelling (form.Join place) old new (event ∷ [])
+  plays_many many event is = plays_told spelling old new same (form.Join place) (head.Join place) answer.TooManyIdentities event is refl (λ kinds members decls p m.
+      let view_is = view_of spelling kinds members decls p old m in (
+        script.Head.JoinHead place,
+        script.Answer.TooManyIdentities,
+        tells_many (replication ghosts spelling) p place (ap (λ v. is_taken v place) (sym view_is) ∙ many.0) (ap (λ (v : View). nat_lt v.given identity_limit) (sym view_is) ∙ (let full = many.1 in grind (arith, nat_tests))),
+        refl,
+        refl,
+      ))

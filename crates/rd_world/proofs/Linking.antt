@@ -1,27 +1,93 @@
 -- Links that stand for those of the model go on doing so as messages are sent, taken and lost.
-use Rattle.std.proofs.Common.{◌≡◌, ℕ, suc, List, [], ◌∷◌, ◌++◌, length, map, refl, sym, ap, subst, ◌∙◌, Bool, true, false, Option, Some, None, inl, inr}
-use Rattle.std.specs.Prelude.{filter, slice_get, if◌then◌else◌, ◌==◌, ◌&&◌, option_map}
+--     posts_here, moved_here        what posts, deliveries and losses leave on each link of the model
+--     links_sent, links_moved        what they leave of links of the program
+--     same_sketch, same_told        what is printed of a message
+use Rattle.std.proofs.Common.{◌≡◌, ◌≢◌, ℕ, suc, List, [], ◌∷◌, ◌++◌, map, refl, sym, ap, ◌∙◌, append_assoc, Bool, true, false, inl, inr, length, subst, Option, Some, None}
+use Rattle.std.specs.Prelude.{if◌then◌else◌, ◌==◌, filter, slice_get, ◌&&◌, option_map}
 use Rattle.std.specs.List.{AllZip}
 use Rattle.std.proofs.lemmas.Bool.Decides.{eqb_tells}
 use Rattle.std.proofs.lemmas.List.{length-map}
+use Rattle.rd_history.specs.Table.{with_at}
 use Rattle.rd_history.specs.Texts.{Text}
 use Rattle.rd_history.specs.History.{History}
+use Rattle.rd_history.proofs.HistoryLaws.{with_at_same, with_at_other, append_nothing}
 use Rattle.rd_model.specs.Message.{Message as Sent, Post as SentPost}
-use Rattle.rd_model.specs.World.{Link, Links, with_posts, moved_on}
+use Rattle.rd_model.specs.World.{Link, Links, with_link, with_post, with_posts, moved_on}
 use Rattle.rd_lattice.specs.declared.replica.Replica.{Ghosts}
+use Rattle.rd_messages.specs.declared.sketch.MessageKind.TheVariants as kind
 use Rattle.rd_messages.specs.declared.message.Message.{Message}
-use Rattle.rd_messages.specs.declared.message.Message.TheVariants.{Deltas, Nack, Status, Gossip, Write, WriteAck, WriteNack, Read, ReadAnswer}
+use Rattle.rd_messages.specs.declared.message.Message.TheVariants.{Deltas, Status, Gossip, Write, ReadAnswer}
 use Rattle.rd_messages.specs.declared.message.Post.{Post}
 use Rattle.rd_messages.specs.Sketches.{sketch_of}
 use Rattle.rd_messages.specs.Standing.{digest_told}
-use Rattle.rd_messages.specs.declared.sketch.MessageKind.TheVariants as kind
 use Rattle.rd_node.specs.Members.{StandsForKeyed, StandsForKeyedGroup, StandsForMessage, StandsForPosts}
 use Rattle.rd_world.specs.Channels.{Channel, next_on, count_on, message_on, passed, extended}
 use Rattle.rd_world.specs.Sending.{messages_to, told_of}
 use Rattle.rd_world.specs.Standing.{StandsForLink}
 use Rattle.rd_world.specs.Lines.{sketched, sketched_post}
-use Rattle.rd_world.proofs.Pairs.{zip_append, zip_length, IsPair, zip_at}
-use Rattle.rd_world.proofs.Posting.{sent_to, posts_here, posts_elsewhere, moved_link, moved_here, moved_beside, moved_elsewhere}
+use Rattle.rd_world.proofs.Lists.{zip_append, zip_length, IsPair, zip_at}
+
+module _ {Op : Type 0} where
+  -- the messages that go to a member
+  abbrev pub sent_to : List (SentPost Op) → ℕ → List (Sent Op)
+  sent_to posts to = map (λ (post : SentPost Op). post.message) (filter (λ (post : SentPost Op). post.to == to) posts)
+
+  link_here : (links : Links Op) (from to : ℕ) (link : Link Op) → with_link links from to link from to ≡ link
+  link_here links from to link = ap (λ row. row to) (with_at_same links from (with_at (links from) to link)) ∙ with_at_same (links from) to link
+
+  link_beside : (links : Links Op) (from to b : ℕ) (link : Link Op) → b ≢ to → with_link links from to link from b ≡ links from b
+  link_beside links from to b link other = ap (λ row. row b) (with_at_same links from (with_at (links from) to link)) ∙ with_at_other (links from) to link b other
+
+  link_elsewhere : (links : Links Op) (from to a b : ℕ) (link : Link Op) → a ≢ from → with_link links from to link a b ≡ links a b
+  link_elsewhere links from to a b link other = ap (λ row. row b) (with_at_other links from (with_at (links from) to link) a other)
+
+  -- the messages go to the end of their links, and the links of others stay
+  pub posts_here : (posts : List (SentPost Op)) (links : Links Op) (from to : ℕ) → with_posts links from posts from to ≡ record { messages = (links from to).messages ++ sent_to posts to; next = (links from to).next }
+  posts_here [] links from to = ap (λ messages. record { messages = messages; next = (links from to).next }) (sym (append_nothing (links from to).messages))
+  posts_here (post ∷ posts) links from to = posts_here posts (with_post from links post) from to ∙ elim (eqb_tells post.to to) [
+    | inl here ↦
+        let sent : Link Op = record { messages = (links from to).messages ++ post.message ∷ []; next = (links from to).next } in
+        let now : with_post from links post from to ≡ sent =
+        ap (λ j. with_link links from j (record { messages = (links from j).messages ++ post.message ∷ []; next = (links from j).next }) from to) here.1 ∙ link_here links from to sent in
+        ap (λ (link : Link Op). record { messages = link.messages ++ sent_to posts to; next = link.next }) now
+        ∙ ap (λ messages. record { messages = messages; next = (links from to).next }) (append_assoc (links from to).messages (post.message ∷ []) (sent_to posts to))
+        ∙ ap (λ b. record { messages = (links from to).messages ++ map (λ (post : SentPost Op). post.message) (if b then post ∷ filter (λ (post : SentPost Op). post.to == to) posts else filter (λ (post : SentPost Op). post.to == to) posts); next = (links from to).next }) (sym here.0)
+    | inr there ↦
+        let now : with_post from links post from to ≡ links from to = link_beside links from post.to to (record { messages = (links from post.to).messages ++ post.message ∷ []; next = (links from post.to).next }) (λ e. there.1 (sym e)) in
+        ap (λ (link : Link Op). record { messages = link.messages ++ sent_to posts to; next = link.next }) now
+        ∙ ap (λ b. record { messages = (links from to).messages ++ map (λ (post : SentPost Op). post.message) (if b then post ∷ filter (λ (post : SentPost Op). post.to == to) posts else filter (λ (post : SentPost Op). post.to == to) posts); next = (links from to).next }) (sym there.0)
+  ]
+
+  pub posts_elsewhere : (posts : List (SentPost Op)) (links : Links Op) (from a b : ℕ) → a ≢ from → with_posts links from posts a b ≡ links a b
+  posts_elsewhere [] links from a b other = refl
+  posts_elsewhere (post ∷ posts) links from a b other = posts_elsewhere posts (with_post from links post) from a b other ∙ link_elsewhere links from post.to a b _ other
+
+  -- the message of this number was taken or lost
+  abbrev pub moved_link : ℕ → Link Op → Link Op
+  moved_link index link = record link { next = if link.next == index then suc index else link.next }
+
+  pub moved_here : (links : Links Op) (from to index : ℕ) → moved_on links from to index from to ≡ moved_link index (links from to)
+  moved_here links from to index = go ((links from to).next == index)
+    where
+      go : (b : Bool) → (if b then with_link links from to (record (links from to) { next = suc index }) else links) from to ≡ record (links from to) { next = if b then suc index else (links from to).next }
+      go true = link_here links from to (record (links from to) { next = suc index })
+      go false = refl
+
+  pub moved_beside : (links : Links Op) (from to index b : ℕ) → b ≢ to → moved_on links from to index from b ≡ links from b
+  moved_beside links from to index b other = go ((links from to).next == index)
+    where
+      go : (x : Bool) → (if x then with_link links from to (record (links from to) { next = suc index }) else links) from b ≡ links from b
+      go true = link_beside links from to b _ other
+      go false = refl
+
+  pub moved_elsewhere : (links : Links Op) (from to index a b : ℕ) → a ≢ from → moved_on links from to index a b ≡ links a b
+  moved_elsewhere links from to index a b other = go ((links from to).next == index)
+    where
+      go : (x : Bool) → (if x then with_link links from to (record (links from to) { next = suc index }) else links) a b ≡ links a b
+      go true = link_elsewhere links from to a b _ other
+      go false = refl
+
+-- LINKS OF THE PROGRAM
 
 module _ {T Kind Op Delta : Type 0} {ghosts : Ghosts T Kind Op Delta} (kinds : Text → Kind) (logs : Text → History Op) where
   abbrev Stands : Message T Kind Op Delta ghosts → Sent Op → Type 0
@@ -120,16 +186,12 @@ module _ {T Kind Op Delta : Type 0} {ghosts : Ghosts T Kind Op Delta} (kinds : T
         second = zip_length (StandsForKeyed ghosts.kind_of ghosts.IsDataOf kinds logs) entries s.sent_entries s.entries_stand i;
       })
       ∙ sym (ap sketched s.is)
-  same_sketch (Nack keys) sent s = sym (ap sketched s)
   same_sketch (Status digests) sent s = (λ i. record { kind = kind.Status; first = sym (length-map digests digest_told) i; second = 0 }) ∙ sym (ap sketched s)
   same_sketch (Gossip entries wants) sent s =
       (λ i. record { kind = kind.Gossip; first = zip_length (StandsForKeyed ghosts.kind_of ghosts.IsDataOf kinds logs) entries s.sent_entries s.entries_stand i; second = length wants }) ∙ sym (ap sketched s.is)
   same_sketch (Write op key envelope) sent s = sym (ap sketched s.is)
-  same_sketch (WriteAck op) sent s = sym (ap sketched s)
-  same_sketch (WriteNack op) sent s = sym (ap sketched s)
-  same_sketch (Read op key) sent s = sym (ap sketched s)
-  same_sketch (ReadAnswer op key None) sent s = sym (ap sketched s)
   same_sketch (ReadAnswer op key (Some envelope)) sent s = sym (ap sketched s.is)
+  same_sketch _ sent s = sym (ap sketched s)
 
   pub same_told : (posts : List (Post T Kind Op Delta ghosts)) (sents : List (SentPost Op)) → StandsForPosts ghosts.kind_of ghosts.IsDataOf kinds logs posts sents → map told_of posts ≡ map sketched_post sents
   same_told [] [] all = refl

@@ -1,15 +1,12 @@
 -- A member leaves.
-use Rattle.std.proofs.Common.{◌≡◌, ◌≢◌, ℕ, ◌+◌, ◌<◌, List, [], ◌∷◌, ◌++◌, length, map, refl, sym, ap, subst, ◌∙◌, arith, Bool, true, false, not, Option, None, Some, inl, inr}
+use Rattle.std.proofs.Common.{◌≡◌, ◌≢◌, ℕ, ◌+◌, ◌<◌, List, [], ◌∷◌, ◌++◌, length, refl, sym, ap, subst, ◌∙◌, arith, Bool, true, false, not, Option, None, Some, inl, inr}
 use Rattle.std.specs.Prelude.{option_map, is_some, if◌then◌else◌, nat_lt}
 use Rattle.std.proofs.lemmas.Bool.Decides.{eqb_tells, nat_tests}
 use Rattle.rd_history.specs.Texts.{Text}
-use Rattle.rd_history.specs.Table.{with_at}
 use Rattle.rd_history.specs.History.{History}
-use Rattle.rd_history.proofs.HistoryLaws.{with_at_same, with_at_other}
 use Rattle.rd_model.specs.View.{View, is_member, without_member}
 use Rattle.rd_model.specs.DataType.{Replication}
 use Rattle.rd_model.specs.Node as nodes
-use Rattle.rd_model.specs.Node.{KeyDecl}
 use Rattle.rd_model.specs.World as worlds
 use Rattle.rd_model.specs.World.{happens}
 use Rattle.rd_model.specs.World.Event.{Removal}
@@ -24,25 +21,23 @@ use Rattle.rd_views.specs.Sound.{IsView, last_view}
 use Rattle.rd_views.specs.Changes.{CanRemove}
 use Rattle.rd_views.proofs.Kept.{view_without}
 use Rattle.rd_node.specs.declared.node.Node.{Node}
-use Rattle.rd_node.specs.Members.{AreOfKinds, declared}
 use Rattle.rd_node.specs.Steps.{replication}
 use Rattle.rd_script.specs.declared.script.Step.TheVariants as form
 use Rattle.rd_world.specs.declared.world.World.{World}
 use Rattle.rd_world.specs.declared.event.Head.TheVariants as head
 use Rattle.rd_world.specs.declared.event.Answer.TheVariants as answer
 use Rattle.rd_world.specs.declared.event.Event.{Event}
-use Rattle.rd_world.specs.Channels.{channel_at}
 use Rattle.rd_world.specs.Keeping.{AreSeated, KeepsAt}
 use Rattle.rd_world.specs.Places.{item_at, identity_at, seat_of, member_of, keeper_of, first_keeper}
 use Rattle.rd_world.specs.Seating.{IsLeft}
-use Rattle.rd_world.specs.Standing.{StandsForLink, StandsForRunning, StandsForWorld, TellsStore}
-use Rattle.rd_world.specs.Steps.{Plays, Remains, LeadsTo}
-use Rattle.rd_world.proofs.ByPlace.{seats_apart}
-use Rattle.rd_world.proofs.SeatChanges.{seat_without, no_seat_without, no_identity_at, no_member}
-use Rattle.rd_world.proofs.Reseating.{IsReseated, member_elsewhere, member_here, still_seated}
-use Rattle.rd_world.proofs.Doing.{view_of, reaches_did}
-use Rattle.rd_world.proofs.Quietly.{IsAlike, stays, is_kept, plays_told}
-use Rattle.rd_world.proofs.Unkept.{not_called_at}
+use Rattle.rd_world.specs.Standing.{StandsForRunning, StandsForWorld, TellsStore}
+use Rattle.rd_world.specs.Steps.{Plays, LeadsTo}
+use Rattle.rd_world.proofs.Seats.{seats_apart, seat_without, no_seat_without, no_identity_at, no_member}
+use Rattle.rd_world.proofs.Lists.{at_one, at_each}
+use Rattle.rd_world.proofs.Standings.{stands_in, IsReseated, member_elsewhere, member_here, still_seated}
+use Rattle.rd_world.proofs.Telling.{view_of, reaches_did, plays_told}
+use Rattle.rd_world.specs.Giving.{IsSame}
+use Rattle.rd_world.proofs.Storing.{not_called_at}
 
 -- THE SCRIPT
 
@@ -94,10 +89,9 @@ module _ (views : List View) (id place : ℕ) (seat : seat_of (last_view views) 
 
     -- each place has the keeper that it had
     pub same_keepers : (q : ℕ) → keeper_of new left q ≡ keeper_of nodes spare q
-    same_keepers q = elim (eqb_tells q place) [
-      | inl here ↦ ap (keeper_of new left) here.1 ∙ ap (λ o. first_keeper o (item_at left place)) leaves.none ∙ leaves.keeper ∙ sym (ap (keeper_of nodes spare) here.1)
-      | inr other ↦ ap (λ o. first_keeper o (item_at left q)) (leaves.others q other.1) ∙ ap (first_keeper (item_at nodes q)) (leaves.spares q other.1)
-    ]
+    same_keepers =
+        at_one (λ q. keeper_of new left q ≡ keeper_of nodes spare q) place (ap (λ o. first_keeper o (item_at left place)) leaves.none ∙ leaves.keeper)
+        (λ q other. ap (λ o. first_keeper o (item_at left q)) (leaves.others q other) ∙ ap (first_keeper (item_at nodes q)) (leaves.spares q other))
 
 -- there is a keeper at each place
 pub some_keeper : {T K Kind Op Delta : Type 0} {ghosts : Ghosts T Kind Op Delta} {keeping : Keeping K} (views : List View) (nodes : List (Option (Node T K Kind Op Delta ghosts keeping))) (spare : List (Option K)) → AreSeated views nodes spare → (place : ℕ) → place < 8 → is_some (keeper_of nodes spare place) ≡ true
@@ -118,26 +112,14 @@ module _ {T K Kind Delta : Type 0} {ghosts : Ghosts T Kind Op Delta} {keeping : 
     abbrev Running : Option (Node T K Kind Op Delta ghosts keeping) → Option (nodes.Node Kind Op Shown) → Type 0
     Running code running = StandsForRunning {ghosts = ghosts} {keeping = keeping} spelling kinds logs code running
 
-    running_after : (j : ℕ) → Running (member_of (last_view new.views) new.nodes.items j) (with_at world.nodes id None j)
-    running_after j = elim (eqb_tells j id) [
-      | inl here ↦
-          subst (λ o. Running (member_of (last_view new.views) new.nodes.items j) o) (sym (ap (with_at world.nodes id None) here.1 ∙ with_at_same world.nodes id None))
-          (subst (λ o. Running o None) (sym (member_here (without_member (last_view old.views) id) place old new r j None (ap (seat_of (without_member (last_view old.views) id)) here.1 ∙ no_seat_without (last_view old.views) id))) refl)
-      | inr other ↦
-          subst (λ o. Running (member_of (last_view new.views) new.nodes.items j) o) (sym (with_at_other world.nodes id None j other.1))
-          (subst (λ o. Running o (world.nodes j)) (sym (member_elsewhere (without_member (last_view old.views) id) place old new r j (seat_without (last_view old.views) id j other.1) (λ e. other.1 (seats_apart (last_view old.views) sound j id place e seat)))) (s.running j))
-    ]
-
     stands_removed : StandsForWorld spelling kinds logs new (happens (replication ghosts spelling) world (Removal id))
     stands_removed =
-        record {
-          views = ap (λ vs. vs ++ without_member world.view id ∷ []) s.views ∙ ap (λ v. old.views ++ without_member v id ∷ []) (sym view_is) ∙ sym r.views;
-          keys = s.keys ∙ ap (λ (keys : _). map declared keys.items) (sym r.keys);
-          of_kinds = subst (λ (keys : _). AreOfKinds kinds keys.items) (sym r.keys) s.of_kinds;
-          running = running_after;
-          links = λ a b small few. subst (λ (links : _). StandsForLink {ghosts = ghosts} kinds logs (channel_at links a b) (world.links a b)) (sym r.links) (s.links a b small few);
-          stores = λ q. subst (λ o. TellsStore ghosts keeping spelling kinds logs o (world.stores q)) (sym (keepers q)) (s.stores q);
-        }
+        stands_in spelling kinds logs old new world s (happens (replication ghosts spelling) world (Removal id))
+        (ap (λ vs. vs ++ without_member world.view id ∷ []) s.views ∙ ap (λ v. old.views ++ without_member v id ∷ []) (sym view_is) ∙ sym r.views) refl refl r.keys r.links
+        (at_each (λ j o. Running (member_of (last_view new.views) new.nodes.items j) o) world.nodes id None
+        (subst (λ o. Running o None) (sym (member_here (without_member (last_view old.views) id) place old new r id None (no_seat_without (last_view old.views) id))) refl)
+        (λ j other. subst (λ o. Running o (world.nodes j)) (sym (member_elsewhere (without_member (last_view old.views) id) place old new r j (seat_without (last_view old.views) id j other) (λ e. other (seats_apart (last_view old.views) sound j id place e seat)))) (s.running j)))
+        (λ q. subst (λ o. TellsStore ghosts keeping spelling kinds logs o (world.stores q)) (sym (keepers q)) (s.stores q))
 
   module _ (number : ℕ) (numbered : number ≡ (last_view old.views).number + 1) where
     leads : LeadsTo spelling (λ p. played (replication ghosts spelling) p (ScriptStep.Remove id)) (λ q. []) old new (record { head = head.Remove id; answer = answer.View number; sent = []; finished = None } ∷ [])
@@ -161,14 +143,14 @@ module _ {T K Kind Delta : Type 0} {ghosts : Ghosts T Kind Op Delta} {keeping : 
 
 -- NO CHANGE
 
-module _ {T K Kind Delta : Type 0} {ghosts : Ghosts T Kind Op Delta} {keeping : Keeping K} (spelling : Spelling T Kind Op Delta) (id : ℕ) (old new : World T K Kind Op Delta ghosts keeping) (alike : IsAlike old new) where
+module _ {T K Kind Delta : Type 0} {ghosts : Ghosts T Kind Op Delta} {keeping : Keeping K} (spelling : Spelling T Kind Op Delta) (id : ℕ) (old new : World T K Kind Op Delta ghosts keeping) (same : IsSame old new) where
   pub plays_gone : seat_of (last_view old.views) id ≡ None → (event : Event) → event ≡ record { head = head.Remove id; answer = answer.Gone; sent = []; finished = None } → Plays spelling (form.Remove id) old new (event ∷ [])
-  plays_gone none event is = plays_told spelling old new alike (form.Remove id) (head.Remove id) answer.Gone event is refl (λ kinds members decls p m.
+  plays_gone none event is = plays_told spelling old new same (form.Remove id) (head.Remove id) answer.Gone event is refl (λ kinds members decls p m.
       let view_is = view_of spelling kinds members decls p old m in
       (script.Head.RemoveHead id, script.Answer.Gone, tells_gone (replication ghosts spelling) p id (ap (λ v. is_member v id) (sym view_is) ∙ no_member (last_view old.views) id none), refl, refl))
 
   pub plays_last : (is_member (last_view old.views) id ≡ true) × (length (last_view old.views).members ≡ 1) → (event : Event) → event ≡ record { head = head.Remove id; answer = answer.LastMember; sent = []; finished = None } → Plays spelling (form.Remove id) old new (event ∷ [])
-  plays_last one event is = plays_told spelling old new alike (form.Remove id) (head.Remove id) answer.LastMember event is refl (λ kinds members decls p m.
+  plays_last one event is = plays_told spelling old new same (form.Remove id) (head.Remove id) answer.LastMember event is refl (λ kinds members decls p m.
       let view_is = view_of spelling kinds members decls p old m in (
         script.Head.RemoveHead id,
         script.Answer.LastMember,
@@ -176,6 +158,3 @@ module _ {T K Kind Delta : Type 0} {ghosts : Ghosts T Kind Op Delta} {keeping : 
         refl,
         refl,
       ))
-
-  pub remains_removed : Remains spelling (form.Remove id) old new
-  remains_removed = record { kept = is_kept spelling old new alike; remains = stays spelling old new alike }

@@ -1,52 +1,120 @@
--- A member comes back as a new one, with what its place's keeper told.
-use Rattle.std.proofs.Common.{◌≡◌, ℕ, ◌+◌, ◌-◌, List, [], ◌∷◌, ◌++◌, map, refl, sym, ap, subst, ◌∙◌, arith, Bool, true, false, not, Option, None, Some, inl, inr}
-use Rattle.std.specs.Prelude.{option_and_then, is_some, IsSome, if◌then◌else◌, nat_lt}
+-- A member comes back as a new one.
+--     new_replaced, seated_replaced        who sits where then
+--     plays_restarted        it comes back with what its place's keeper told
+--     fit_there        what the store of its place holds is fit for it
+--     plays_load_failed, plays_damaged, remains_restart        it stays what it was
+--     plays_back        how a restart ends, by what the place answered
+use Rattle.std.proofs.Common.{◌≡◌, ◌≢◌, ℕ, ◌<◌, List, [], ◌∷◌, ◌++◌, refl, sym, ap, subst, ◌∙◌, arith, not, Option, None, Some, inl, inr, ◌+◌, ◌-◌, map, Bool, true, false}
+use Rattle.std.specs.Prelude.{option_map, is_some, All, ◌==◌, option_and_then, if◌then◌else◌, nat_lt, IsSome, Result}
 use Rattle.std.proofs.lemmas.Bool.Decides.{eqb_tells, nat_tests}
+use Rattle.std.proofs.lemmas.List.Elements.{All-filter}
+use Rattle.rd_bytes.specs.declared.memory.Memory.{Memory}
 use Rattle.rd_history.specs.Texts.{Text}
 use Rattle.rd_history.specs.Table.{with_at, identity_limit}
 use Rattle.rd_history.specs.History.{History, IsHistory}
-use Rattle.rd_history.proofs.HistoryLaws.{with_at_same, with_at_other}
-use Rattle.rd_model.specs.View.{View, is_member, place_of, with_replaced}
-use Rattle.rd_model.specs.DataType.{Replication}
-use Rattle.rd_model.specs.Node as nodes
-use Rattle.rd_model.specs.Node.{KeyDecl}
-use Rattle.rd_model.specs.World as worlds
-use Rattle.rd_model.specs.World.{Event, Store, happens, loaded_node}
-use Rattle.rd_model.specs.Script as script
-use Rattle.rd_model.specs.Script.{Playing, ScriptStep, played, told, did_plainly, called, with_call, next_answer}
 use Rattle.rd_kinds.specs.declared.operation.Op.{Op}
 use Rattle.rd_kinds.specs.declared.shown.Shown.{Shown}
-use Rattle.rd_lattice.specs.declared.replica.Replica.{Ghosts}
-use Rattle.rd_lattice.specs.declared.spelled.SpelledData.{Ghosts as Spelling}
-use Rattle.rd_keeper.specs.declared.keeper.Keeper.{Ghosts as Keeping}
-use Rattle.rd_keeper.specs.Calls.{Becomes}
-use Rattle.rd_keeper.specs.Tables.{Table}
+use Rattle.rd_model.specs.Node as nodes
+use Rattle.rd_model.specs.World as worlds
+use Rattle.rd_model.specs.Script as script
+use Rattle.rd_model.specs.View.{View, Member, place_of, without_member, with_replaced, is_member}
+use Rattle.rd_model.specs.DataType.{Replication}
+use Rattle.rd_model.specs.World.{Event, Store, happens, loaded_node}
+use Rattle.rd_model.specs.Script.{Playing, ScriptStep, played, told, did_plainly, called, with_call, next_answer}
+use Rattle.rd_model.specs.Node.{KeyDecl}
 use Rattle.rd_views.specs.Sound.{IsView, last_view}
 use Rattle.rd_views.specs.Changes.{CanReplace}
+use Rattle.rd_keeper.specs.declared.keeper.Keeper.{Ghosts as Keeping}
+use Rattle.rd_keeper.specs.Tables.{Table}
+use Rattle.rd_lattice.specs.declared.replica.Replica.{Ghosts}
+use Rattle.rd_lattice.specs.declared.spelled.SpelledData.{Ghosts as Spelling}
+use Rattle.rd_node.specs.declared.loading.LoadError.TheVariants as load
 use Rattle.rd_node.specs.declared.node.Node.{Node}
 use Rattle.rd_node.specs.Keys.{declared_by, HaveKinds}
-use Rattle.rd_node.specs.Members.{AreOfKinds, declared, StandsForNode}
-use Rattle.rd_node.specs.Steps.{replication}
-use Rattle.rd_node.specs.Stores.{SpellsStore}
+use Rattle.rd_node.specs.Members.{StandsForNode}
+use Rattle.rd_node.specs.Steps.{replication, MayAnswer}
+use Rattle.rd_node.specs.Stores.{SpellsStore, AreFit}
+use Rattle.rd_node.specs.Loading.{ComesBack, IsRefusedLoad}
 use Rattle.rd_script.specs.declared.script.Step.TheVariants as form
-use Rattle.rd_world.specs.declared.world.World.{World}
 use Rattle.rd_world.specs.declared.event.Head.TheVariants as head
 use Rattle.rd_world.specs.declared.event.Answer.TheVariants as answer
-use Rattle.rd_world.specs.declared.event.Event.{Event as Line}
-use Rattle.rd_world.specs.Channels.{channel_at}
-use Rattle.rd_world.specs.Keeping.{Keeps}
+use Rattle.rd_world.specs.Keeping.{AreSeated, Keeps, KeepsAt}
 use Rattle.rd_world.specs.Places.{item_at, seat_of, member_of, keeper_of, first_keeper}
-use Rattle.rd_world.specs.Reloading.{IsReloaded}
-use Rattle.rd_world.specs.Standing.{StandsForLink, StandsForRunning, StandsForWorld, TellsStore}
-use Rattle.rd_world.specs.Steps.{Plays, LeadsTo, LoadsWhatItTook, HaveAnswered}
-use Rattle.rd_world.proofs.ByPlace.{place_seated}
-use Rattle.rd_world.proofs.Onward.{well_now}
-use Rattle.rd_world.proofs.Going.{given_at}
-use Rattle.rd_world.proofs.Storing.{store_stays}
-use Rattle.rd_world.proofs.Reseating.{IsReseated, member_elsewhere, member_here, keeper_elsewhere}
-use Rattle.rd_world.proofs.Replacing.{new_replaced, gone_replaced, seat_replaced, other_place}
-use Rattle.rd_world.proofs.Joining.{next_is, one_call, kept_one}
-use Rattle.rd_world.proofs.Doing.{view_of, reaches_did}
+use Rattle.rd_world.specs.declared.world.World.{World}
+use Rattle.rd_world.specs.declared.event.Event.{Event as Line}
+use Rattle.rd_world.specs.Reloading.{IsReloaded, IsUnfit, Reloads, ReloadsSo}
+use Rattle.rd_world.specs.Standing.{StandsForRunning, StandsForWorld, TellsStore}
+use Rattle.rd_world.specs.Steps.{Plays, LeadsTo, LoadsWhatItTook, HaveAnswered, Remains, Stays}
+use Rattle.rd_world.specs.Ways.{Means}
+use Rattle.rd_world.specs.Giving.{IsSame}
+use Rattle.rd_world.specs.declared.event.Answer.{Answer}
+use Rattle.rd_world.specs.Seating.{ActsAt}
+use Rattle.rd_world.proofs.Seats.{identity_seated, seats_apart, place_seated, seated_as, seat_without, no_seat_without, seat_joined, new_seat, no_member}
+use Rattle.rd_world.proofs.Joining.{seat_given}
+use Rattle.rd_world.proofs.Standings.{still_seated, stands_in, stores_still, IsReseated, member_elsewhere, member_here, keeper_elsewhere, running_still}
+use Rattle.rd_world.proofs.Onward.{well_now, way_logs}
+use Rattle.rd_world.proofs.Answering.{given_at, answer_told, one_call, kept_one}
+use Rattle.rd_world.proofs.Telling.{view_of, reaches_did, plays_told, reaches_said}
+use Rattle.rd_world.proofs.Lists.{some_there, at_each}
+use Rattle.rd_world.proofs.StoredNames.{stores_fit}
+use Rattle.rd_world.proofs.Storing.{becomes_none}
+
+module _ (view : View) (id place : ℕ) (seat : seat_of view id ≡ Some place) (sound : IsView view) where
+  pub given_apart : id ≢ view.given
+  given_apart e = let less = seat_given view sound id place seat in omega arith
+
+  below_rest : All (λ (m : Member). m.identity < view.given) (without_member view id).members
+  below_rest = All-filter (λ (m : Member). not (m.identity == id)) (λ (m : Member). m.identity < view.given) view.members sound.given
+
+  pub new_replaced : seat_of (with_replaced view id) view.given ≡ Some place
+  new_replaced = new_seat (without_member view id) (place_of view id) below_rest ∙ ap Some (place_seated view id place seat)
+
+  pub gone_replaced : seat_of (with_replaced view id) id ≡ None
+  gone_replaced = seat_joined (without_member view id) (place_of view id) id given_apart ∙ no_seat_without view id
+
+  pub seat_replaced : (j : ℕ) → j ≢ view.given → j ≢ id → seat_of (with_replaced view id) j ≡ seat_of view j
+  seat_replaced j new old = seat_joined (without_member view id) (place_of view id) j new ∙ seat_without view id j old
+
+  pub other_place : (j : ℕ) → j ≢ id → seat_of view j ≡ Some place → ⊥
+  other_place j other e = other (seats_apart view sound j id place e seat)
+
+  seat_stays : (q : ℕ) → q ≢ place → (j : ℕ) → seat_of view j ≡ Some q → seat_of (with_replaced view id) j ≡ Some q
+  seat_stays q apart j e =
+      seat_replaced j (λ new. let less = seat_given view sound j q e in omega arith) (λ old. apart (let there : ◌≡◌ {A = Option ℕ} (Some q) (Some place) = sym e ∙ ap (seat_of view) old ∙ seat in cc there)) ∙ e
+
+  seat_was : (q : ℕ) → q ≢ place → (j : ℕ) → seat_of (with_replaced view id) j ≡ Some q → seat_of view j ≡ Some q
+  seat_was q apart j e = elim (eqb_tells j view.given) [
+    | inl new ↦ absurd (apart (let there : ◌≡◌ {A = Option ℕ} (Some q) (Some place) = sym e ∙ ap (seat_of (with_replaced view id)) new.1 ∙ new_replaced in cc there))
+    | inr not_new ↦ elim (eqb_tells j id) [
+      | inl old ↦ absurd (let there : ◌≡◌ {A = Option ℕ} (Some q) None = sym e ∙ ap (seat_of (with_replaced view id)) old.1 ∙ gone_replaced in cc there)
+      | inr not_old ↦ sym (seat_replaced j not_new.1 not_old.1) ∙ e
+    ]
+  ]
+
+some_mapped : {X Y : Type 0} (f : X → Y) (o : Option X) (y : Y) → option_map f o ≡ Some y → (x : X) × (o ≡ Some x)
+some_mapped f None y e = absurd (cc e)
+some_mapped f (Some x) y e = (x, refl)
+
+module _ {T K Kind Op Delta : Type 0} {ghosts : Ghosts T Kind Op Delta} {keeping : Keeping K} (views : List View) (id place : ℕ) (seat : seat_of (last_view views) id ≡ Some place) (sound : IsView (last_view views)) (nodes : List (Option (Node T K Kind Op Delta ghosts keeping))) (spare : List (Option K)) (seated : AreSeated views nodes spare) (within : place < 8) where
+  -- the member runs there
+  pub member_there : (node : Node T K Kind Op Delta ghosts keeping) × (item_at nodes place ≡ Some node)
+  member_there = some_mapped (λ (node : Node T K Kind Op Delta ghosts keeping). node.id) (item_at nodes place) id (seated.members place within ∙ identity_seated (last_view views) sound id place seat)
+
+  -- and a new one in its place
+  pub seated_replaced : (new : List (Option (Node T K Kind Op Delta ghosts keeping))) (after : Node T K Kind Op Delta ghosts keeping) → IsView (with_replaced (last_view views) id) → ((other : ℕ) → other ≢ place → item_at new other ≡ item_at nodes other) → item_at new place ≡ Some after → after.id ≡ (last_view views).given
+      → AreSeated (views ++ with_replaced (last_view views) id ∷ []) new spare
+  seated_replaced new after is_next others is same =
+      still_seated views (with_replaced (last_view views) id) sound is_next place nodes new spare spare others (λ other apart. refl) seated (seat_stays (last_view views) id place seat sound) (seat_was (last_view views) id place seat sound)
+      (ap (option_map (λ (node : Node T K Kind Op Delta ghosts keeping). node.id)) is ∙ ap Some same ∙ sym (identity_seated (with_replaced (last_view views) id) is_next (last_view views).given place (new_replaced (last_view views) id place seat sound)))
+      (seated.spares place within ∙ ap (λ (o : Option (Node T K Kind Op Delta ghosts keeping)). not (is_some o)) member_there.1 ∙ sym (ap (λ (o : Option (Node T K Kind Op Delta ghosts keeping)). not (is_some o)) is))
+
+  -- the old one comes back
+  pub seated_back : (now : List View) (new : List (Option (Node T K Kind Op Delta ghosts keeping))) (after : Node T K Kind Op Delta ghosts keeping) → now ≡ views → ((other : ℕ) → other ≢ place → item_at new other ≡ item_at nodes other) → item_at new place ≡ Some after → after.id ≡ member_there.0.id
+      → AreSeated now new spare
+  seated_back now new after same_views others is same =
+      subst (λ vs. AreSeated vs new spare) (sym same_views) (seated_as views nodes spare seated new place member_there.0 after others member_there.1 is same)
+
+-- THE RESTART
 
 -- THE SCRIPT
 
@@ -78,18 +146,6 @@ module _ {Kind Op Shown : Type 0} (D : Replication Kind Op Shown) (p : Playing K
 
   pub tells_many : is_member p.world.view id ≡ true → nat_lt p.world.view.given identity_limit ≡ false → played D p (ScriptStep.Restart id) ≡ told p (script.Head.RestartHead id) script.Answer.TooManyIdentities
   tells_many here room = ap (λ b. when_member b (nat_lt p.world.view.given identity_limit)) here ∙ ap (when_member true) room
-
--- THE KEEPER
-
--- what is told stays told
-pub told_on : {X : Type 0} (old new : Option X) (change : X → X) → Becomes old new change → IsSome old → IsSome new
-told_on None new change h some = absurd (cc some)
-told_on (Some x) new change h some = ap is_some h
-
--- a table that is told
-pub some_told : {X : Type 0} (o : Option X) → IsSome o → (x : X) × (o ≡ Some x)
-some_told None e = absurd (cc e)
-some_told (Some x) e = (x, refl)
 
 -- THE MEMBER OF THE MODEL
 
@@ -123,7 +179,7 @@ module _ {T K Kind Delta : Type 0} {ghosts : Ghosts T Kind Op Delta} {keeping : 
   keeper_is = ap (λ o. first_keeper o (item_at new.spare.items place)) is
 
   keeps : Keeps keeping (true ∷ []) before.keeper after.keeper
-  keeps = record { told = reloaded.loaded.answered; counted = (let h = reloaded.loaded.later in omega arith); table = told_on (keeping.table before.keeper) (keeping.table after.keeper) (λ t. t) reloaded.loaded.table }
+  keeps = record { told = reloaded.loaded.answered; counted = (let h = reloaded.loaded.later in omega arith); table = λ told. sym (alike before.keeper after.keeper) ∙ told }
 
   module _ (kinds : Text → Kind) (logs : Text → History Op) (histories : (key : Text) → IsHistory (logs key)) (world : worlds.World Kind Op Shown) (view_is : last_view old.views ≡ world.view) (s : StandsForWorld spelling kinds logs old world)
       (known : IsKnownThere spelling id place old before seat was kinds logs world) (same_keys : known.node.keys ≡ world.keys) (table : Table) (table_is : keeping.table before.keeper ≡ Some table) where
@@ -132,9 +188,6 @@ module _ {T K Kind Delta : Type 0} {ghosts : Ghosts T Kind Op Delta} {keeping : 
 
     abbrev made : List (nodes.KeyDecl Kind) → ℕ → View → Store Op → nodes.Node Kind Op Shown
     made keys i view store = loaded_node keys i view store
-
-    abbrev node_then : nodes.Node Kind Op Shown
-    node_then = made world.keys (world.view.given + 1 - 1) (with_replaced world.view id) (world.stores (place_of world.view id))
 
     abbrev node_now : nodes.Node Kind Op Shown
     node_now = made (map declared_by before.keys.items) (last_view old.views).given (with_replaced (last_view old.views) id) (world.stores place)
@@ -160,50 +213,27 @@ module _ {T K Kind Delta : Type 0} {ghosts : Ghosts T Kind Op Delta} {keeping : 
     running_after j =
         let stopped = with_at world.nodes id None in
         let stored = Some (made world.keys (world.view.given + 1 - 1) (with_replaced world.view id) (world.stores (place_of world.view id))) in
-        elim (eqb_tells j (last_view old.views).given) [
-          | inl here ↦
-              subst (λ o. Running (member_of (last_view new.views) new.nodes.items j) o) (sym (ap (λ i. with_at stopped i stored j) index_is ∙ ap (with_at stopped (last_view old.views).given stored) here.1 ∙ with_at_same stopped (last_view old.views).given stored ∙ ap Some node_is))
-              (subst (λ o. Running o (Some node_now)) (sym (member_here (with_replaced (last_view old.views) id) place old new r j (Some place) (ap (seat_of (with_replaced (last_view old.views) id)) here.1 ∙ new_replaced (last_view old.views) id place seat sound) ∙ is)) (node_now, refl, stands_new))
-          | inr other ↦
-              subst (λ o. Running (member_of (last_view new.views) new.nodes.items j) o) (sym (ap (λ i. with_at stopped i stored j) index_is ∙ with_at_other stopped (last_view old.views).given stored j other.1))
-              (elim (eqb_tells j id) [
-                | inl gone ↦
-                    subst (λ o. Running (member_of (last_view new.views) new.nodes.items j) o) (sym (ap stopped gone.1 ∙ with_at_same world.nodes id None))
-                    (subst (λ o. Running o None) (sym (member_here (with_replaced (last_view old.views) id) place old new r j None (ap (seat_of (with_replaced (last_view old.views) id)) gone.1 ∙ gone_replaced (last_view old.views) id place seat sound))) refl)
-                | inr stays ↦
-                    subst (λ o. Running (member_of (last_view new.views) new.nodes.items j) o) (sym (with_at_other world.nodes id None j stays.1))
-                    (subst (λ o. Running o (world.nodes j)) (sym (member_elsewhere (with_replaced (last_view old.views) id) place old new r j (seat_replaced (last_view old.views) id place seat sound j other.1 stays.1) (other_place (last_view old.views) id place seat sound j stays.1))) (s.running j))
-              ])
-        ]
-
-    stores_after : (q : ℕ) → TellsStore ghosts keeping spelling kinds logs (keeper_of new.nodes.items new.spare.items q) (world.stores q)
-    stores_after q = elim (eqb_tells q place) [
-      | inl here ↦
-          subst (λ x. TellsStore ghosts keeping spelling kinds logs (keeper_of new.nodes.items new.spare.items x) (world.stores x)) (sym here.1)
-          (subst (λ o. TellsStore ghosts keeping spelling kinds logs o (world.stores place)) (sym keeper_is)
-          (store_stays ghosts spelling kinds logs keeping alike before.keeper after.keeper (world.stores place) reloaded.loaded.table (subst (λ o. TellsStore ghosts keeping spelling kinds logs o (world.stores place)) (keeper_was spelling id place old before seat was) (s.stores place))))
-      | inr other ↦ subst (λ o. TellsStore ghosts keeping spelling kinds logs o (world.stores q)) (sym (keeper_elsewhere (with_replaced (last_view old.views) id) place old new r q other.1)) (s.stores q)
-    ]
+        subst (λ i. Running (member_of (last_view new.views) new.nodes.items j) (with_at stopped i stored j)) (sym index_is)
+        (at_each (λ k o. Running (member_of (last_view new.views) new.nodes.items k) o) stopped (last_view old.views).given stored
+        (subst (λ o. Running o stored) (sym (member_here (with_replaced (last_view old.views) id) place old new r (last_view old.views).given (Some place) (new_replaced (last_view old.views) id place seat sound) ∙ is)) (node_now, ap Some node_is, stands_new))
+        (λ k other. at_each (λ x o. x ≢ (last_view old.views).given → Running (member_of (last_view new.views) new.nodes.items x) o) world.nodes id None
+        (λ new_one. subst (λ o. Running o None) (sym (member_here (with_replaced (last_view old.views) id) place old new r id None (gone_replaced (last_view old.views) id place seat sound))) refl)
+        (λ x stays new_one. subst (λ o. Running o (world.nodes x)) (sym (member_elsewhere (with_replaced (last_view old.views) id) place old new r x (seat_replaced (last_view old.views) id place seat sound x new_one stays) (other_place (last_view old.views) id place seat sound x stays))) (s.running x)) k other) j)
 
     stands_restarted : StandsForWorld spelling kinds logs new (happens (replication ghosts spelling) world (Event.Restart id))
     stands_restarted =
-        record {
-          views = ap (λ vs. vs ++ with_replaced world.view id ∷ []) s.views ∙ ap (λ v. old.views ++ with_replaced v id ∷ []) (sym view_is) ∙ sym r.views;
-          keys = s.keys ∙ ap (λ (keys : _). map declared keys.items) (sym r.keys);
-          of_kinds = subst (λ (keys : _). AreOfKinds kinds keys.items) (sym r.keys) s.of_kinds;
-          running = running_after;
-          links = λ a b small few. subst (λ (links : _). StandsForLink {ghosts = ghosts} kinds logs (channel_at links a b) (world.links a b)) (sym r.links) (s.links a b small few);
-          stores = stores_after;
-        }
+        stands_in spelling kinds logs old new world s (happens (replication ghosts spelling) world (Event.Restart id))
+        (ap (λ vs. vs ++ with_replaced world.view id ∷ []) s.views ∙ ap (λ v. old.views ++ with_replaced v id ∷ []) (sym view_is) ∙ sym r.views) refl refl r.keys r.links running_after
+        (stores_still spelling kinds logs old new world s alike place before.keeper after.keeper (keeper_was spelling id place old before seat was) keeper_is reloaded.loaded.table (keeper_elsewhere (with_replaced (last_view old.views) id) place old new r))
 
   module _ (number given : ℕ) (numbered : number ≡ (last_view old.views).number + 1) (given_is : given ≡ (last_view old.views).given) where
     leads : LoadsWhatItTook spelling (form.Restart id) old → LeadsTo spelling (λ p. played (replication ghosts spelling) p (ScriptStep.Restart id)) (given_at place (true ∷ [])) old new (record { head = head.Restart id; answer = answer.NewId given number; sent = []; finished = None } ∷ [])
     leads took kinds members decls p m foretold =
         let view_is = view_of spelling kinds members decls p old m in
         let place_now : place_of p.world.view id ≡ place = ap (λ v. place_of v id) (sym view_is) ∙ place_seated (last_view old.views) id place seat in
-        let t = some_told (keeping.table before.keeper) (took before.keeper (ap (keeper_of old.nodes.items old.spare.items) (place_seated (last_view old.views) id place seat) ∙ keeper_was spelling id place old before seat was)) in
+        let t = some_there (keeping.table before.keeper) (took before.keeper (ap (keeper_of old.nodes.items old.spare.items) (place_seated (last_view old.views) id place seat) ∙ keeper_was spelling id place old before seat was)) in
         reaches_did spelling kinds members decls p old m (ScriptStep.Restart id) tt (with_call p (place_of p.world.view id)) new (Event.Restart id) (script.Head.RestartHead id) (new_line (replication ghosts spelling) p id) (given_at place (true ∷ [])) refl refl
-        (does_restart (replication ghosts spelling) p id (ap (λ v. is_member v id) (sym view_is) ∙ able.0) (ap (λ (v : View). nat_lt v.given identity_limit) (sym view_is) ∙ (let room = able.1 in grind (arith, nat_tests))) (ap (next_answer p) place_now ∙ next_is p place true foretold))
+        (does_restart (replication ghosts spelling) p id (ap (λ v. is_member v id) (sym view_is) ∙ able.0) (ap (λ (v : View). nat_lt v.given identity_limit) (sym view_is) ∙ (let room = able.1 in grind (arith, nat_tests))) (ap (next_answer p) place_now ∙ answer_told p place true foretold))
         (λ logs histories s.
         let known = known_there spelling id place old before seat was kinds logs p.world s in
         stands_restarted kinds logs histories p.world view_is s known (well_now (replication ghosts spelling) members decls p m.run id known.node known.runs).keys t.0 t.1)
@@ -220,3 +250,165 @@ module _ {T K Kind Delta : Type 0} {ghosts : Ghosts T Kind Op Delta} {keeping : 
           damaged = λ e. absurd (cc e);
           does = λ took. (λ kinds members decls p m. refl, leads took);
         })
+
+-- WHAT THE STORE HOLDS
+
+module _ {T K Kind Delta : Type 0} {ghosts : Ghosts T Kind Op Delta} {keeping : Keeping K} (spelling : Spelling T Kind Op Delta) (id place : ℕ) (old : World T K Kind Op Delta ghosts keeping) (before : Node T K Kind Op Delta ghosts keeping) (seat : seat_of (last_view old.views) id ≡ Some place) (was : item_at old.nodes.items place ≡ Some before) where
+  pub fit_there : (kinds : Text → Kind) (members : ℕ) (decls : List (KeyDecl Kind)) (p : Playing Kind Op Shown) → Means spelling kinds members decls p old → (logs : Text → History Op) → IsKnownThere spelling id place old before seat was kinds logs p.world
+      → AreFit before.keys.items (last_view old.views).given (with_replaced (last_view old.views) id).given (p.world.stores place)
+  fit_there kinds members decls p m logs known =
+      let keys : p.world.keys ≡ map declared_by before.keys.items = sym (well_now (replication ghosts spelling) members decls p m.run id known.node known.runs).keys ∙ known.stands.keys in
+      let same : (last_view old.views).given ≡ p.world.view.given = ap (λ (v : View). v.given) (view_of spelling kinds members decls p old m) in
+      stores_fit (replication ghosts spelling) members decls p.events p.world m.run before.keys.items keys (last_view old.views).given (with_replaced (last_view old.views) id).given same (omega arith) place
+
+-- THE MEMBER STAYS
+
+-- all but the member at a place is the same
+pub record IsReturned {T K Kind Op Delta : Type 0} {ghosts : Ghosts T Kind Op Delta} {keeping : Keeping K} (place : ℕ) (old new : World T K Kind Op Delta ghosts keeping) : Type 0 where
+  pub views : new.views ≡ old.views
+  pub keys : new.keys ≡ old.keys
+  pub spare : new.spare ≡ old.spare
+  pub links : new.links ≡ old.links
+  pub others : (other : ℕ) → other ≢ place → item_at new.nodes.items other ≡ item_at old.nodes.items other
+
+module _ {T K Kind Delta : Type 0} {ghosts : Ghosts T Kind Op Delta} {keeping : Keeping K} (spelling : Spelling T Kind Op Delta) (alike : (a b : K) → is_some (keeping.table a) ≡ is_some (keeping.table b)) (id place : ℕ) (old new : World T K Kind Op Delta ghosts keeping) (before after : Node T K Kind Op Delta ghosts keeping) (seat : seat_of (last_view old.views) id ≡ Some place) (sound : IsView (last_view old.views))
+    (was : item_at old.nodes.items place ≡ Some before) (is : item_at new.nodes.items place ≡ Some after) (r : IsReturned place old new) (back : ComesBack before after) where
+  keeper_back : keeper_of new.nodes.items new.spare.items place ≡ Some after.keeper
+  keeper_back = ap (λ o. first_keeper o (item_at new.spare.items place)) is
+
+  elsewhere : (q : ℕ) → q ≢ place → keeper_of new.nodes.items new.spare.items q ≡ keeper_of old.nodes.items old.spare.items q
+  elsewhere q apart = ap (λ o. first_keeper o (item_at new.spare.items q)) (r.others q apart) ∙ ap (λ (spare : _). first_keeper (item_at old.nodes.items q) (item_at spare.items q)) r.spare
+
+  member_is : member_of (last_view new.views) new.nodes.items id ≡ Some after
+  member_is = ap (λ vs. member_of (last_view vs) new.nodes.items id) r.views ∙ ap (option_and_then (item_at new.nodes.items)) seat ∙ is
+
+  others_stay : (j : ℕ) → j ≢ id → member_of (last_view new.views) new.nodes.items j ≡ member_of (last_view old.views) old.nodes.items j
+  others_stay j other = ap (λ vs. member_of (last_view vs) new.nodes.items j) r.views ∙ go (seat_of (last_view old.views) j) refl
+    where
+      go : (o : Option ℕ) → seat_of (last_view old.views) j ≡ o → option_and_then (item_at new.nodes.items) o ≡ option_and_then (item_at old.nodes.items) o
+      go None there = refl
+      go (Some q) there = r.others q (λ e. other (seats_apart (last_view old.views) sound j id place (there ∙ ap Some e) seat))
+
+  stands_back : (kinds : Text → Kind) (logs : Text → History Op) (world : worlds.World Kind Op Shown) → StandsForWorld spelling kinds logs old world → StandsForWorld spelling kinds logs new world
+  stands_back kinds logs world s =
+      stands_in spelling kinds logs old new world s world (s.views ∙ sym r.views) refl refl r.keys r.links
+      (running_still spelling kinds logs old new world s id before after back.same (ap (option_and_then (item_at old.nodes.items)) seat ∙ was) member_is others_stay)
+      (stores_still spelling kinds logs old new world s alike place before.keeper after.keeper (keeper_was spelling id place old before seat was) keeper_back back.table elsewhere)
+
+  pub stays_back : Stays spelling old new
+  stays_back kinds members decls p m = record { run = m.run; stands = λ logs through. stands_back kinds logs p.world (m.stands logs through) }
+
+  keeps_so : (answers : List Bool) → Keeps keeping answers before.keeper after.keeper → (q : ℕ) → KeepsAt keeping (given_at place answers q) (keeper_of old.nodes.items old.spare.items q) (keeper_of new.nodes.items new.spare.items q)
+  keeps_so answers keeps = kept_one keeping place answers (keeper_of old.nodes.items old.spare.items) (keeper_of new.nodes.items new.spare.items) before.keeper after.keeper (keeper_was spelling id place old before seat was) keeper_back keeps elsewhere
+
+  table_told : IsSome (keeping.table before.keeper) → IsSome (keeping.table after.keeper)
+  table_told told = sym (alike before.keeper after.keeper) ∙ told
+
+  -- WANT OF MEMORY
+
+  remains_by : (answers : List Bool) → Keeps keeping answers before.keeper after.keeper → Remains spelling (form.Restart id) old new
+  remains_by answers keeps = record { kept = λ q. record { answers = given_at place answers q; keeps = keeps_so answers keeps q }; remains = stays_back }
+
+  pub remains_restart : MayAnswer keeping before.keeper after.keeper → Remains spelling (form.Restart id) old new
+  remains_restart (inl none) = remains_by [] (record { told = becomes_none (keeping.answers before.keeper) (keeping.answers after.keeper) none; counted = (let h = back.later in omega arith); table = table_told })
+  remains_restart (inr one) = remains_by (true ∷ []) (record { told = one; counted = (let h = back.later in omega arith); table = table_told })
+
+  -- THE KEEPER FAILED
+
+  module _ (able : CanReplace (last_view old.views) id) where
+    module _ (refused : IsRefusedLoad before (load.LoadFailed after)) where
+      leads_failed : LeadsTo spelling (λ p. played (replication ghosts spelling) p (ScriptStep.Restart id)) (given_at place (false ∷ [])) old new (record { head = head.Restart id; answer = answer.LoadFailed; sent = []; finished = None } ∷ [])
+      leads_failed kinds members decls p m foretold =
+          let view_is = view_of spelling kinds members decls p old m in
+          let place_now : place_of p.world.view id ≡ place = ap (λ v. place_of v id) (sym view_is) ∙ place_seated (last_view old.views) id place seat in
+          reaches_said spelling kinds members decls p old m (ScriptStep.Restart id) (with_call p (place_of p.world.view id)) new (script.Head.RestartHead id) script.Answer.LoadFailed (given_at place (false ∷ [])) refl refl refl
+          (fails_restart (replication ghosts spelling) p id (ap (λ v. is_member v id) (sym view_is) ∙ able.0) (ap (λ (v : View). nat_lt v.given identity_limit) (sym view_is) ∙ (let room = able.1 in grind (arith, nat_tests))) (ap (next_answer p) place_now ∙ answer_told p place false foretold))
+          (stays_back kinds members decls p m) (head.Restart id) answer.LoadFailed refl refl (subst (λ q. HaveAnswered p (with_call p q) (given_at place (false ∷ []))) (sym place_now) (one_call p place false))
+
+      pub plays_load_failed : (event : Line) → event ≡ record { head = head.Restart id; answer = answer.LoadFailed; sent = []; finished = None } → Plays spelling (form.Restart id) old new (event ∷ [])
+      plays_load_failed event same =
+          subst (λ (e : Line). Plays spelling (form.Restart id) old new (e ∷ [])) (sym same)
+          (record {
+            given = given_at place (false ∷ []);
+            kept = keeps_so (false ∷ []) (record { told = refused.1; counted = refused.2; table = table_told });
+            damaged = λ e. absurd (cc e);
+            does = λ took. (λ kinds members decls p m. refl, leads_failed);
+          })
+
+    -- WHAT IT TOLD IS NOTHING THAT A MEMBER STORED
+
+    module _ (key : Text) (unfit : IsUnfit spelling (last_view old.views).given (with_replaced (last_view old.views) id) key before after) where
+      never : LoadsWhatItTook spelling (form.Restart id) old → (kinds : Text → Kind) (members : ℕ) (decls : List (KeyDecl Kind)) (p : Playing Kind Op Shown) → Means spelling kinds members decls p old → ⊥
+      never took kinds members decls p m =
+          let l = way_logs (replication ghosts spelling) members decls p m.run in
+          let s = m.stands l.0 l.1 in
+          let t = some_there (keeping.table before.keeper) (took before.keeper (ap (keeper_of old.nodes.items old.spare.items) (place_seated (last_view old.views) id place seat) ∙ keeper_was spelling id place old before seat was)) in
+          let known = known_there spelling id place old before seat was kinds l.0 p.world s in
+          unfit.unfit kinds l.0 t.0 (p.world.stores place) t.1 (have_kinds spelling id place old before seat was kinds l.0 p.world known) (spells_there spelling id place old before seat was kinds l.0 p.world s t.0 t.1)
+          (fit_there spelling id place old before seat was kinds members decls p m l.0 known)
+
+      pub plays_damaged : (event : Line) → event ≡ record { head = head.Restart id; answer = answer.Damaged key; sent = []; finished = None } → Plays spelling (form.Restart id) old new (event ∷ [])
+      plays_damaged event same =
+          subst (λ (e : Line). Plays spelling (form.Restart id) old new (e ∷ [])) (sym same)
+          (record {
+            given = given_at place (true ∷ []);
+            kept = keeps_so (true ∷ []) (record { told = unfit.refused.1; counted = (let h = back.later in omega arith); table = table_told });
+            damaged = λ e. record { id = id; restarts = refl; stays = stays_back };
+            does = λ took. (λ kinds members decls p m. absurd (never took kinds members decls p m), λ kinds members decls p m foretold. absurd (never took kinds members decls p m));
+          })
+
+-- NOTHING WAS CALLED
+
+module _ {T K Kind Delta : Type 0} {ghosts : Ghosts T Kind Op Delta} {keeping : Keeping K} (spelling : Spelling T Kind Op Delta) (id : ℕ) (old new : World T K Kind Op Delta ghosts keeping) (same : IsSame old new) where
+  pub plays_gone : seat_of (last_view old.views) id ≡ None → (event : Line) → event ≡ record { head = head.Restart id; answer = answer.Gone; sent = []; finished = None } → Plays spelling (form.Restart id) old new (event ∷ [])
+  plays_gone none event is = plays_told spelling old new same (form.Restart id) (head.Restart id) answer.Gone event is refl (λ kinds members decls p m.
+      let view_is = view_of spelling kinds members decls p old m in
+      (script.Head.RestartHead id, script.Answer.Gone, tells_gone (replication ghosts spelling) p id (ap (λ v. is_member v id) (sym view_is) ∙ no_member (last_view old.views) id none), refl, refl))
+
+  pub plays_many : (is_member (last_view old.views) id ≡ true) × ((last_view old.views).given ≡ identity_limit) → (event : Line) → event ≡ record { head = head.Restart id; answer = answer.TooManyIdentities; sent = []; finished = None } → Plays spelling (form.Restart id) old new (event ∷ [])
+  plays_many many event is = plays_told spelling old new same (form.Restart id) (head.Restart id) answer.TooManyIdentities event is refl (λ kinds members decls p m.
+      let view_is = view_of spelling kinds members decls p old m in (
+        script.Head.RestartHead id,
+        script.Answer.TooManyIdentities,
+        tells_many (replication ghosts spelling) p id (ap (λ v. is_member v id) (sym view_is) ∙ many.0) (ap (λ (v : View). nat_lt v.given identity_limit) (sym view_is) ∙ (let full = many.1 in grind (arith, nat_tests))),
+        refl,
+        refl,
+      ))
+
+-- BY WHAT THE PLACE ANSWERED
+
+-- what stands at the place afterwards
+pub record IsThen {T K Kind Op Delta : Type 0} {ghosts : Ghosts T Kind Op Delta} {keeping : Keeping K} (Does : Node T K Kind Op Delta ghosts keeping → Node T K Kind Op Delta ghosts keeping → Type 0) (place : ℕ) (nodes new : List (Option (Node T K Kind Op Delta ghosts keeping))) (before : Node T K Kind Op Delta ghosts keeping) : Type 0 where
+  pub after : Node T K Kind Op Delta ghosts keeping
+  pub is : item_at new place ≡ Some after
+  pub does : Does before after
+  pub others : (other : ℕ) → other ≢ place → item_at new other ≡ item_at nodes other
+
+module _ {T K Kind Op Delta : Type 0} {ghosts : Ghosts T Kind Op Delta} {keeping : Keeping K} (spelling : Spelling T Kind Op Delta) where
+  pub then_there : (id i : ℕ) (view v : View) (result r : Result (Option Answer) Memory) (place : ℕ) (nodes new : List (Option (Node T K Kind Op Delta ghosts keeping))) (before : Node T K Kind Op Delta ghosts keeping) → id ≡ i → view ≡ v → result ≡ r → item_at nodes place ≡ Some before
+      → ActsAt (Reloads {ghosts = ghosts} {keeping = keeping} spelling id view result) place nodes new → IsThen (Reloads {ghosts = ghosts} {keeping = keeping} spelling i v r) place nodes new before
+  then_there id i view v result r place nodes new before same_id same_view same_result was acts =
+      let a = acts.there before was in
+      record {
+        after = a.0;
+        is = a.1;
+        does =
+            subst (λ x. Reloads {ghosts = ghosts} {keeping = keeping} spelling x v r before a.0) same_id
+            (subst (λ x. Reloads {ghosts = ghosts} {keeping = keeping} spelling id x r before a.0) same_view (subst (λ x. Reloads {ghosts = ghosts} {keeping = keeping} spelling id view x before a.0) same_result a.2));
+        others = λ other apart. ap (option_and_then (λ (o : Option (Node T K Kind Op Delta ghosts keeping)). o)) (acts.others other apart);
+      }
+
+  pub came_back : (id : ℕ) (view : View) (a : Answer) (before after : Node T K Kind Op Delta ghosts keeping) → ReloadsSo spelling id view a before after → ComesBack before after
+  came_back id view answer.LoadFailed before after h = h.0
+  came_back id view (answer.Damaged key) before after h = h.refused.0
+  came_back id view _ before after h = absurd h
+
+  pub same_id : (before after : Node T K Kind Op Delta ghosts keeping) → ComesBack before after → after.id ≡ before.id
+  same_id before after back = ap (λ (n : Node T K Kind Op Delta ghosts keeping). n.id) back.same
+
+module _ {T K Kind Delta : Type 0} {ghosts : Ghosts T Kind Op Delta} {keeping : Keeping K} (spelling : Spelling T Kind Op Delta) (alike : (a b : K) → is_some (keeping.table a) ≡ is_some (keeping.table b)) (id place : ℕ) (old new : World T K Kind Op Delta ghosts keeping) (before after : Node T K Kind Op Delta ghosts keeping) (seat : seat_of (last_view old.views) id ≡ Some place) (sound : IsView (last_view old.views))
+    (able : CanReplace (last_view old.views) id) (was : item_at old.nodes.items place ≡ Some before) (is : item_at new.nodes.items place ≡ Some after) (r : IsReturned place old new) where
+  pub plays_back : (a : Answer) → ReloadsSo spelling (last_view old.views).given (with_replaced (last_view old.views) id) a before after → (event : Line) → event ≡ record { head = head.Restart id; answer = a; sent = []; finished = None } → Plays spelling (form.Restart id) old new (event ∷ [])
+  plays_back answer.LoadFailed h event same = plays_load_failed spelling alike id place old new before after seat sound was is r h.0 able h event same
+  plays_back (answer.Damaged key) h event same = plays_damaged spelling alike id place old new before after seat sound was is r h.refused.0 able key h event same
+  plays_back _ h event same = absurd h

@@ -20,7 +20,6 @@ use Rattle.rd_model.specs.World.Event.{Delivery}
 use Rattle.rd_model.specs.Script as script
 use Rattle.rd_model.specs.Script.{Playing, Head, told, did, given, take_turn, output_lines, with_call, next_answer, deliver, answers_between}
 use Rattle.rd_runs.proofs.Keeping.{if_holds}
-use Rattle.rd_runs.proofs.Playing.{deliver_appends}
 use Rattle.rd_kinds.specs.declared.operation.Op.{Op}
 use Rattle.rd_kinds.specs.declared.shown.Shown.{Shown}
 use Rattle.rd_lattice.specs.declared.replica.Replica.{Ghosts}
@@ -37,33 +36,43 @@ use Rattle.rd_world.specs.Rounds.{Halts}
 use Rattle.rd_world.specs.Steps.{Foretells, Reaches}
 use Rattle.rd_world.specs.Ways.{IsPrefix, Means}
 use Rattle.rd_world.proofs.Onward.{prefix_same, prefix_trans}
-use Rattle.rd_world.proofs.Pairs.{zip_append}
-use Rattle.rd_world.proofs.Unkept.{not_called_at}
+use Rattle.rd_world.proofs.Lists.{zip_append}
+use Rattle.rd_world.proofs.Storing.{not_called_at}
 
 -- THE MODEL
 
-pub record GoesOn {Kind Op Shown : Type 0} (f : Playing Kind Op Shown → Playing Kind Op Shown) : Type 0 where
-  pub answers : (p : Playing Kind Op Shown) → (f p).answers ≡ p.answers
-  pub more : (p : Playing Kind Op Shown) → IsPrefix p.events (f p).events
-
 module _ {Kind Op Shown : Type 0} where
-  pub goes_nowhere : GoesOn {Kind = Kind} {Op = Op} {Shown = Shown} (λ p. p)
-  goes_nowhere = record { answers = λ p. refl; more = λ p. prefix_same p.events }
+  -- a later point of a script, with the same keepers
+  pub record Goes (p q : Playing Kind Op Shown) : Type 0 where
+    pub answers : q.answers ≡ p.answers
+    pub more : IsPrefix p.events q.events
+
+  abbrev pub GoesOn : (Playing Kind Op Shown → Playing Kind Op Shown) → Type 0
+  GoesOn f = (p : Playing Kind Op Shown) → Goes p (f p)
+
+  pub goes_nowhere : GoesOn (λ p. p)
+  goes_nowhere p = record { answers = refl; more = prefix_same p.events }
+
+  pub goes_more : (p q r : Playing Kind Op Shown) → Goes p q → Goes q r → Goes p r
+  goes_more p q r a b = record { answers = b.answers ∙ a.answers; more = prefix_trans p.events q.events r.events a.more b.more }
 
   pub goes_then : (f g : Playing Kind Op Shown → Playing Kind Op Shown) → GoesOn f → GoesOn g → GoesOn (λ p. g (f p))
-  goes_then f g a b = record { answers = λ p. b.answers (f p) ∙ a.answers p; more = λ p. prefix_trans p.events (f p).events (g (f p)).events (a.more p) (b.more (f p)) }
+  goes_then f g a b p = goes_more p (f p) (g (f p)) (a p) (b (f p))
 
   pub goes_fold : {X : Type 0} (step : Playing Kind Op Shown → X → Playing Kind Op Shown) → ((x : X) → GoesOn (λ p. step p x)) → (xs : List X) → GoesOn (λ p. fold step p xs)
-  goes_fold step each [] = goes_nowhere
-  goes_fold step each (x ∷ xs) = goes_then (λ p. step p x) (λ p. fold step p xs) (each x) (goes_fold step each xs)
+  goes_fold step each [] p = goes_nowhere p
+  goes_fold step each (x ∷ xs) p = goes_more p (step p x) (fold step (step p x) xs) (each x p) (goes_fold step each xs (step p x))
 
 module _ {Kind Op Shown : Type 0} (D : Replication Kind Op Shown) (p : Playing Kind Op Shown) where
-  turn_answers : (head : Head Op) (event : Fate → Event Op) (turn : Turn Kind Op Shown) → (take_turn D p head event turn).answers ≡ p.answers
-  turn_answers head event turn = go (nat_lt 0 (length (stores D turn.before turn.input)))
+  told_goes : (head : Head Op) (answer : script.Answer Shown) → Goes p (told p head answer)
+  told_goes head answer = record { answers = refl; more = prefix_same p.events }
+
+  turn_goes : (head : Head Op) (event : Fate → Event Op) (turn : Turn Kind Op Shown) → Goes p (take_turn D p head event turn)
+  turn_goes head event turn = go (nat_lt 0 (length (stores D turn.before turn.input)))
     where
-      go : (b : Bool) → (let fate = if b then (if next_answer p (place_of p.world.view turn.at) then Stored else StoreFailed) else NoStore in did D (if b then with_call p (place_of p.world.view turn.at) else p) (event fate) (output_lines D head (output_of D p.world (event fate)))).answers ≡ p.answers
-      go true = refl
-      go false = refl
+      go : (b : Bool) → Goes p (let fate = if b then (if next_answer p (place_of p.world.view turn.at) then Stored else StoreFailed) else NoStore in did D (if b then with_call p (place_of p.world.view turn.at) else p) (event fate) (output_lines D head (output_of D p.world (event fate))))
+      go true = record { answers = refl; more = (_, refl) }
+      go false = record { answers = refl; more = (_, refl) }
 
   abbrev by_turn : Head Op → (Fate → Event Op) → Option (Turn Kind Op Shown) → Playing Kind Op Shown
   by_turn head event o = elim o [ None ↦ told p head script.Answer.Gone | Some turn ↦ if is_full turn.before then told p head script.Answer.HistoryFull else take_turn D p head event turn ]
@@ -71,22 +80,22 @@ module _ {Kind Op Shown : Type 0} (D : Replication Kind Op Shown) (p : Playing K
   abbrev by_message : ℕ → ℕ → ℕ → Option (Message Op) → Playing Kind Op Shown
   by_message from to index o = elim o [ None ↦ told p (Head.DeliverHead from to index None) script.Answer.NoSuchMessage | Some message ↦ given D p (Head.DeliverHead from to index (Some message)) (Delivery from to index) ]
 
-  given_answers : (head : Head Op) (event : Fate → Event Op) → (given D p head event).answers ≡ p.answers
-  given_answers head event = go (turn_of p.world (event NoStore))
+  pub given_goes : (head : Head Op) (event : Fate → Event Op) → Goes p (given D p head event)
+  given_goes head event = go (turn_of p.world (event NoStore))
     where
-      go : (o : Option (Turn Kind Op Shown)) → (by_turn head event o).answers ≡ p.answers
-      go None = refl
-      go (Some turn) = if_holds (λ (q : Playing Kind Op Shown). q.answers ≡ p.answers) (is_full turn.before) (told p head script.Answer.HistoryFull) (take_turn D p head event turn) refl (turn_answers head event turn)
+      go : (o : Option (Turn Kind Op Shown)) → Goes p (by_turn head event o)
+      go None = told_goes head script.Answer.Gone
+      go (Some turn) = if_holds (Goes p) (is_full turn.before) (told p head script.Answer.HistoryFull) (take_turn D p head event turn) (told_goes head script.Answer.HistoryFull) (turn_goes head event turn)
 
-  deliver_answers : (from to index : ℕ) → (deliver D p from to index).answers ≡ p.answers
-  deliver_answers from to index = if_holds (λ (q : Playing Kind Op Shown). q.answers ≡ p.answers) (is_some (p.world.nodes to)) (by_message from to index (message_at p.world from to index)) (told p (Head.DeliverHead from to index None) script.Answer.Gone) (go (message_at p.world from to index)) refl
+  deliver_goes : (from to index : ℕ) → Goes p (deliver D p from to index)
+  deliver_goes from to index = if_holds (Goes p) (is_some (p.world.nodes to)) (by_message from to index (message_at p.world from to index)) (told p (Head.DeliverHead from to index None) script.Answer.Gone) (go (message_at p.world from to index)) (told_goes (Head.DeliverHead from to index None) script.Answer.Gone)
     where
-      go : (o : Option (Message Op)) → (by_message from to index o).answers ≡ p.answers
-      go None = refl
-      go (Some message) = given_answers (Head.DeliverHead from to index (Some message)) (Delivery from to index)
+      go : (o : Option (Message Op)) → Goes p (by_message from to index o)
+      go None = told_goes (Head.DeliverHead from to index None) script.Answer.NoSuchMessage
+      go (Some message) = given_goes (Head.DeliverHead from to index (Some message)) (Delivery from to index)
 
 pub goes_deliver : {Kind Op Shown : Type 0} (D : Replication Kind Op Shown) (from to index : ℕ) → GoesOn (λ p. deliver D p from to index)
-goes_deliver D from to index = record { answers = λ p. deliver_answers D p from to index; more = λ p. deliver_appends D p from to index }
+goes_deliver D from to index p = deliver_goes D p from to index
 
 -- THE KEEPERS' ANSWERS
 
@@ -174,7 +183,7 @@ module _ {T K Kind Delta : Type 0} {ghosts : Ghosts T Kind Op Delta} {keeping : 
       one = first.leads kinds members decls p m (foretells_first p first.given second.given foretold)
 
       two : Reaches spelling kinds members decls (f p) (g (f p)) second.given c fs
-      two = second.leads kinds members decls (f p) one.means (foretells_second p first.given second.given foretold (f p) (on.answers p) one.calls)
+      two = second.leads kinds members decls (f p) one.means (foretells_second p first.given second.given foretold (f p) (on p).answers one.calls)
 
       both : Reaches spelling kinds members decls p (g (f p)) (given_then first.given second.given) c (es ++ fs)
       both =
@@ -220,7 +229,7 @@ module _ {T K Kind Delta : Type 0} {ghosts : Ghosts T Kind Op Delta} {keeping : 
         kept = λ k. kept_after keeping (keeper_of a.nodes.items a.spare.items k) (keeper_of b.nodes.items b.spare.items k) (keeper_of c.nodes.items c.spare.items k) (kept_does f a b es d k) (stays.kept k);
         stops = record {
           given = d.given;
-          means = λ kinds members decls p m foretold. (f p, stays.stays kinds members decls (f p) (d.leads kinds members decls p m foretold).means, on.more p, until p);
+          means = λ kinds members decls p m foretold. (f p, stays.stays kinds members decls (f p) (d.leads kinds members decls p m foretold).means, (on p).more, until p);
         };
       }
 
@@ -233,8 +242,8 @@ module _ {T K Kind Delta : Type 0} {ghosts : Ghosts T Kind Op Delta} {keeping : 
           given = given_then d.given halts.stops.given;
           means = λ kinds members decls p m foretold.
               let one = d.leads kinds members decls p m (foretells_first p d.given halts.stops.given foretold) in
-              let found = halts.stops.means kinds members decls (f p) one.means (foretells_second p d.given halts.stops.given foretold (f p) (on.answers p) one.calls) in
-              (found.0, found.1, prefix_trans p.events (f p).events found.0.events (on.more p) found.2, prefix_trans found.0.events (g (f p)).events (h p).events found.3 (until p));
+              let found = halts.stops.means kinds members decls (f p) one.means (foretells_second p d.given halts.stops.given foretold (f p) (on p).answers one.calls) in
+              (found.0, found.1, prefix_trans p.events (f p).events found.0.events ((on p).more) found.2, prefix_trans found.0.events (g (f p)).events (h p).events found.3 (until p));
         };
       }
 

@@ -2,79 +2,58 @@
 --     told_full, told_sent, told_blocked        what the lines say
 --     settles_none, settles_then, settles_as, settles_known, settles_does        nothing, one after the other, the same said otherwise, one event
 --     halts_first, halts_second, halts_done, halts_before        memory was wanted in the first, in the second, after all, before all
-use Rattle.std.proofs.Common.{◌≡◌, ℕ, suc, ◌+◌, ◌-◌, List, [], ◌∷◌, ◌++◌, length, length-append, map, refl, sym, ap, ap₂, subst, ◌∙◌, arith, Bool, true, false}
-use Rattle.std.specs.Prelude.{if◌then◌else◌, filter, slice_get, option_map, unwrap_or, sum_by, ◌||◌, Result, Ok, Err, OnOk}
+--     goes_gossips .. goes_installs        what a script does keeps the keepers' answers and adds events
+--     one_called, all_called        a call for each of some identities
+use Rattle.std.proofs.Common.{◌≡◌, ℕ, suc, ◌+◌, ◌-◌, List, [], ◌∷◌, ◌++◌, length, length-append, map, refl, sym, ap, ap₂, subst, ◌∙◌, arith, Bool, true, false, ◌<◌, ◌≤◌, take, get_or}
+use Rattle.std.specs.Prelude.{if◌then◌else◌, filter, slice_get, option_map, unwrap_or, sum_by, ◌||◌, Result, Ok, Err, OnOk, not, ◌==◌, fold, drop}
 use Rattle.std.specs.List.{AllZip, list_any}
-use Rattle.std.proofs.lemmas.List.{length-map}
-use Rattle.std.proofs.lemmas.List.Sums.{sum_by-cons}
+use Rattle.std.proofs.lemmas.List.{length-map, take_all, take_more, take-append-drop}
+use Rattle.std.proofs.lemmas.List.Sums.{sum_by-cons, fold-append}
 use Rattle.rd_history.specs.Texts.{Text}
-use Rattle.rd_model.specs.Node as nodes
-use Rattle.rd_model.specs.Node.{KeyDecl}
-use Rattle.rd_model.specs.Script as script
-use Rattle.rd_model.specs.Script.{Playing, Told, has_met_full, posted, last_answer_blocked, unless_full, is_full_answer, is_blocked, blocked_in_answer, last_of}
 use Rattle.rd_kinds.specs.declared.operation.Op.{Op}
 use Rattle.rd_kinds.specs.declared.shown.Shown.{Shown}
+use Rattle.rd_model.specs.Node as nodes
+use Rattle.rd_model.specs.Script as script
+use Rattle.rd_model.specs.World as worlds
+use Rattle.rd_model.specs.Node.{KeyDecl, Fate, Input}
+use Rattle.rd_model.specs.Script.{Playing, Told, has_met_full, posted, last_answer_blocked, unless_full, is_full_answer, is_blocked, blocked_in_answer, last_of, Head, given, deliver, last_number, deliver_last, exchange, sweep, tick, is_older, install_last}
+use Rattle.rd_model.specs.View.{leader, identities_of, View}
+use Rattle.rd_model.specs.DataType.{Replication}
+use Rattle.rd_model.specs.World.Event.{InputAt}
+use Rattle.rd_runs.proofs.Keeping.{if_holds}
+use Rattle.rd_views.specs.Sound.{last_view}
+use Rattle.rd_keeper.specs.declared.keeper.Keeper.{Ghosts as Keeping}
 use Rattle.rd_lattice.specs.declared.replica.Replica.{Ghosts}
 use Rattle.rd_lattice.specs.declared.spelled.SpelledData.{Ghosts as Spelling}
-use Rattle.rd_keeper.specs.declared.keeper.Keeper.{Ghosts as Keeping}
 use Rattle.rd_node.specs.declared.outcome.KeyOutcome.{KeyOutcome}
 use Rattle.rd_node.specs.Replies.{meant_outcome, meant_at_key}
 use Rattle.rd_node.specs.Steps.{replication}
-use Rattle.rd_world.specs.declared.event.Answer.{Answer}
 use Rattle.rd_world.specs.declared.event.Answer.TheVariants as answer
+use Rattle.rd_world.specs.declared.event.Answer.{Answer}
 use Rattle.rd_world.specs.declared.event.Event.{Event}
 use Rattle.rd_world.specs.declared.world.World.{World}
 use Rattle.rd_world.specs.Giving.{Does, IsAsBefore}
 use Rattle.rd_world.specs.Keeping.{Given}
 use Rattle.rd_world.specs.Lines.{IsLine, IsAnswer, sketched_post}
 use Rattle.rd_world.specs.Places.{keeper_of}
-use Rattle.rd_world.specs.Settling.{is_full, met_full, sent_in, blocked_in, last_blocked, Arrives, Settles, HaltsIn, SettlesOr}
+use Rattle.rd_world.specs.Settling.{is_full, met_full, sent_in, blocked_in, last_blocked, Arrives, Settles, HaltsIn, SettlesOr, gossips, installs, sweeps_twice}
 use Rattle.rd_world.specs.Steps.{Foretells}
 use Rattle.rd_world.specs.Ways.{IsPrefix, Means}
 use Rattle.rd_world.proofs.Onward.{prefix_same, prefix_trans}
-use Rattle.rd_world.proofs.Pairs.{zip_append}
-use Rattle.rd_world.proofs.Sequences.{GoesOn, given_then, foretells_first, foretells_second, kept_then, kept_after}
-use Rattle.rd_world.proofs.Unkept.{not_called_at}
+use Rattle.rd_world.proofs.Lists.{zip_append}
+use Rattle.rd_world.proofs.Sequences.{GoesOn, given_then, foretells_first, foretells_second, kept_then, kept_after, Goes, goes_nowhere, goes_more, goes_then, goes_fold, given_goes, goes_deliver}
+use Rattle.rd_world.proofs.Storing.{not_called_at}
+use Rattle.rd_world.proofs.Telling.{view_of}
 
 -- WHAT THE LINES SAY
 
 answer_full : (a : Answer) (told : script.Answer Shown) → IsAnswer a told → is_full a ≡ is_full_answer told
-answer_full (answer.Reply reply) told is = sym (ap is_full_answer is)
-answer_full answer.Gone told is = sym (ap is_full_answer is)
-answer_full answer.HistoryFull told is = sym (ap is_full_answer is)
-answer_full answer.NoSuchView told is = sym (ap is_full_answer is)
-answer_full answer.NoSuchMessage told is = sym (ap is_full_answer is)
-answer_full answer.Lost told is = sym (ap is_full_answer is)
-answer_full answer.Nothing told is = sym (ap is_full_answer is)
-answer_full (answer.View number) told is = sym (ap is_full_answer is)
-answer_full (answer.NewId id view) told is = sym (ap is_full_answer is)
-answer_full answer.LastMember told is = sym (ap is_full_answer is)
-answer_full answer.PlaceTaken told is = sym (ap is_full_answer is)
-answer_full answer.TooManyIdentities told is = sym (ap is_full_answer is)
-answer_full answer.ClearFailed told is = sym (ap is_full_answer is)
-answer_full answer.LoadFailed told is = sym (ap is_full_answer is)
 answer_full (answer.Damaged key) told is = absurd is
-answer_full (answer.Settled messages blocked) told is = sym (ap is_full_answer is)
-answer_full answer.Stopped told is = sym (ap is_full_answer is)
+answer_full _ told is = sym (ap is_full_answer is)
 
 answer_blocked : (a : Answer) (told : script.Answer Shown) → IsAnswer a told → blocked_in a ≡ blocked_in_answer told
-answer_blocked (answer.Reply reply) told is = sym (ap blocked_in_answer is)
-answer_blocked answer.Gone told is = sym (ap blocked_in_answer is)
-answer_blocked answer.HistoryFull told is = sym (ap blocked_in_answer is)
-answer_blocked answer.NoSuchView told is = sym (ap blocked_in_answer is)
-answer_blocked answer.NoSuchMessage told is = sym (ap blocked_in_answer is)
-answer_blocked answer.Lost told is = sym (ap blocked_in_answer is)
-answer_blocked answer.Nothing told is = sym (ap blocked_in_answer is)
-answer_blocked (answer.View number) told is = sym (ap blocked_in_answer is)
-answer_blocked (answer.NewId id view) told is = sym (ap blocked_in_answer is)
-answer_blocked answer.LastMember told is = sym (ap blocked_in_answer is)
-answer_blocked answer.PlaceTaken told is = sym (ap blocked_in_answer is)
-answer_blocked answer.TooManyIdentities told is = sym (ap blocked_in_answer is)
-answer_blocked answer.ClearFailed told is = sym (ap blocked_in_answer is)
-answer_blocked answer.LoadFailed told is = sym (ap blocked_in_answer is)
 answer_blocked (answer.Damaged key) told is = absurd is
-answer_blocked (answer.Settled messages blocked) told is = sym (ap blocked_in_answer is)
-answer_blocked answer.Stopped told is = sym (ap blocked_in_answer is)
+answer_blocked _ told is = sym (ap blocked_in_answer is)
 
 -- the last of a list is the one at its end
 pub last_there : {X : Type 0} (xs : List X) → last_of xs ≡ slice_get xs (length xs - 1)
@@ -145,7 +124,7 @@ module _ {T K Kind Delta : Type 0} {ghosts : Ghosts T Kind Op Delta} {keeping : 
       led_first = first.leads kinds members decls p m (foretells_first p first.given more foretold) told
 
       pub foretold_next : Foretells (f p) more
-      foretold_next = foretells_second p first.given more foretold (f p) (on.answers p) led_first.calls
+      foretold_next = foretells_second p first.given more foretold (f p) (on p).answers led_first.calls
 
     abbrev pub settles_then : (gs : List Event) → Settles spelling g b c fs gs → Settles spelling (λ p. g (f p)) a c es gs
     settles_then gs second =
@@ -173,7 +152,7 @@ module _ {T K Kind Delta : Type 0} {ghosts : Ghosts T Kind Op Delta} {keeping : 
           means = λ kinds members decls p m foretold told.
               let one = led_first halts.given kinds members decls p m foretold told in
               let found = halts.means kinds members decls (f p) one.means (foretold_next halts.given kinds members decls p m foretold told) one.lines in
-              (found.0, found.1, prefix_trans p.events (f p).events found.0.events (on.more p) found.2, found.3);
+              (found.0, found.1, prefix_trans p.events (f p).events found.0.events (on p).more found.2, found.3);
         }
 
   pub settles_or_then : (f g : Playing Kind Op Shown → Playing Kind Op Shown) (on : GoesOn f) (a b c : World T K Kind Op Delta ghosts keeping) (es fs : List Event) (first : Settles spelling f a b es fs) (gs : List Event) {X E : Type 0} (outcome : Result X E)
@@ -187,7 +166,7 @@ module _ {T K Kind Delta : Type 0} {ghosts : Ghosts T Kind Op Delta} {keeping : 
       record {
         given = s.given;
         kept = λ k. record { answers = s.given k; keeps = s.kept k };
-        means = λ kinds members decls p m foretold told. (f p, (s.leads kinds members decls p m foretold told).means, on.more p, prefix_same (f p).events);
+        means = λ kinds members decls p m foretold told. (f p, (s.leads kinds members decls p m foretold told).means, (on p).more, prefix_same (f p).events);
       }
 
   -- in the first
@@ -198,16 +177,13 @@ module _ {T K Kind Delta : Type 0} {ghosts : Ghosts T Kind Op Delta} {keeping : 
         kept = halts.kept;
         means = λ kinds members decls p m foretold told.
             let found = halts.means kinds members decls p m foretold told in
-            (found.0, found.1, found.2, prefix_trans found.0.events (f p).events (g (f p)).events found.3 (on.more (f p)));
+            (found.0, found.1, found.2, prefix_trans found.0.events (f p).events (g (f p)).events found.3 (on (f p)).more);
       }
 
   -- before all
   pub halts_before : (f : Playing Kind Op Shown → Playing Kind Op Shown) → GoesOn f → (a b : World T K Kind Op Delta ghosts keeping) (es : List Event) → IsAsBefore spelling a b → HaltsIn spelling f a b es
   halts_before f on a b es stays =
-      record { given = λ k. []; kept = stays.kept; means = λ kinds members decls p m foretold told. (p, stays.stays kinds members decls p m, prefix_same p.events, on.more p) }
-
-  pub as_it_was : (a : World T K Kind Op Delta ghosts keeping) → IsAsBefore spelling a a
-  as_it_was a = record { kept = λ k. record { answers = []; keeps = not_called_at keeping (keeper_of a.nodes.items a.spare.items k) }; stays = λ kinds members decls p m. m }
+      record { given = λ k. []; kept = stays.kept; means = λ kinds members decls p m foretold told. (p, stays.stays kinds members decls p m, prefix_same p.events, (on p).more) }
 
   -- the same, said otherwise
   module _ (f g : Playing Kind Op Shown → Playing Kind Op Shown) (a b : World T K Kind Op Delta ghosts keeping) (es : List Event)
@@ -295,3 +271,133 @@ module _ {T K Kind Delta : Type 0} {ghosts : Ghosts T Kind Op Delta} {keeping : 
     pub told_unless : GoesOn f → met_full es ≡ false → (fs : List Event) (event : Event) → Does spelling f a b (event ∷ []) → {X E : Type 0} (pushed : Result X E) → OnOk pushed (fs ≡ es ++ event ∷ []) → SettlesOr spelling (unless_full (replication ghosts spelling) f) a b es fs pushed
     told_unless on room fs event d {X = X} {E = E} (Ok x) is = settles_unless room fs (told_one f on a b es fs event d {X = X} {E = E} (Ok x) is)
     told_unless on room fs event d {X = X} {E = E} (Err e) is = halts_unless room (told_one f on a b es fs event d {X = X} {E = E} (Err e) is)
+
+-- WHAT THE SCRIPT DOES
+
+module _ {Kind Op Shown : Type 0} (D : Replication Kind Op Shown) where
+  pub goes_given : (head : Playing Kind Op Shown → Head Op) (event : Playing Kind Op Shown → Fate → worlds.Event Op) → GoesOn (λ p. given D p (head p) (event p))
+  goes_given head event p = given_goes D p (head p) (event p)
+
+  pub goes_delivery : (from to : ℕ) → GoesOn (λ p. deliver D p from to (last_number p from to))
+  goes_delivery from to p = goes_deliver D from to (last_number p from to) p
+
+  unless_goes : (f : Playing Kind Op Shown → Playing Kind Op Shown) (p : Playing Kind Op Shown) → Goes p (f p) → Goes p (unless_full D f p)
+  unless_goes f p on = if_holds (Goes p) (has_met_full p) p (f p) (goes_nowhere p) on
+
+  pub goes_gossips : (lead i : ℕ) → GoesOn (gossips D lead i)
+  goes_gossips lead i p = unless_goes (λ q. given D q (Head.GossipHead i lead) (InputAt i (Input.GossipTo lead))) p (given_goes D p (Head.GossipHead i lead) (InputAt i (Input.GossipTo lead)))
+
+  pub goes_last : (before from to : ℕ) → GoesOn (deliver_last D before from to)
+  goes_last before from to p =
+      if_holds (Goes p) (before == posted p) p (unless_full D (λ q. deliver D q from to (last_number q from to)) p) (goes_nowhere p) (unless_goes (λ q. deliver D q from to (last_number q from to)) p (goes_delivery from to p))
+
+  module _ (lead i : ℕ) (p : Playing Kind Op Shown) where
+    abbrev pub after_gossip : Playing Kind Op Shown
+    after_gossip = gossips D lead i p
+
+    abbrev pub after_status : Playing Kind Op Shown
+    after_status = deliver_last D (posted p) i lead after_gossip
+
+    abbrev pub after_answer : Playing Kind Op Shown
+    after_answer = deliver_last D (posted after_gossip) lead i after_status
+
+    abbrev after_all : Playing Kind Op Shown
+    after_all = exchange D lead p i
+
+    gossip_goes : Goes p after_gossip
+    gossip_goes = goes_gossips lead i p
+
+    status_goes : Goes after_gossip after_status
+    status_goes = goes_last (posted p) i lead after_gossip
+
+    answer_goes : Goes after_status after_answer
+    answer_goes = goes_last (posted after_gossip) lead i after_status
+
+    entries_go : Goes after_answer after_all
+    entries_go = goes_last (posted after_status) i lead after_answer
+
+    pub on_answer : IsPrefix after_answer.events after_all.events
+    on_answer = entries_go.more
+
+    pub on_status : IsPrefix after_status.events after_all.events
+    on_status = (goes_more after_status after_answer after_all answer_goes entries_go).more
+
+    pub on_gossip : IsPrefix after_gossip.events after_all.events
+    on_gossip = prefix_trans after_gossip.events after_status.events after_all.events status_goes.more on_status
+
+  pub goes_status : (lead i : ℕ) → GoesOn (after_status lead i)
+  goes_status lead i p = goes_more p (after_gossip lead i p) (after_status lead i p) (gossip_goes lead i p) (status_goes lead i p)
+
+  pub goes_answer : (lead i : ℕ) → GoesOn (after_answer lead i)
+  goes_answer lead i p = goes_more p (after_status lead i p) (after_answer lead i p) (goes_status lead i p) (answer_goes lead i p)
+
+  pub goes_exchange : (lead i : ℕ) → GoesOn (λ p. exchange D lead p i)
+  goes_exchange lead i p = goes_more p (after_answer lead i p) (after_all lead i p) (goes_answer lead i p) (entries_go lead i p)
+
+  pub goes_sweep : GoesOn (sweep D)
+  goes_sweep p = goes_fold (exchange D (leader p.world.view)) (goes_exchange (leader p.world.view)) (filter (λ i. not (i == leader p.world.view)) (identities_of p.world.view)) p
+
+  pub goes_sweeps_twice : GoesOn (sweeps_twice D)
+  goes_sweeps_twice = goes_then (sweep D) (sweep D) goes_sweep goes_sweep
+
+  pub goes_tick : GoesOn (tick D)
+  goes_tick p = unless_goes (λ q. given D q (Head.TickHead (leader q.world.view)) (InputAt (leader q.world.view) Input.PruneTick)) p (given_goes D p (Head.TickHead (leader p.world.view)) (InputAt (leader p.world.view) Input.PruneTick))
+
+  pub goes_install : (i : ℕ) → GoesOn (λ p. install_last D p i)
+  goes_install i p =
+      if_holds (Goes p) (is_older D p.world.view (p.world.nodes i)) (unless_full D (λ q. given D q (Head.InstallHead i p.world.view.number) (InputAt i (Input.Install p.world.view))) p) p
+      (unless_goes (λ q. given D q (Head.InstallHead i p.world.view.number) (InputAt i (Input.Install p.world.view))) p (given_goes D p (Head.InstallHead i p.world.view.number) (InputAt i (Input.Install p.world.view)))) (goes_nowhere p)
+
+  pub goes_installs : GoesOn (installs D)
+  goes_installs p = goes_fold (install_last D) goes_install (identities_of p.world.view) p
+
+-- A CALL FOR EACH
+
+module _ {Kind Op Shown : Type 0} (step : Playing Kind Op Shown → ℕ → Playing Kind Op Shown) (xs : List ℕ) where
+  -- the first so many calls
+  abbrev pub called_for : ℕ → Playing Kind Op Shown → Playing Kind Op Shown
+  called_for k p = fold step p (take k xs)
+
+  -- with the next one
+  next_call : (k x : ℕ) → k < length xs → x ≡ get_or xs k x → (p : Playing Kind Op Shown) → step (called_for k p) x ≡ called_for (k + 1) p
+  next_call k x within is p = sym (ap (fold step p) (take_more xs k x within ∙ ap (λ (y : ℕ). take k xs ++ y ∷ []) (sym is)) ∙ fold-append step p (take k xs) (x ∷ []))
+
+  -- and the others
+  last_calls : (k : ℕ) (p : Playing Kind Op Shown) → fold step (called_for k p) (drop k xs) ≡ fold step p xs
+  last_calls k p = sym (ap (fold step p) (sym (take-append-drop k xs)) ∙ fold-append step p (take k xs) (drop k xs))
+
+module _ {T K Kind Delta : Type 0} {ghosts : Ghosts T Kind Op Delta} {keeping : Keeping K} (spelling : Spelling T Kind Op Delta) (step : Playing Kind Op Shown → ℕ → Playing Kind Op Shown) (each : (x : ℕ) → GoesOn (λ p. step p x)) (xs : List ℕ) (a : World T K Kind Op Delta ghosts keeping) (es : List Event) where
+  pub none_called : Settles spelling (called_for step xs 0) a a es es
+  none_called = settles_none spelling a es
+
+  module _ (k x : ℕ) (within : k < length xs) (is : x ≡ get_or xs k x) (b c : World T K Kind Op Delta ghosts keeping) (fs : List Event) (so_far : Settles spelling (called_for step xs k) a b es fs) where
+    pub one_called : (gs : List Event) → Settles spelling (λ p. step p x) b c fs gs → Settles spelling (called_for step xs (k + 1)) a c es gs
+    one_called gs s =
+        settles_as spelling (λ p. step (called_for step xs k p) x) (called_for step xs (k + 1)) a c es (λ kinds members decls p m told. next_call step xs k x within is p) gs
+        (settles_then spelling (called_for step xs k) (λ p. step p x) (goes_fold step each (take k xs)) a b c es fs so_far gs s)
+
+    pub halts_call : HaltsIn spelling (λ p. step p x) b c fs → HaltsIn spelling (λ p. fold step p xs) a c es
+    halts_call halts =
+        halts_so spelling (λ p. fold step (called_for step xs (k + 1) p) (drop (k + 1) xs)) (λ p. fold step p xs) a c es (λ kinds members decls p m told. last_calls step xs (k + 1) p)
+        (halts_first spelling (called_for step xs (k + 1)) (λ p. fold step p (drop (k + 1) xs)) (goes_fold step each (drop (k + 1) xs)) a c es
+        (halts_so spelling (λ p. step (called_for step xs k p) x) (called_for step xs (k + 1)) a c es (λ kinds members decls p m told. next_call step xs k x within is p)
+        (halts_second spelling (called_for step xs k) (λ p. step p x) (goes_fold step each (take k xs)) a b c es fs so_far halts)))
+
+  pub all_called : (k : ℕ) (b : World T K Kind Op Delta ghosts keeping) (fs : List Event) → length xs ≤ k → Settles spelling (called_for step xs k) a b es fs → Settles spelling (λ p. fold step p xs) a b es fs
+  all_called k b fs past s = settles_as spelling (called_for step xs k) (λ p. fold step p xs) a b es (λ kinds members decls p m told. ap (fold step p) (take_all k xs past)) fs s
+
+-- ALL MEMBERS, AND ALL BUT THE LEADER
+
+module _ {T K Kind Delta : Type 0} {ghosts : Ghosts T Kind Op Delta} {keeping : Keeping K} (spelling : Spelling T Kind Op Delta) (a : World T K Kind Op Delta ghosts keeping) (xs : List ℕ) where
+  abbrev D : Replication Kind Op Shown
+  D = replication ghosts spelling
+
+  pub installs_are : xs ≡ identities_of (last_view a.views) → (kinds : Text → Kind) (members : ℕ) (decls : List (KeyDecl Kind)) (p : Playing Kind Op Shown) → Means spelling kinds members decls p a → fold (install_last D) p xs ≡ installs D p
+  installs_are are kinds members decls p m = ap (fold (install_last D) p) (are ∙ ap identities_of (view_of spelling kinds members decls p a m))
+
+  abbrev swept_by : Playing Kind Op Shown → ℕ → List ℕ → Playing Kind Op Shown
+  swept_by p lead ids = fold (exchange D lead) p (filter (λ i. not (i == lead)) ids)
+
+  pub sweep_is : (lead : ℕ) → lead ≡ leader (last_view a.views) → xs ≡ filter (λ i. not (i == lead)) (identities_of (last_view a.views)) → (kinds : Text → Kind) (members : ℕ) (decls : List (KeyDecl Kind)) (p : Playing Kind Op Shown) → Means spelling kinds members decls p a → fold (exchange D lead) p xs ≡ sweep D p
+  sweep_is lead leads are kinds members decls p m =
+      ap (fold (exchange D lead) p) are ∙ ap (λ l. swept_by p l (identities_of (last_view a.views))) leads ∙ ap (λ (v : View). swept_by p (leader v) (identities_of v)) (view_of spelling kinds members decls p a m)

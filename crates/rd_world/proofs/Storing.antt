@@ -1,40 +1,66 @@
--- What a keeper's table spells after a step: the entries that were put, and the others as before.
+-- What keepers tell, and what their tables spell.
+--     not_called, becomes_told        keepers that were not called, and those that were
 --     NamesApart        entries of different keys
 --     IsFine        an entry of a key's kind that can be spelled and read again
 --     store_stands        after a step the table, if it is told, is that of the model's store
-use Rattle.std.proofs.Common.{◌≡◌, ◌≢◌, ℕ, zero, suc, List, [], ◌∷◌, map, refl, sym, ap, subst, ◌∙◌, arith, Bool, true, false, Option, Some, None}
-use Rattle.std.specs.Prelude.{All, Any, if◌then◌else◌, filter, slice_get, is_some}
+--     tells_nothing        keepers that forgot all, and stores without an entry
+use Rattle.std.proofs.Common.{◌≡◌, true, false, List, [], ◌++◌, Option, Some, None, refl, sym, ap, ◌∙◌, arith, ◌≢◌, ℕ, zero, suc, ◌∷◌, map, subst, Bool}
+use Rattle.std.specs.Prelude.{is_some, All, Any, if◌then◌else◌, filter, slice_get}
 use Rattle.std.specs.List.{AllByRecursion}
 use Rattle.std.specs.Str.{bytes_eq}
 use Rattle.std.specs.declared.cmp.Ordering.{Ordering}
 use Rattle.std.specs.declared.cmp.Ordering.TheVariants.{Less, Equal, Greater}
 use Rattle.std.specs.Ordering.{match_ordering}
-use Rattle.std.proofs.lemmas.List.Elements.{All-cons, All-head, All-tail}
+use Rattle.std.proofs.lemmas.List.Elements.{All-cons, All-head, All-tail, All-nil}
 use Rattle.rd_bytes.specs.TextOrder.{text_order, IsBelowAll}
 use Rattle.rd_bytes.proofs.TextLaws.{order_less, order_equal, order_greater, lt_trans, lt_never, eq_texts, texts_eq}
 use Rattle.rd_history.specs.Texts.{Text, text_lt}
 use Rattle.rd_history.specs.History.{History}
-use Rattle.rd_runs.proofs.Sending.{all_filtered}
+use Rattle.rd_history.proofs.HistoryLaws.{append_nothing}
+use Rattle.rd_kinds.specs.declared.shown.Shown.{Shown}
+use Rattle.rd_model.specs.Node as nodes
 use Rattle.rd_model.specs.Entry.{Entry}
 use Rattle.rd_model.specs.Message.{Keyed}
-use Rattle.rd_model.specs.Node as nodes
 use Rattle.rd_model.specs.Node.{KeyDecl, keyed_entry, state_of}
-use Rattle.rd_model.specs.World.{Store, with_stored, after_store}
-use Rattle.rd_kinds.specs.declared.shown.Shown.{Shown}
-use Rattle.rd_lattice.specs.declared.replica.Replica.{Ghosts}
-use Rattle.rd_lattice.specs.declared.spelled.SpelledData.{Ghosts as Spelling}
+use Rattle.rd_model.specs.World.{Store, with_stored, after_store, no_entries}
+use Rattle.rd_runs.proofs.Sending.{all_filtered}
 use Rattle.rd_keeper.specs.declared.keeper.Keeper.{Ghosts as Keeping}
-use Rattle.rd_keeper.specs.declared.stored.Stored.{Stored}
 use Rattle.rd_keeper.specs.Calls.{Becomes}
+use Rattle.rd_keeper.specs.declared.stored.Stored.{Stored}
 use Rattle.rd_keeper.specs.Tables.{Table, IsTable, put, put_all, keys_of}
 use Rattle.rd_keeper.proofs.Orders.{table_put, table_put_all}
-use Rattle.rd_node.specs.declared.reply.Fate.{Fate}
+use Rattle.rd_lattice.specs.declared.replica.Replica.{Ghosts}
+use Rattle.rd_lattice.specs.declared.spelled.SpelledData.{Ghosts as Spelling}
 use Rattle.rd_node.specs.declared.reply.Fate.TheVariants as fate
+use Rattle.rd_node.specs.declared.reply.Fate.{Fate}
 use Rattle.rd_node.specs.Keys.{AreDistinct}
 use Rattle.rd_node.specs.Replies.{meant_fate}
 use Rattle.rd_node.specs.Steps.{KeepsTable}
-use Rattle.rd_node.specs.Stores.{spelled_entry, IsKept, SpellsEntry, SpellsStore}
+use Rattle.rd_node.specs.Stores.{spelled_entry, IsKept as IsKeptEntry, SpellsEntry, SpellsStore}
+use Rattle.rd_node.proofs.Standing.{becomes_same}
+use Rattle.rd_world.specs.Keeping.{Keeps, KeepsAt, IsKept, IsCleared}
 use Rattle.rd_world.specs.Standing.{TellsStore}
+
+-- answers that were told stay, with none more
+pub becomes_none : {X : Type 0} (old new : Option (List X)) → Becomes old new (λ told. told) → Becomes old new (λ before. before ++ [])
+becomes_none None new b = tt
+becomes_none (Some xs) new b = b ∙ ap Some (sym (append_nothing xs))
+
+-- what is told after a call was told before it
+pub becomes_told : {X : Type 0} (old new : Option X) (change : X → X) (x : X) → is_some old ≡ is_some new → Becomes old new change → new ≡ Some x → (y : X) × (old ≡ Some y) × (x ≡ change y)
+becomes_told None new change x alike h e = absurd (let now : false ≡ true = alike ∙ ap is_some e in cc)
+becomes_told (Some y) new change x alike h e = (y, refl, let same : Some x ≡ Some (change y) = sym e ∙ h in cc)
+
+module _ {K : Type 0} (keeping : Keeping K) where
+  pub not_called : (keeper : K) → Keeps keeping [] keeper keeper
+  not_called keeper = record { told = becomes_none (keeping.answers keeper) (keeping.answers keeper) (becomes_same (keeping.answers keeper)); counted = omega arith; table = λ told. told }
+
+  pub not_called_at : (keeper : Option K) → KeepsAt keeping [] keeper keeper
+  not_called_at None = refl
+  not_called_at (Some keeper) = not_called keeper
+
+  pub kept_same : (keeper : Option K) → IsKept keeping keeper keeper
+  kept_same keeper = record { answers = []; keeps = not_called_at keeper }
 
 -- TABLES
 
@@ -167,7 +193,7 @@ module _ {T Kind Op Delta : Type 0} (ghosts : Ghosts T Kind Op Delta) (spelling 
 
   pub record IsFine (k : nodes.KeyState Kind Op) : Type 0 where
     pub kind : kinds k.name ≡ k.kind
-    pub kept : IsKept ghosts spelling k.kind (logs k.name) k.entry
+    pub kept : IsKeptEntry ghosts spelling k.kind (logs k.name) k.entry
 
   one_put : (k : nodes.KeyState Kind Op) → IsFine k → (table : Table) (store : Store Op) → IsTable table → Spells table store → Spells (put table (spelled_entry spelling k)) (with_stored (keyed_entry k ∷ []) store)
   one_put k fine table store sorted s =
@@ -185,7 +211,7 @@ module _ {T Kind Op Delta : Type 0} (ghosts : Ghosts T Kind Op Delta) (spelling 
               entry = k.entry;
               has = stored_here k.name (keyed_entry k) [] store refl;
               bytes = ap (λ (kind : Kind). (spelled_entry spelling (record k { kind = kind })).bytes) (sym fine.kind);
-              kept = subst (λ (kind : Kind). IsKept ghosts spelling kind (logs k.name) k.entry) (sym fine.kind) fine.kept;
+              kept = subst (λ (kind : Kind). IsKeptEntry ghosts spelling kind (logs k.name) k.entry) (sym fine.kind) fine.kept;
             })
             table sorted s.each;
         all = λ key entry there. eq_or k.name key (Any (λ stored. stored.key ≡ key) (put table e))
@@ -200,25 +226,28 @@ module _ {T Kind Op Delta : Type 0} (ghosts : Ghosts T Kind Op Delta) (spelling 
       (all_stored ks apart.1 (All-tail IsFine k ks fine) (put table (spelled_entry spelling k)) (with_stored (keyed_entry k ∷ []) store) (table_put table (spelled_entry spelling k) sorted) (one_put k (All-head IsFine k ks fine) table store sorted s))
 
   module _ {K : Type 0} (keeping : Keeping K) (alike : (a b : K) → is_some (keeping.table a) ≡ is_some (keeping.table b)) where
-    -- a told table was told before, and is what it has become
-    pub told_table : (old new : K) (change : Table → Table) (table : Table) → Becomes (keeping.table old) (keeping.table new) change → keeping.table new ≡ Some table → (before : Table) × (keeping.table old ≡ Some before) × (table ≡ change before)
-    told_table old new change table becomes is = go (keeping.table old) refl becomes
-      where
-        go : (o : Option Table) → keeping.table old ≡ o → Becomes o (keeping.table new) change → (before : Table) × (keeping.table old ≡ Some before) × (table ≡ change before)
-        go None untold b = let p : ◌≡◌ {A = Bool} true false = ap is_some (sym is) ∙ alike new old ∙ ap is_some untold in absurd (cc p)
-        go (Some before) told b = let same : ◌≡◌ {A = Option Table} (Some table) (Some (change before)) = sym is ∙ b in (before, told, cc same)
-
     pub store_stays : (old new : K) (store : Store Op) → Becomes (keeping.table old) (keeping.table new) (λ table. table) → TellsStore ghosts keeping spelling kinds logs (Some old) store → TellsStore ghosts keeping spelling kinds logs (Some new) store
     store_stays old new store becomes tells = λ table is.
-        let t = told_table old new (λ (table : Table). table) table becomes is in
+        let t = becomes_told (keeping.table old) (keeping.table new) (λ (table : Table). table) table (alike old new) becomes is in
         subst (λ (x : Table). IsTable x × Spells x store) (sym t.2) (tells t.0 t.1)
 
     pub store_stands : (done : Fate) (ks : List (nodes.KeyState Kind Op)) (old new : K) (store : Store Op) → KeepsTable spelling keeping done ks old new → NamesApart ks → All IsFine ks
         → TellsStore ghosts keeping spelling kinds logs (Some old) store → TellsStore ghosts keeping spelling kinds logs (Some new) (after_store (meant_fate done) (map keyed_entry ks) store)
     store_stands fate.NoStore ks old new store keeps apart fine tells = store_stays old new store keeps tells
     store_stands fate.Stored ks old new store keeps apart fine tells = λ table is.
-        let t = told_table old new (λ (table : Table). put_all table (map (spelled_entry spelling) ks)) table keeps is in
+        let t = becomes_told (keeping.table old) (keeping.table new) (λ (table : Table). put_all table (map (spelled_entry spelling) ks)) table (alike old new) keeps is in
         let before = tells t.0 t.1 in
         subst (λ (x : Table). IsTable x × Spells x (with_stored (map keyed_entry ks) store)) (sym t.2)
         (table_put_all t.0 (map (spelled_entry spelling) ks) before.0, all_stored ks apart fine t.0 store before.0 before.1)
     store_stands fate.StoreFailed ks old new store keeps apart fine tells = store_stays old new store keeps tells
+
+-- KEEPERS THAT FORGOT ALL
+
+module _ {T K Kind Op Delta : Type 0} (ghosts : Ghosts T Kind Op Delta) (keeping : Keeping K) (spelling : Spelling T Kind Op Delta) (kinds : Text → Kind) (logs : Text → History Op) where
+  pub spells_nothing : SpellsStore ghosts spelling kinds logs [] no_entries
+  spells_nothing = record { each = All-nil (SpellsEntry ghosts spelling kinds logs no_entries); all = λ key entry e. absurd (cc e) }
+
+  pub tells_nothing : ((a b : K) → is_some (keeping.table a) ≡ is_some (keeping.table b)) → (before keeper : K) → IsCleared keeping before keeper → TellsStore ghosts keeping spelling kinds logs (Some keeper) no_entries
+  tells_nothing alike before keeper cleared = λ table told.
+      let was = becomes_told (keeping.table before) (keeping.table keeper) (λ t. []) table (alike before keeper) cleared.table told in
+      (subst (λ t. IsTable t) (sym was.2) tt, subst (λ t. SpellsStore ghosts spelling kinds logs t no_entries) (sym was.2) spells_nothing)

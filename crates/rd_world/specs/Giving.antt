@@ -3,8 +3,8 @@
 --     ChangesAt        the member at one place is changed, and of the rest at most the links
 --     Gives, Hands        no member has the identity, or the member is full, or it made its step
 --     Refuses        memory was wanted
---     Does, IsAsBefore        what a call of one event does to a world, and what it leaves after want of memory
-use Rattle.std.specs.Prelude.{◌≡◌, ℕ, ◌<◌, false, List, [], length, set, Some, None}
+--     Does, IsAsBefore, DoesOr        what a call of one event does to a world, and what it leaves after want of memory
+use Rattle.std.specs.Prelude.{◌≡◌, ℕ, ◌<◌, false, List, [], ◌∷◌, length, set, Some, None, Result, MatchResult}
 use Rattle.rd_lattice.specs.declared.replica.Replica.{Ghosts}
 use Rattle.rd_lattice.specs.declared.spelled.SpelledData.{Ghosts as Spelling}
 use Rattle.rd_keeper.specs.declared.keeper.Keeper.{Ghosts as Keeping}
@@ -93,6 +93,10 @@ module _ {T K Kind Delta : Type 0} {ghosts : Ghosts T Kind Op Delta} {keeping : 
   pub record IsAsBefore (old new : World T K Kind Op Delta ghosts keeping) : Type 0 where
     pub kept : (place : ℕ) → IsKept keeping (keeper_of old.nodes.items old.spare.items place) (keeper_of new.nodes.items new.spare.items place)
     pub stays : Stays spelling old new
+
+  -- the one with this event, or for want of memory the other
+  abbrev pub DoesOr : {Refusal : Type 0} → (Playing Kind Op Shown → Playing Kind Op Shown) → (old new : World T K Kind Op Delta ghosts keeping) → Result Event Refusal → Type 0
+  DoesOr goes old new result = MatchResult result (λ event. Does goes old new (event ∷ [])) (λ _. IsAsBefore old new)
 
 -- the script delivers the message of a number
 abbrev pub delivers : {T Kind Delta : Type 0} → Ghosts T Kind Op Delta → Spelling T Kind Op Delta → (from to index : ℕ) → Playing Kind Op Shown → Playing Kind Op Shown

@@ -1,10 +1,15 @@
 -- What a member holds of an identity that was pruned.
 --     IsHeld        the envelope that a running member holds of a key
 --     IsWithout        an envelope that has a prune of an identity, and nothing else of it
-use Rattle.std.specs.Prelude.{◌≡◌, ℕ, true, false, Some, slice_get}
+--     NeverReturns        an identity that a member has pruned, on the way of a script
+use Rattle.std.specs.Prelude.{◌≡◌, ℕ, List, true, false, Some, slice_get}
 use Rattle.rd_history.specs.Texts.{Text}
+use Rattle.rd_model.specs.Node as nodes
+use Rattle.rd_model.specs.Script.{Playing}
+use Rattle.rd_kinds.specs.declared.shown.Shown.{Shown}
 use Rattle.rd_vectors.specs.Vectors.{number_at}
 use Rattle.rd_lattice.specs.declared.replica.Replica.{Ghosts}
+use Rattle.rd_lattice.specs.declared.spelled.SpelledData.{Ghosts as Spelling}
 use Rattle.rd_keeper.specs.declared.keeper.Keeper.{Ghosts as Keeping}
 use Rattle.rd_markers.specs.Marks.{performed_in}
 use Rattle.rd_envelope.specs.declared.envelope.Envelope.{Envelope}
@@ -13,6 +18,7 @@ use Rattle.rd_node.specs.declared.key.KeyState.{KeyState}
 use Rattle.rd_node.specs.declared.node.Node.{Node}
 use Rattle.rd_world.specs.declared.world.World.{World}
 use Rattle.rd_world.specs.Places.{member_of}
+use Rattle.rd_world.specs.Ways.{IsPrefix, Means}
 
 module _ {T K Kind Op Delta : Type 0} {ghosts : Ghosts T Kind Op Delta} {keeping : Keeping K} where
   pub record IsHeld (world : World T K Kind Op Delta ghosts keeping) (id : ℕ) (key : Text) (envelope : Envelope T Kind Op Delta) : Type 0 where
@@ -33,3 +39,9 @@ pub record IsWithout {T Kind Op Delta : Type 0} (ghosts : Ghosts T Kind Op Delta
   pub pruned : HasPruned removed envelope
   pub uncounted : number_at envelope.versions removed ≡ 0
   pub unmentioned : ghosts.mentioned envelope.value removed ≡ false
+
+-- on the way of a script, once a running member has a prune of an identity at a key, each later envelope of the key there is without it
+abbrev pub NeverReturns : {T K Kind Op Delta : Type 0} {ghosts : Ghosts T Kind Op Delta} {keeping : Keeping K} → Spelling T Kind Op Delta → (earlier later : World T K Kind Op Delta ghosts keeping) → Type 0
+NeverReturns {T} {K} {Kind} {Op} {Delta} {ghosts} spelling earlier later =
+    (kinds : Text → Kind) (members : ℕ) (decls : List (nodes.KeyDecl Kind)) (p q : Playing Kind Op Shown) → Means spelling kinds members decls p earlier → Means spelling kinds members decls q later → IsPrefix p.events q.events
+    → (id removed : ℕ) (key : Text) (before after : Envelope T Kind Op Delta) → IsHeld earlier id key before → HasPruned removed before → IsHeld later id key after → IsWithout ghosts removed after

@@ -3,7 +3,8 @@
 --     delivered_upto        the messages of a link up to a number are delivered
 --     DoesMore        a call went on, and told more events
 --     Halts        memory was wanted on the way
-use Rattle.std.specs.Prelude.{◌≡◌, ℕ, ◌-◌, List, [], ◌∷◌, ◌++◌, Option, fold, flat_map, map, nat_lt, if◌then◌else◌}
+--     DoesMoreOr        the one or the other
+use Rattle.std.specs.Prelude.{◌≡◌, ℕ, ◌-◌, List, [], ◌∷◌, ◌++◌, Option, fold, flat_map, map, nat_lt, if◌then◌else◌, Result, MatchResult}
 use Rattle.std.specs.List.{range_with_len}
 use Rattle.rd_model.specs.View.{View, identities_of}
 use Rattle.rd_model.specs.Script as script
@@ -59,3 +60,7 @@ module _ {T K Kind Delta : Type 0} {ghosts : Ghosts T Kind Op Delta} {keeping : 
   pub record Halts (goes : Playing Kind Op Shown → Playing Kind Op Shown) (old new : World T K Kind Op Delta ghosts keeping) : Type 0 where
     pub kept : (place : ℕ) → IsKept keeping (keeper_of old.nodes.items old.spare.items place) (keeper_of new.nodes.items new.spare.items place)
     pub stops : Stops spelling goes old new
+
+  -- the one, or for want of memory the other
+  abbrev pub DoesMoreOr : {X Refusal : Type 0} → (Playing Kind Op Shown → Playing Kind Op Shown) → (old new : World T K Kind Op Delta ghosts keeping) → (before after : List Event) → Result X Refusal → Type 0
+  DoesMoreOr goes old new before after result = MatchResult result (λ _. DoesMore goes old new before after) (λ _. Halts goes old new)

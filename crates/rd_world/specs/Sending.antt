@@ -1,10 +1,11 @@
 -- A member's step, whose messages go to the ends of its links.
 --     HasRoom        links that take so many messages more without memory
 --     receivers, most_posts, AreFew        whom a step for an input sends to, and how many messages at most
+--     IsAppended, AreAppended, AppendsPosts        a message, or posts, at the ends of a member's channels
 --     Sends        each message of a member goes to the end of its channel
 --     IsStepOnRow, IsStepOnLinks, TakesOnLinks        a member makes a step of its contract, and what it says is sent and told
 --     IsToldAs        the event of what a member answered
-use Rattle.std.specs.Prelude.{◌≡◌, ℕ, ◌+◌, ◌≤◌, List, map, filter, length, option_map, slice_get, Some, Vec, vec_len, vec_capacity, ◌==◌, if◌then◌else◌, true, [], None, Result, Ok, Err}
+use Rattle.std.specs.Prelude.{◌≡◌, ℕ, ◌+◌, ◌≤◌, List, map, filter, length, option_map, slice_get, Some, Vec, vec_len, vec_capacity, ◌==◌, if◌then◌else◌, true, [], ◌∷◌, None, Result, Ok, Err}
 use Rattle.std.specs.List.{list_all}
 use Rattle.std.specs.declared.alloc.Global.{Global}
 use Rattle.rd_history.specs.Vector.{IdentitySet}
@@ -30,17 +31,30 @@ use Rattle.rd_world.specs.declared.event.Event.{Event}
 use Rattle.rd_world.specs.declared.event.Head.{Head}
 use Rattle.rd_world.specs.declared.event.SentTo.{SentTo}
 use Rattle.rd_world.specs.declared.sending.Answered.{Answered}
-use Rattle.rd_world.specs.Channels.{Channel, Channels, channel_at, message_on, extended}
+use Rattle.rd_world.specs.Channels.{Channel, Channels, channel_at, message_on, row_of, extended}
 
 module _ {M : Type 0} where
   -- each link of a member to one of these can take so many messages without memory
   abbrev pub HasRoom : IdentitySet → ℕ → Vec (Link M) Global → Type 0
   HasRoom ids room row = (k : ℕ) (link : Link M) → ids k ≡ true → slice_get row.items k ≡ Some link → vec_len link.messages + room ≤ vec_capacity link.messages
 
+  -- the message is the last on the channel to a member, and the other channels stay
+  abbrev pub IsAppended : ℕ → M → (old new : List (Channel M)) → Type 0
+  IsAppended to message old new = (b : ℕ) → slice_get new b ≡ (if b == to then option_map (extended (message ∷ [])) (slice_get old b) else slice_get old b)
+
 module _ {T Kind Op Delta : Type 0} {ghosts : Ghosts T Kind Op Delta} where
   -- the messages that go to a member
   abbrev pub messages_to : List (Post T Kind Op Delta ghosts) → ℕ → List (Message T Kind Op Delta ghosts)
   messages_to posts to = map (λ (post : Post T Kind Op Delta ghosts). post.message) (filter (λ (post : Post T Kind Op Delta ghosts). post.to == to) posts)
+
+  -- each message is at the end of the channel to its member
+  abbrev pub AreAppended : List (Post T Kind Op Delta ghosts) → (old new : List (Channel (Message T Kind Op Delta ghosts))) → Type 0
+  AreAppended posts old new = (b : ℕ) → slice_get new b ≡ option_map (extended (messages_to posts b)) (slice_get old b)
+
+  -- so it is where the links to all of these members have room
+  abbrev pub AppendsPosts : List (Post T Kind Op Delta ghosts) → (old new : Vec (Link (Message T Kind Op Delta ghosts)) Global) → Type 0
+  AppendsPosts posts old new =
+      (ids : IdentitySet) (room : ℕ) → HasRoom ids room old → length posts ≤ room → list_all (λ (post : Post T Kind Op Delta ghosts). ids post.to) posts ≡ true → AreAppended posts (row_of old) (row_of new)
 
   -- what is told of a post
   abbrev pub told_of : Post T Kind Op Delta ghosts → SentTo
@@ -87,7 +101,7 @@ module _ {T K Kind Op Delta : Type 0} {ghosts : Ghosts T Kind Op Delta} {keeping
     pub fate : Fate
     pub posts : List (Post T Kind Op Delta ghosts)
     pub makes : IsStepOf spelling before input fate (record { reply = answered.reply; posts = posts; finished = answered.finished }) after
-    pub sends : AreFew before.view input posts → (b : ℕ) → slice_get new b ≡ option_map (extended (messages_to posts b)) (slice_get old b)
+    pub sends : AreFew before.view input posts → AreAppended posts old new
     pub tells : AreFew before.view input posts → answered.sent ≡ map told_of posts
 
   pub record IsStepOnLinks (before : Node T K Kind Op Delta ghosts keeping) (input : Input T Kind Op Delta ghosts) (answered : Answered) (after : Node T K Kind Op Delta ghosts keeping) (from : ℕ) (old new : Channels (Message T Kind Op Delta ghosts)) : Type 0 where

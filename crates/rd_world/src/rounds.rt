@@ -1,8 +1,8 @@
-ghost use Rattle.std.specs.Prelude.{◌≡◌, ◌++◌, ℕ, IfOk, OnOk, MatchResult};
+ghost use Rattle.std.specs.Prelude.{◌≡◌, ◌++◌, IfOk, OnOk, MatchResult};
 ghost use Rattle.rd_model.specs.View.{identities_of};
 ghost use Rattle.rd_views.specs.Sound.{AreViews, last_view};
 ghost use Rattle.rd_script.specs.declared.script.Step.TheVariants as form;
-ghost use Rattle.rd_world.specs.Rounds.{dues_from, dues_of, delivers_due, DoesMore, Halts};
+ghost use Rattle.rd_world.specs.Rounds.{dues_from, dues_of, delivers_due, DoesMoreOr};
 ghost use Rattle.rd_world.specs.Steps.{Plays, Remains};
 
 use crate::event::{Answer, Events, Head};
@@ -75,7 +75,7 @@ impl<T: SpelledData<Op = Op>, K: Keeper + Drop> World<T, K> {
 
     /// Delivers what is due on a link, and adds the events.
     fn deliver_due(&mut self, due: Due, events: &mut Events) -> Result<(), Memory>
-        ensures { MatchResult result (λ _. DoesMore T.SpelledData.own (delivers_due T.Replica T.SpelledData.own due) self.old self.new events.old events.new) (λ _. Halts T.SpelledData.own (delivers_due T.Replica T.SpelledData.own due) self.old self.new) }
+        ensures { DoesMoreOr T.SpelledData.own (delivers_due T.Replica T.SpelledData.own due) self.old self.new events.old events.new result }
     {
         for index in due.first..due.end {
             let event = self.deliver(due.from, due.to, index)?;

@@ -1,11 +1,10 @@
-ghost use Rattle.std.specs.Prelude.{◌≡◌, ℕ, ◌+◌, ◌≤◌, ◌++◌, ◌∷◌, [], true, length, map, is_some, option_map, slice_get, ◌==◌, if◌then◌else◌, OnOk, OnErr, IfOk, MatchResult, Err, vec_len, vec_capacity};
-ghost use Rattle.std.specs.List.{list_all};
+ghost use Rattle.std.specs.Prelude.{◌≡◌, ℕ, ◌+◌, ◌≤◌, ◌++◌, [], true, length, map, is_some, ◌==◌, OnOk, OnErr, IfOk, MatchResult, Err, vec_len, vec_capacity};
 ghost use Rattle.rd_history.specs.Vector.{IdentitySet};
 ghost use Rattle.rd_model.specs.View.{is_member};
 ghost use Rattle.rd_node.specs.declared.reply.StepError.TheVariants as failed;
 ghost use Rattle.rd_node.specs.Steps.{IsUnchanged};
-ghost use Rattle.rd_world.specs.Channels.{channel_at, message_on, row_of, extended};
-ghost use Rattle.rd_world.specs.Sending.{HasRoom, messages_to, told_of, receivers, most_posts, IsToldAs, IsStepOnRow, IsStepOnLinks, TakesOnLinks};
+ghost use Rattle.rd_world.specs.Channels.{channel_at, message_on, row_of};
+ghost use Rattle.rd_world.specs.Sending.{HasRoom, IsAppended, AppendsPosts, told_of, receivers, most_posts, IsToldAs, IsStepOnRow, IsStepOnLinks, TakesOnLinks};
 
 use crate::event::{Answer, Event, Head, SentTo, Sketches};
 use crate::links::{Link, Links, message_in};
@@ -76,8 +75,7 @@ fn make_room<T: Replica>(
 
 /// Puts a message at the end of the link to a member.
 fn append<M: Drop>(row: &mut Vec<Link<M>>, to: usize, message: M)
-    ensures sent { (ids : IdentitySet) (room : ℕ) → HasRoom ids (room + 1) row.old → ids to ≡ true
-        → (b : ℕ) → slice_get (row_of row.new) b ≡ (if b == to then option_map (extended (message ∷ [])) (slice_get (row_of row.old) b) else slice_get (row_of row.old) b) }
+    ensures sent { (ids : IdentitySet) (room : ℕ) → HasRoom ids (room + 1) row.old → ids to ≡ true → IsAppended to message (row_of row.old) (row_of row.new) }
     ensures room { (ids : IdentitySet) (room : ℕ) → HasRoom ids (room + 1) row.old → HasRoom ids room row.new }
 {
     if to < row.len() {
@@ -88,8 +86,7 @@ fn append<M: Drop>(row: &mut Vec<Link<M>>, to: usize, message: M)
 
 /// Puts posts at the ends of their links, and tells them.
 fn send<T: Replica>(row: &mut Vec<Link<Message<T>>>, posts: Vec<Post<T>>, sent: &mut Vec<SentTo>)
-    ensures row { (ids : IdentitySet) (room : ℕ) → HasRoom ids room row.old → length posts.items ≤ room → list_all (λ post. ids post.to) posts.items ≡ true
-        → (b : ℕ) → slice_get (row_of row.new) b ≡ option_map (extended (messages_to posts.items b)) (slice_get (row_of row.old) b) }
+    ensures row { AppendsPosts posts.items row.old row.new }
     ensures told { vec_len sent.old + length posts.items ≤ vec_capacity sent.old → sent.new.items ≡ sent.old.items ++ map told_of posts.items }
 {
     for post in posts {
@@ -124,8 +121,7 @@ fn posted<T: Replica>(
 ) -> Answered
     ensures reply { result.reply ≡ output.reply }
     ensures finished { result.finished ≡ output.finished }
-    ensures row { (ids : IdentitySet) (room : ℕ) → HasRoom ids room row.old → length output.posts ≤ room → list_all (λ post. ids post.to) output.posts ≡ true
-        → (b : ℕ) → slice_get (row_of row.new) b ≡ option_map (extended (messages_to output.posts b)) (slice_get (row_of row.old) b) }
+    ensures row { AppendsPosts output.posts row.old row.new }
     ensures told { sent.items ≡ [] → length output.posts ≤ vec_capacity sent → result.sent ≡ map told_of output.posts }
 {
     let Output {

@@ -1,5 +1,4 @@
-ghost use Rattle.std.specs.Prelude.{◌≡◌, ℕ, ◌+◌, ◌<◌, ◌≤◌, ◌++◌, ◌∷◌, List, [], map, length, vec_len, vec_capacity, option_copied, option_to_list, MatchResult, None, true, is_some};
-ghost use Rattle.rd_model.specs.Script.{IsStep};
+ghost use Rattle.std.specs.Prelude.{◌≡◌, ◌+◌, ◌<◌, ◌≤◌, ◌++◌, ◌∷◌, [], map, vec_len, vec_capacity, option_copied, option_to_list, MatchResult, None, true, is_some};
 ghost use Rattle.rd_node.specs.Members.{AreDistinct};
 ghost use Rattle.rd_views.specs.Sound.{last_view};
 ghost use Rattle.rd_world.specs.declared.event.Head.TheVariants as head;
@@ -134,7 +133,7 @@ impl<T: SpelledData, K: Keeper + Drop> World<T, K> {
 }
 
 impl<T: SpelledData<Op = Op>, K: Keeper + Drop> World<T, K> {
-    ghost use Rattle.rd_world.specs.Giving.{Gives, Hands, Refuses, Does, IsAsBefore, delivers};
+    ghost use Rattle.rd_world.specs.Giving.{Gives, Hands, Refuses, delivers, DoesOr};
     ghost use Rattle.rd_world.specs.Steps.{Plays, MakesStep};
     ghost use Rattle.rd_script.specs.declared.script.Step.TheVariants as form;
 
@@ -186,7 +185,7 @@ impl<T: SpelledData<Op = Op>, K: Keeper + Drop> World<T, K> {
 
     /// Hands the message of this number to its receiver. A message may be handed over any number of times.
     pub(crate) fn deliver(&mut self, from: Id, to: Id, index: usize) -> Result<Event, Memory>
-        ensures { MatchResult result (λ event. Does T.SpelledData.own (delivers T.Replica T.SpelledData.own from to index) self.old self.new (event ∷ [])) (λ _. IsAsBefore T.SpelledData.own self.old self.new) }
+        ensures { DoesOr T.SpelledData.own (delivers T.Replica T.SpelledData.own from to index) self.old self.new result }
     {
         if !self.views.last().contains(to) {
             return Ok(undelivered(self.alloc, from, to, index, Answer::Gone));

@@ -1,8 +1,7 @@
-use Rattle.std.proofs.Common.{◌≡◌, [], ◌∷◌, ◌++◌, sym, ap, ◌∙◌}
-use Rattle.std.proofs.lemmas.List.{append-nil}
+use Rattle.std.proofs.Common.{◌≡◌, [], ◌∷◌, ◌++◌, sym, ap, ◌∙◌, append-nil}
 use Rattle.rd_messages.specs.declared.message.Message.TheVariants.{Nack, Gossip}
 use Rattle.rd_node.specs.Answers.{nack_of, gossip_of}
-use Rattle.rd_node.proofs.Replying.{empty_is, nack_so, gossip_so}
+use Rattle.rd_node.proofs.Sendings.{empty_is, nack_so, gossip_so}
 use Rattle.rd_node.proofs.answering.answers.Goals as goal
 use Rattle.rd_node.proofs.answering.answers.Goals.{then-not-is_empty+in_ok-keys+in_ok-push, else-not-is_empty, then-not-is_empty-2+in_ok-push-2, else-not-is_empty-2}
 

@@ -1,6 +1,5 @@
-use Rattle.std.proofs.Common.{◌≡◌, ℕ, take}
-use Rattle.std.specs.Prelude.{map}
-use Rattle.rd_messages.specs.declared.message.Keyed.{Keyed}
+use Rattle.std.proofs.Common.{◌≡◌, ℕ, take, map}
+use Rattle.rd_node.proofs.Common.{Keyed}
 use Rattle.rd_node.proofs.answering.keys_of.Given as goal
 
 abbrev pub invariant-loop-gap : goal.invariant-loop-gap

@@ -1,15 +1,8 @@
-use Rattle.std.proofs.Common.{◌≡◌, ◌++◌, ◌∷◌, [], sym, ap, ◌∙◌, subst, arith, take, take_all, true, false}
-use Rattle.std.specs.Prelude.{◌&&◌}
+use Rattle.std.proofs.Common.{◌≡◌, ◌++◌, ◌∷◌, [], sym, ap, ◌∙◌, subst, arith, take, take_all, true, false, ◌&&◌}
 use Rattle.std.specs.List.{AllZip}
-use Rattle.rd_model.specs.Entry.{has_records}
-use Rattle.rd_model.specs.Node.{state_of, keyed_entry}
-use Rattle.rd_messages.specs.declared.message.Keyed.{Keyed}
-use Rattle.rd_envelope.specs.declared.envelope.Envelope.{Envelope}
-use Rattle.rd_messages.specs.Standing.{StandsForKeyed}
-use Rattle.rd_node.specs.Keys.{declared_by}
-use Rattle.rd_node.specs.Replies.{delta_groups}
+use Rattle.rd_node.proofs.Common.{has_records, state_of, keyed_entry, Keyed, Envelope, StandsForKeyed, declared_by, delta_groups}
 use Rattle.rd_node.proofs.Lists.{one_more, zip_push}
-use Rattle.rd_node.proofs.Naming.{named_of, named_all, named_one, named_none, is_asked, entry_now, keyed_now}
+use Rattle.rd_node.proofs.Takings.{named_of, named_all, named_one, named_none, is_asked, entry_now, keyed_now}
 use Rattle.rd_node.proofs.answering.named.Goals as goal
 use Rattle.rd_node.proofs.answering.named.Goals.{then-contains+then-has_records+in_ok-key+in_ok-item+in_ok-push, else-contains, else-contains-via-then-contains+else-has_records, else-contains-via-else-contains}
 

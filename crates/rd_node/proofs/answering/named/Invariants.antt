@@ -1,15 +1,9 @@
 use Rattle.std.proofs.Common.{ℕ, List, take}
 use Rattle.std.specs.List.{AllZip}
-use Rattle.rd_history.specs.Texts.{Text}
-use Rattle.rd_history.specs.History.{History}
+use Rattle.rd_node.proofs.Common.{Text, History, Shown, StandsForKeyed, AreMade, delta_groups, IsKept, AreHeld, IsAtWork}
 use Rattle.rd_model.specs.Entry.{Entry}
 use Rattle.rd_model.specs.Node.{Node as Member}
-use Rattle.rd_kinds.specs.declared.shown.Shown.{Shown}
-use Rattle.rd_messages.specs.Standing.{StandsForKeyed}
-use Rattle.rd_node.specs.Changes.{AreMade}
-use Rattle.rd_node.specs.Replies.{delta_groups}
-use Rattle.rd_node.specs.Taking.{IsKept, AreHeld, IsAtWork}
-use Rattle.rd_node.proofs.Naming.{named_of}
+use Rattle.rd_node.proofs.Takings.{named_of}
 use Rattle.rd_node.proofs.answering.named.Given as goal
 
 abbrev pub invariant-loop-index : goal.invariant-loop-index

@@ -1,5 +1,4 @@
-use Rattle.std.proofs.Common.{◌≡◌, take}
-use Rattle.std.specs.Prelude.{map}
+use Rattle.std.proofs.Common.{◌≡◌, take, map}
 use Rattle.rd_node.specs.declared.change.Change.TheVariants.{Same}
 use Rattle.rd_node.proofs.change.unchanged.Given as goal
 

@@ -1,6 +1,6 @@
 use Rattle.std.proofs.Common.{◌≡◌, ◌<◌, ◌+◌, ◌≤◌, length, take, get_or, refl, sym, ap, ◌∙◌, subst, arith, vec_len, length-set}
-use Rattle.rd_node.specs.Changes.{changed}
-use Rattle.rd_node.proofs.Written.{still_unwritten, written_more, last_left, rest_left}
+use Rattle.rd_node.proofs.Common.{changed}
+use Rattle.rd_node.proofs.Lists.{still_unwritten, written_more, last_left, rest_left}
 use Rattle.rd_node.proofs.change.write_all.Goals as goal
 
 pub loop-change-preserved : goal.loop-change-preserved

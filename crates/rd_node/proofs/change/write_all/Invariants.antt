@@ -1,8 +1,5 @@
-use Rattle.std.proofs.Common.{◌≡◌, ℕ, ◌<◌, ◌≤◌, length, take, vec_len}
-use Rattle.std.specs.Prelude.{slice_index_or}
-use Rattle.rd_node.specs.declared.key.KeyState.{KeyState}
-use Rattle.rd_node.specs.declared.change.Change.{Change}
-use Rattle.rd_node.specs.Changes.{changed}
+use Rattle.std.proofs.Common.{◌≡◌, ℕ, ◌<◌, ◌≤◌, length, take, vec_len, slice_index_or}
+use Rattle.rd_node.proofs.Common.{KeyState, Change, changed}
 use Rattle.rd_node.proofs.change.write_all.Given as goal
 
 -- those from the end back are written

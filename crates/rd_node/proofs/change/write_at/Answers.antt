@@ -1,5 +1,5 @@
 use Rattle.std.proofs.Common.{set, sym, ap, ◌∙◌}
-use Rattle.rd_node.specs.Changes.{changed}
+use Rattle.rd_node.proofs.Common.{changed}
 use Rattle.rd_node.proofs.change.write_at.Goals as goal
 
 pub returns : goal.returns

@@ -1,5 +1,4 @@
-use Rattle.std.proofs.Common.{sym, ap, ◌∙◌, Some, None}
-use Rattle.std.specs.Prelude.{if◌then◌else◌}
+use Rattle.std.proofs.Common.{sym, ap, ◌∙◌, Some, None, if◌then◌else◌}
 use Rattle.rd_node.proofs.counting.copy_with_records.Goals as goal
 
 pub returns-then-not-has_records : goal.returns-then-not-has_records

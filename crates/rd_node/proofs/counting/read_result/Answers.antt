@@ -1,8 +1,7 @@
-use Rattle.std.proofs.Common.{sym, ap, ◌∙◌, Some, None}
-use Rattle.std.specs.Prelude.{if◌then◌else◌}
+use Rattle.std.proofs.Common.{sym, ap, ◌∙◌, Some, None, if◌then◌else◌}
+use Rattle.rd_node.proofs.Common.{delta_groups}
 use Rattle.rd_model.specs.Node.{Result as Meant}
 use Rattle.rd_model.specs.Step.{read_result}
-use Rattle.rd_node.specs.Replies.{delta_groups}
 use Rattle.rd_node.proofs.counting.read_result.Goals as goal
 
 pub returns-then-not-has_records : goal.returns-then-not-has_records

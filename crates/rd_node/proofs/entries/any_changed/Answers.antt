@@ -1,10 +1,7 @@
-use Rattle.std.proofs.Common.{not, sym, ap, ◌∙◌, subst₂, arith, take_all}
-use Rattle.std.specs.Prelude.{◌||◌}
+use Rattle.std.proofs.Common.{not, sym, ap, ◌∙◌, subst₂, arith, take_all, ◌||◌}
 use Rattle.std.specs.List.{list_any}
 use Rattle.std.proofs.lemmas.List.Folds.{list_any_at, list_any_more}
-use Rattle.rd_model.specs.Entry.{is_unchanged}
-use Rattle.rd_node.specs.declared.key.KeyState.{KeyState}
-use Rattle.rd_node.specs.Taking.{LeadsTo}
+use Rattle.rd_node.proofs.Common.{is_unchanged, KeyState, LeadsTo}
 use Rattle.rd_node.proofs.entries.any_changed.Goals as goal
 
 pub returns-then-is_changed : goal.returns-then-is_changed

@@ -1,10 +1,7 @@
 use Rattle.std.proofs.Common.{◌≡◌, false, not, take}
 use Rattle.std.specs.List.{list_any}
-use Rattle.rd_history.specs.Texts.{Text}
-use Rattle.rd_history.specs.History.{History}
-use Rattle.rd_model.specs.Entry.{Entry, is_unchanged}
-use Rattle.rd_node.specs.Changes.{AreMade}
-use Rattle.rd_node.specs.Taking.{LeadsTo}
+use Rattle.rd_node.proofs.Common.{Text, History, is_unchanged, AreMade, LeadsTo}
+use Rattle.rd_model.specs.Entry.{Entry}
 use Rattle.rd_node.proofs.entries.any_changed.Given as goal
 
 abbrev pub invariant-loop-index : goal.invariant-loop-index

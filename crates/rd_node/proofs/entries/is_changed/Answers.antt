@@ -1,8 +1,6 @@
 use Rattle.std.proofs.Common.{sym, ap, subst, not}
-use Rattle.rd_envelope.specs.Images.{StandsFor}
-use Rattle.rd_envelope.specs.Words.{parts_of}
-use Rattle.rd_node.specs.Taking.{LeadsTo}
-use Rattle.rd_node.proofs.Working.{changed_to}
+use Rattle.rd_node.proofs.Common.{StandsFor, parts_of, LeadsTo}
+use Rattle.rd_node.proofs.Takings.{changed_to}
 use Rattle.rd_node.proofs.entries.is_changed.Goals as goal
 
 pub returns-in-Entry : goal.returns-in-Entry

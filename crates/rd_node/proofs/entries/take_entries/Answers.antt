@@ -1,16 +1,10 @@
 use Rattle.std.proofs.Common.{[], ◌∷◌, sym, ap, ◌∙◌, subst, arith, take, take_all}
 use Rattle.std.proofs.lemmas.List.Sums.{fold-append}
-use Rattle.rd_history.specs.Log.{IsTakenFrom}
+use Rattle.rd_node.proofs.Common.{IsTakenFrom, take_entry, after_entries, Shown, StandsForKeyed, IsEntryPassedOver, TellsEntries, AreExactAt, IsAtWork}
 use Rattle.rd_model.specs.Node.{Node as Member}
-use Rattle.rd_model.specs.Step.{take_entry, after_entries}
-use Rattle.rd_kinds.specs.declared.shown.Shown.{Shown}
-use Rattle.rd_messages.specs.Standing.{StandsForKeyed}
-use Rattle.rd_node.specs.Inputs.{IsEntryPassedOver, TellsEntries}
-use Rattle.rd_node.specs.Taking.{AreExactAt, IsAtWork}
 use Rattle.rd_node.proofs.Lists.{one_more}
-use Rattle.rd_node.proofs.Telling.{tells_none, tells_last}
-use Rattle.rd_node.proofs.Telling.TellsLast.{last_told, last_passed}
-use Rattle.rd_node.proofs.Takings.{exact_before}
+use Rattle.rd_node.proofs.Takings.{tells_none, tells_last, exact_before}
+use Rattle.rd_node.proofs.Takings.TellsLast.{last_told, last_passed}
 use Rattle.rd_node.proofs.entries.take_entries.Goals as goal
 
 pub loop-keyed-init : goal.loop-keyed-init

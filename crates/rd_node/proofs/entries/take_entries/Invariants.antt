@@ -1,15 +1,8 @@
 use Rattle.std.proofs.Common.{List, take}
-use Rattle.rd_history.specs.Texts.{Text}
-use Rattle.rd_history.specs.History.{History}
+use Rattle.rd_node.proofs.Common.{Text, History, after_entries, Shown, AreOfTheirKinds, TellsEntries, AreMade, IsKept, AreHeld, AreExactAt, IsAtWork}
 use Rattle.rd_model.specs.Entry.{Entry}
 use Rattle.rd_model.specs.Message as sending
 use Rattle.rd_model.specs.Node.{Node as Member}
-use Rattle.rd_model.specs.Step.{after_entries}
-use Rattle.rd_kinds.specs.declared.shown.Shown.{Shown}
-use Rattle.rd_node.specs.Own.{AreOfTheirKinds}
-use Rattle.rd_node.specs.Inputs.{TellsEntries}
-use Rattle.rd_node.specs.Changes.{AreMade}
-use Rattle.rd_node.specs.Taking.{IsKept, AreHeld, AreExactAt, IsAtWork}
 use Rattle.rd_node.proofs.entries.take_entries.Given as goal
 
 -- whatever is taken later, it is exactly pruned at the end

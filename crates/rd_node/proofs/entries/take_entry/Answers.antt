@@ -1,11 +1,34 @@
-use Rattle.std.proofs.Common.{sym, ap, ◌∙◌, subst}
-use Rattle.std.specs.Prelude.{if◌then◌else◌}
-use Rattle.rd_model.specs.Entry.{merged, seen_by}
-use Rattle.rd_envelope.specs.Images.{StandsFor}
-use Rattle.rd_envelope.specs.Words.{parts_of}
-use Rattle.rd_node.proofs.Strange.{strange_is}
+use Rattle.std.proofs.Common.{sym, ap, ◌∙◌, subst, if◌then◌else◌, ◌≡◌, ℕ, false, inl, inr, nat_lt, ◌||◌}
+use Rattle.std.proofs.lemmas.Bool.{cases_Bool}
+use mathlib.Core.Bool.{or-true, or-false}
+use Rattle.rd_node.proofs.Common.{uncleaned, VersionVector, IdentitySet, History, at, versions, seen_by, number_at, performed_in, StandsFor, Parts, parts_of}
+use Rattle.rd_history.specs.History.{is_pruned}
+use Rattle.rd_model.specs.Entry as model
+use Rattle.rd_model.specs.Entry.{merged}
+use Rattle.rd_model.specs.Step.{is_entry_passed_over}
+use Rattle.rd_envelope.proofs.Entries.{pruned_is}
 use Rattle.rd_node.proofs.entries.take_entry.Goals as goal
 use Rattle.rd_node.proofs.entries.take_entry.Goals.{then-is_strange-via-then-is_strange, then-is_strange-via-else-is_strange+then-not-same_kind}
+
+-- ENTRIES
+
+module _ {State Op : Type 0} (D : State → History Op → VersionVector → IdentitySet → Type 0) where
+  -- an entry is strange where the envelopes say so
+  strange_is : (one two : Parts State) (log : History Op) (before other : model.Entry Op) (id : ℕ) → performed_in one.marks id ≡ false → StandsFor D one log before → StandsFor D two log other
+      → (performed_in two.marks id || nat_lt (number_at one.versions id) (number_at two.versions id)) ≡ is_entry_passed_over id before other
+  strange_is one two log before other id unpruned s t =
+      let pruned : performed_in two.marks id ≡ is_pruned other.history id = pruned_is D two log other.history t.histories t.taken t.holds id in
+      let mine : number_at one.versions id ≡ at before.history id = s.holds.numbers id ∙ uncleaned (performed_in one.marks) (versions before.history) id unpruned in
+      elim (cases_Bool (performed_in two.marks id)) [
+        | inl gone ↦
+            ap (λ b. b || nat_lt (number_at one.versions id) (number_at two.versions id)) gone
+            ∙ sym (ap (λ b. nat_lt (at before.history id) (at other.history id) || b) (sym pruned ∙ gone) ∙ or-true (nat_lt (at before.history id) (at other.history id)))
+        | inr stays ↦
+            let theirs : number_at two.versions id ≡ at other.history id = t.holds.numbers id ∙ uncleaned (performed_in two.marks) (versions other.history) id stays in
+            ap (λ b. b || nat_lt (number_at one.versions id) (number_at two.versions id)) stays
+            ∙ (λ i. nat_lt (mine i) (theirs i))
+            ∙ sym (ap (λ b. nat_lt (at before.history id) (at other.history id) || b) (sym pruned ∙ stays) ∙ or-false (nat_lt (at before.history id) (at other.history id)))
+      ]
 
 pub returns-then-is_strange-clause-image : goal.returns-then-is_strange-clause-image
 returns-then-is_strange-clause-image g c = λ log before other unpruned kinds s t exact.

@@ -1,7 +1,6 @@
-use Rattle.std.proofs.Common.{subst}
-use Rattle.std.specs.Prelude.{map, IfOk}
-use Rattle.rd_model.specs.Step.{gossip_to, news_for}
-use Rattle.rd_messages.specs.Standing.{digest_told, StandsForPosts}
+use Rattle.std.proofs.Common.{subst, map, IfOk}
+use Rattle.rd_node.proofs.Common.{gossip_to, digest_told, StandsForPosts}
+use Rattle.rd_model.specs.Step.{news_for}
 use Rattle.rd_node.proofs.gossip.answer.Goals as goal
 
 pub returns-clause-image : goal.returns-clause-image

@@ -1,15 +1,8 @@
-use Rattle.std.proofs.Common.{◌≡◌, sym, ap, ◌∙◌, subst}
-use Rattle.std.specs.Prelude.{map, ◌&&◌, ◌||◌, not, is_some}
-use Rattle.rd_model.specs.Entry.{has_records}
-use Rattle.rd_model.specs.Node.{state_of}
+use Rattle.std.proofs.Common.{◌≡◌, sym, ap, ◌∙◌, subst, map, ◌&&◌, ◌||◌, not, is_some}
+use Rattle.rd_node.proofs.Common.{has_records, state_of, StandsFor, parts_of, entry_digest, digest_told, declared_by}
 use Rattle.rd_model.specs.Step.{digest_of, named_digest}
-use Rattle.rd_envelope.specs.Images.{StandsFor}
-use Rattle.rd_envelope.specs.Words.{parts_of}
-use Rattle.rd_envelope_codec.specs.Entries.{entry_digest}
-use Rattle.rd_messages.specs.Standing.{digest_told}
-use Rattle.rd_node.specs.Keys.{declared_by}
 use Rattle.rd_node.specs.Gossip.{is_told, is_alike}
-use Rattle.rd_node.proofs.Gossiping.{told_named, is_told_is, digest_is}
+use Rattle.rd_node.proofs.Sendings.{told_named, is_told_is, digest_is}
 use Rattle.rd_node.proofs.gossip.compare.Goals as goal
 
 pub returns : goal.returns

@@ -1,17 +1,11 @@
-use Rattle.std.proofs.Common.{◌≡◌, ◌++◌, ◌∷◌, [], sym, ap, ◌∙◌, subst, arith, take, take_all}
-use Rattle.std.specs.Prelude.{map}
+use Rattle.std.proofs.Common.{◌≡◌, ◌++◌, ◌∷◌, [], sym, ap, ◌∙◌, subst, arith, take, take_all, map}
 use Rattle.std.proofs.lemmas.List.{map-append}
-use Rattle.rd_model.specs.Entry.{has_records}
+use Rattle.rd_node.proofs.Common.{has_records, state_of, StandsFor, parts_of, digest_told, declared_by, HoldsKey}
 use Rattle.rd_model.specs.Message.{Message}
-use Rattle.rd_model.specs.Node.{state_of}
 use Rattle.rd_model.specs.Step.{digest_of}
-use Rattle.rd_envelope.specs.Images.{StandsFor}
-use Rattle.rd_envelope.specs.Words.{parts_of}
-use Rattle.rd_messages.specs.Standing.{digest_told}
-use Rattle.rd_node.specs.Keys.{declared_by}
-use Rattle.rd_node.specs.Gossip.{HoldsKey, digests_of}
+use Rattle.rd_node.specs.Gossip.{digests_of}
 use Rattle.rd_node.proofs.Lists.{one_more}
-use Rattle.rd_node.proofs.Gossiping.{chosen_one, chosen_none, states_are, digest_is}
+use Rattle.rd_node.proofs.Sendings.{chosen_one, chosen_none, states_are, digest_is}
 use Rattle.rd_node.proofs.gossip.digests.Goals as goal
 use Rattle.rd_node.proofs.gossip.digests.Goals.{then-has_records+in_ok-key+in_ok-item+in_ok-push, else-has_records}
 

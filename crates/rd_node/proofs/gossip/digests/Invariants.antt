@@ -1,14 +1,7 @@
-use Rattle.std.proofs.Common.{◌≡◌, take}
-use Rattle.std.specs.Prelude.{map, All}
-use Rattle.rd_history.specs.Texts.{Text}
-use Rattle.rd_history.specs.History.{History}
-use Rattle.rd_model.specs.DataType.{Replication}
-use Rattle.rd_model.specs.Node.{Node as Member, state_of}
-use Rattle.rd_kinds.specs.declared.shown.Shown.{Shown}
-use Rattle.rd_envelope_codec.specs.Entries.{entry_digest}
-use Rattle.rd_messages.specs.Standing.{digest_told}
-use Rattle.rd_node.specs.Keys.{declared_by}
-use Rattle.rd_node.specs.Gossip.{HoldsKey, digests_of}
+use Rattle.std.proofs.Common.{◌≡◌, take, map, All}
+use Rattle.rd_node.proofs.Common.{Text, History, Replication, state_of, Shown, entry_digest, digest_told, declared_by, HoldsKey}
+use Rattle.rd_model.specs.Node.{Node as Member}
+use Rattle.rd_node.specs.Gossip.{digests_of}
 use Rattle.rd_node.proofs.gossip.digests.Given as goal
 
 abbrev pub invariant-loop-state : goal.invariant-loop-state

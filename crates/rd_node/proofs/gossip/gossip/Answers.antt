@@ -1,7 +1,6 @@
 use Rattle.std.proofs.Common.{sym, ◌∙◌, subst}
-use Rattle.rd_model.specs.Step.{gossip_to}
-use Rattle.rd_messages.specs.Standing.{StandsForPosts}
-use Rattle.rd_node.proofs.Gossiping.{nothing_stands, gossip_stands, one_pushed}
+use Rattle.rd_node.proofs.Common.{gossip_to, StandsForPosts}
+use Rattle.rd_node.proofs.Sendings.{nothing_stands, gossip_stands, one_pushed}
 use Rattle.rd_node.proofs.gossip.gossip.Goals as goal
 
 pub returns-then-is_nothing-clause-image : goal.returns-then-is_nothing-clause-image

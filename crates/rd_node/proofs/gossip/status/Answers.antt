@@ -1,7 +1,7 @@
 use Rattle.std.proofs.Common.{refl}
-use Rattle.rd_model.specs.Step.{answer_to, status_of}
-use Rattle.rd_messages.specs.Standing.{StandsForPosts}
-use Rattle.rd_node.proofs.Gossiping.{one_pushed}
+use Rattle.rd_node.proofs.Common.{answer_to, StandsForPosts}
+use Rattle.rd_model.specs.Step.{status_of}
+use Rattle.rd_node.proofs.Sendings.{one_pushed}
 use Rattle.rd_node.proofs.gossip.status.Goals as goal
 
 pub returns-clause-image : goal.returns-clause-image

@@ -1,5 +1,4 @@
-use Rattle.std.proofs.Common.{ap, ◌∙◌}
-use Rattle.std.specs.Prelude.{◌||◌, ◌==◌}
+use Rattle.std.proofs.Common.{ap, ◌∙◌, ◌||◌, ◌==◌}
 use Rattle.rd_history.specs.History.{is_pruned}
 use Rattle.rd_node.proofs.groups.is_strange.Goals as goal
 

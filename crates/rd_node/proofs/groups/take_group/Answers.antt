@@ -1,9 +1,7 @@
-use Rattle.std.proofs.Common.{◌≡◌, sym, ap, ◌∙◌, subst, false, true}
-use Rattle.std.specs.Prelude.{if◌then◌else◌}
+use Rattle.std.proofs.Common.{◌≡◌, sym, ap, ◌∙◌, subst, false, true, if◌then◌else◌}
+use Rattle.rd_node.proofs.Common.{StandsFor, parts_of}
 use Rattle.rd_model.specs.Entry.{judged}
 use Rattle.rd_model.specs.Entry.Judgement.{Wanted, Stale, Missing}
-use Rattle.rd_envelope.specs.Images.{StandsFor}
-use Rattle.rd_envelope.specs.Words.{parts_of}
 use Rattle.rd_node.specs.Taking.{judged_for, entry_after, lacking_in}
 use Rattle.rd_node.proofs.groups.take_group.Goals as goal
 use Rattle.rd_node.proofs.groups.take_group.Goals.{then-is_strange-via-then-is_strange, then-is_strange-via-else-is_strange+then-not-delta_fits}

@@ -1,14 +1,10 @@
-use Rattle.std.proofs.Common.{◌≡◌, [], ◌∷◌, sym, ap, ◌∙◌, subst, arith, take, take_all}
-use Rattle.std.specs.Prelude.{map}
+use Rattle.std.proofs.Common.{◌≡◌, [], ◌∷◌, sym, ap, ◌∙◌, subst, arith, take, take_all, map}
 use Rattle.std.proofs.lemmas.List.Sums.{fold-append}
-use Rattle.rd_model.specs.Step.{AfterGroups, take_group, after_groups}
-use Rattle.rd_kinds.specs.declared.shown.Shown.{Shown}
-use Rattle.rd_messages.specs.Standing.{StandsForKeyedGroup}
-use Rattle.rd_node.specs.Inputs.{IsGroupPassedOver, TellsGroups}
-use Rattle.rd_node.specs.Taking.{IsAtWork, gap_told}
+use Rattle.rd_node.proofs.Common.{AfterGroups, take_group, after_groups, Shown, StandsForKeyedGroup, TellsGroups, IsAtWork, gap_told}
+use Rattle.rd_node.specs.Inputs.{IsGroupPassedOver}
 use Rattle.rd_node.proofs.Lists.{one_more}
-use Rattle.rd_node.proofs.Telling.{tells_none, tells_last}
-use Rattle.rd_node.proofs.Telling.TellsLast.{last_told, last_passed}
+use Rattle.rd_node.proofs.Takings.{tells_none, tells_last}
+use Rattle.rd_node.proofs.Takings.TellsLast.{last_told, last_passed}
 use Rattle.rd_node.proofs.groups.take_groups.Goals as goal
 
 pub loop-keyed-init : goal.loop-keyed-init

@@ -1,16 +1,8 @@
-use Rattle.std.proofs.Common.{◌≡◌, ℕ, List, take}
-use Rattle.std.specs.Prelude.{map}
-use Rattle.rd_history.specs.Texts.{Text}
-use Rattle.rd_history.specs.History.{History}
+use Rattle.std.proofs.Common.{◌≡◌, ℕ, List, take, map}
+use Rattle.rd_node.proofs.Common.{Text, History, after_groups, Shown, AreOfTheirKinds, TellsGroups, AreMade, IsKept, AreHeld, IsAtWork, gap_told}
 use Rattle.rd_model.specs.Entry.{Entry, Group}
 use Rattle.rd_model.specs.Message as sending
 use Rattle.rd_model.specs.Node.{Node as Member}
-use Rattle.rd_model.specs.Step.{after_groups}
-use Rattle.rd_kinds.specs.declared.shown.Shown.{Shown}
-use Rattle.rd_node.specs.Own.{AreOfTheirKinds}
-use Rattle.rd_node.specs.Inputs.{TellsGroups}
-use Rattle.rd_node.specs.Changes.{AreMade}
-use Rattle.rd_node.specs.Taking.{IsKept, AreHeld, IsAtWork, gap_told}
 use Rattle.rd_node.proofs.groups.take_groups.Given as goal
 
 abbrev pub invariant-loop-keyed : goal.invariant-loop-keyed

@@ -1,9 +1,7 @@
-use Rattle.std.proofs.Common.{◌≡◌, true, false, take, ap, sym, ◌∙◌, arith, ◌++◌, ◌∷◌, []}
+use Rattle.std.proofs.Common.{◌≡◌, true, false, take, ap, sym, ◌∙◌, arith, ◌++◌, ◌∷◌, [], take_all, ◌==◌}
 use Rattle.std.proofs.lemmas.Bool.Decides.{nat_tests}
-use Rattle.std.proofs.lemmas.List.{take_all}
-use Rattle.std.specs.Prelude.{◌==◌}
 use Rattle.rd_node.proofs.Lists.{one_more}
-use Rattle.rd_node.proofs.Opens.{to_peers, to_peers-one, to_peers-none}
+use Rattle.rd_node.proofs.Operating.{to_peers, to_peers-one, to_peers-none}
 use Rattle.rd_node.proofs.opening.to_others.Goals as goal
 use Rattle.rd_node.proofs.opening.to_others.Goals.{then-ne+in_ok-message+in_ok-push, else-ne}
 

@@ -1,6 +1,5 @@
-use Rattle.std.proofs.Common.{◌≡◌, take}
-use Rattle.std.specs.Prelude.{map}
-use Rattle.rd_node.specs.Sending.{peers_of}
+use Rattle.std.proofs.Common.{◌≡◌, take, map}
+use Rattle.rd_node.proofs.Common.{peers_of}
 use Rattle.rd_node.proofs.opening.to_others.Given as goal
 
 abbrev pub invariant-loop-peer : goal.invariant-loop-peer

@@ -1,5 +1,5 @@
 use Rattle.std.proofs.Common.{set, sym, ap, ◌∙◌}
-use Rattle.rd_node.specs.Planning.{recorded}
+use Rattle.rd_node.proofs.Common.{recorded}
 use Rattle.rd_node.proofs.plan.record_at.Goals as goal
 
 pub returns : goal.returns

@@ -1,9 +1,7 @@
-use Rattle.std.proofs.Common.{◌<◌, not, ◌++◌, ◌∷◌, [], sym, ap, ◌∙◌, arith}
-use Rattle.std.specs.Prelude.{filter}
+use Rattle.std.proofs.Common.{◌<◌, not, ◌++◌, ◌∷◌, [], sym, ap, ◌∙◌, arith, filter}
 use Rattle.std.specs.List.{range_with_len}
-use Rattle.rd_history.specs.Table.{identity_limit}
-use Rattle.rd_model.specs.View.{is_member}
-use Rattle.rd_node.proofs.Leading.{left_one, left_none}
+use Rattle.rd_node.proofs.Common.{identity_limit, is_member}
+use Rattle.rd_node.proofs.Ticks.{left_one, left_none}
 use Rattle.rd_node.proofs.preparing.left.Goals as goal
 use Rattle.rd_node.proofs.preparing.left.Goals.{in-Some+then-not-contains+in_ok-push, in-Some+else-not-contains, in_default}
 

@@ -1,7 +1,6 @@
-use Rattle.std.proofs.Common.{◌≡◌, not}
-use Rattle.std.specs.Prelude.{filter}
+use Rattle.std.proofs.Common.{◌≡◌, not, filter}
 use Rattle.std.specs.List.{range_with_len}
-use Rattle.rd_model.specs.View.{is_member}
+use Rattle.rd_node.proofs.Common.{is_member}
 use Rattle.rd_node.proofs.preparing.left.Given as goal
 
 -- of the identities so far

@@ -1,11 +1,8 @@
 use Rattle.std.proofs.Common.{sym, ap, ◌∙◌, subst, arith}
-use Rattle.rd_markers.specs.Marks.{performed_in}
-use Rattle.rd_envelope.specs.Images.{StandsFor}
-use Rattle.rd_envelope.specs.Words.{parts_of}
+use Rattle.rd_node.proofs.Common.{performed_in, StandsFor, parts_of, AreMade}
 use Rattle.rd_node.specs.declared.change.Change.TheVariants.{Entry}
-use Rattle.rd_node.specs.Changes.{AreMade}
 use Rattle.rd_node.specs.Installing.{IsSeen, IsSeenEntry}
-use Rattle.rd_node.proofs.Written.{counted_more, made_more}
+use Rattle.rd_node.proofs.Lists.{counted_more, made_more}
 use Rattle.rd_node.proofs.preparing.seen.Goals as goal
 
 pub loop-state-preserved : goal.loop-state-preserved

@@ -1,6 +1,5 @@
-use Rattle.std.proofs.Common.{◌≡◌, ◌+◌, max, refl, sym, ap, ◌∙◌, subst, arith, true}
-use Rattle.std.specs.Prelude.{IsSome}
-use Rattle.rd_vectors.specs.Vectors.{number_at}
+use Rattle.std.proofs.Common.{◌≡◌, ◌+◌, max, refl, sym, ap, ◌∙◌, subst, arith, true, IsSome}
+use Rattle.rd_node.proofs.Common.{number_at}
 use Rattle.rd_vectors.proofs.Laws.{number_at-raised_same}
 use Rattle.rd_deltalog.specs.Contents.{IsDeltaFor}
 use Rattle.rd_node.proofs.recording.next_record.Goals as goal

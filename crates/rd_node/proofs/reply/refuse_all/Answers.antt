@@ -1,6 +1,6 @@
 use Rattle.std.proofs.Common.{sym, ap, ◌∙◌, arith}
 use Rattle.rd_node.specs.Outputs.{refused_post}
-use Rattle.rd_node.proofs.Mapped.{mapped_all, mapped_more}
+use Rattle.rd_node.proofs.Lists.{mapped_all, mapped_more}
 use Rattle.rd_node.proofs.reply.refuse_all.Goals as goal
 
 pub loop-post-preserved : goal.loop-post-preserved

@@ -1,6 +1,6 @@
 use Rattle.std.proofs.Common.{◌≡◌}
 use Rattle.rd_node.specs.Outputs.{refused_post}
-use Rattle.rd_node.proofs.Mapped.{mapped_before}
+use Rattle.rd_node.proofs.Lists.{mapped_before}
 use Rattle.rd_node.proofs.reply.refuse_all.Given as goal
 
 -- those so far are refused

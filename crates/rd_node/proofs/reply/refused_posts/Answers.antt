@@ -1,5 +1,4 @@
-use Rattle.std.proofs.Common.{length, sym, ap, ◌∙◌}
-use Rattle.std.specs.Prelude.{map}
+use Rattle.std.proofs.Common.{length, sym, ap, ◌∙◌, map}
 use Rattle.std.proofs.lemmas.List.{length-map, with_items_is}
 use Rattle.rd_node.specs.Outputs.{refused_post}
 use Rattle.rd_node.proofs.reply.refused_posts.Goals as goal

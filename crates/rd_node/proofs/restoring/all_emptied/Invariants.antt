@@ -1,7 +1,5 @@
-use Rattle.std.proofs.Common.{◌≡◌, take, map}
-use Rattle.std.specs.Prelude.{All}
-use Rattle.rd_node.specs.Keys.{declared_by}
-use Rattle.rd_node.specs.Fresh.{IsFresh}
+use Rattle.std.proofs.Common.{◌≡◌, take, map, All}
+use Rattle.rd_node.proofs.Common.{declared_by, IsFresh}
 use Rattle.rd_node.proofs.restoring.all_emptied.Given as goal
 
 abbrev pub invariant-loop-state : goal.invariant-loop-state

@@ -1,7 +1,6 @@
 use Rattle.std.proofs.Common.{◌≡◌, ◌<◌, ap, sym, ◌∙◌, arith}
-use Rattle.rd_history.specs.Table.{identity_limit}
+use Rattle.rd_node.proofs.Common.{identity_limit, mark_of}
 use Rattle.rd_vectors.proofs.Walks.{any_identity, none_more, any_at_end}
-use Rattle.rd_markers.specs.Marks.{mark_of}
 use Rattle.rd_node.specs.Restoring.{names_at}
 use Rattle.rd_node.proofs.restoring.marks_name.Goals as goal
 use Rattle.rd_node.proofs.restoring.marks_name.Goals.{in-Some+else-names_at, in_default}

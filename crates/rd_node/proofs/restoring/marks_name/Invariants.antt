@@ -1,6 +1,6 @@
 use Rattle.std.proofs.Common.{◌≡◌, false}
 use Rattle.std.specs.List.{list_any, range_with_len}
-use Rattle.rd_markers.specs.Marks.{mark_of}
+use Rattle.rd_node.proofs.Common.{mark_of}
 use Rattle.rd_node.specs.Restoring.{names_at}
 use Rattle.rd_node.proofs.restoring.marks_name.Given as goal
 

@@ -1,8 +1,6 @@
-use Rattle.std.proofs.Common.{◌≡◌, ◌<◌, not, ap, sym, ◌∙◌, arith}
-use Rattle.std.specs.Prelude.{◌&&◌}
-use Rattle.rd_history.specs.Table.{identity_limit}
+use Rattle.std.proofs.Common.{◌≡◌, ◌<◌, not, ap, sym, ◌∙◌, arith, ◌&&◌}
+use Rattle.rd_node.proofs.Common.{identity_limit, parts_of}
 use Rattle.rd_vectors.proofs.Walks.{any_identity, none_more, any_at_end}
-use Rattle.rd_envelope.specs.Words.{parts_of}
 use Rattle.rd_node.specs.Restoring.{is_earlier, is_named}
 use Rattle.rd_node.proofs.restoring.names_others.Goals as goal
 use Rattle.rd_node.proofs.restoring.names_others.Goals.{in-Some+else-names_other, in_default}

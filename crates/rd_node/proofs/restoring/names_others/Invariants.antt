@@ -1,7 +1,6 @@
-use Rattle.std.proofs.Common.{◌≡◌, false, not}
-use Rattle.std.specs.Prelude.{◌&&◌}
+use Rattle.std.proofs.Common.{◌≡◌, false, not, ◌&&◌}
 use Rattle.std.specs.List.{list_any, range_with_len}
-use Rattle.rd_envelope.specs.Words.{parts_of}
+use Rattle.rd_node.proofs.Common.{parts_of}
 use Rattle.rd_node.specs.Restoring.{is_earlier, is_named}
 use Rattle.rd_node.proofs.restoring.names_others.Given as goal
 

@@ -1,9 +1,8 @@
 use Rattle.std.proofs.Common.{◌≡◌, true, false, ap, sym, ◌∙◌, subst}
+use Rattle.rd_node.proofs.Common.{Parts, parts_of}
 use Rattle.rd_bytes.specs.FieldLaws.{ok_is}
-use Rattle.rd_envelope.specs.Images.{Parts}
-use Rattle.rd_envelope.specs.Words.{parts_of}
 use Rattle.rd_node.specs.Restoring.{names_others}
-use Rattle.rd_node.proofs.Earlier.{names_earlier, no_others}
+use Rattle.rd_node.proofs.Restorings.{names_earlier, no_others}
 use Rattle.rd_node.proofs.restoring.read_for.Goals as goal
 
 pub returns-then-is_fit-clause-fit : goal.returns-then-is_fit-clause-fit

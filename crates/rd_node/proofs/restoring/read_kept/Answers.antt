@@ -1,8 +1,7 @@
-use Rattle.std.proofs.Common.{sym, subst}
-use Rattle.std.specs.Str.{bytes_eq}
-use Rattle.rd_envelope.specs.Words.{parts_of}
+use Rattle.std.proofs.Common.{sym, subst, bytes_eq}
+use Rattle.rd_node.proofs.Common.{parts_of}
 use Rattle.rd_node.specs.Restoring.{IsFitFor}
-use Rattle.rd_node.proofs.Lookup.{position-found, position-none}
+use Rattle.rd_node.proofs.Lists.{position-found, position-none}
 use Rattle.rd_node.proofs.Restorings.{kind_found, unknown_unsound, sound_found, fit_found}
 use Rattle.rd_node.proofs.restoring.read_kept.Goals as goal
 

@@ -1,7 +1,6 @@
-use Rattle.std.proofs.Common.{◌≡◌, ℕ, ◌++◌, length, take, drop, sym, ap, ◌∙◌, subst}
-use Rattle.std.specs.Prelude.{All}
+use Rattle.std.proofs.Common.{◌≡◌, ℕ, ◌++◌, length, take, drop, sym, ap, ◌∙◌, subst, All}
 use Rattle.std.proofs.Math.Seq.{take-append_seam}
-use Rattle.rd_node.specs.Restoring.{HoldsKept}
+use Rattle.rd_node.proofs.Common.{HoldsKept}
 use Rattle.rd_node.proofs.Restorings.{same_length}
 use Rattle.rd_node.proofs.restoring.restored.Goals as goal
 

@@ -1,5 +1,5 @@
 use Rattle.std.proofs.Common.{refl, sym, subst}
-use Rattle.rd_envelope.specs.Words.{parts_of}
+use Rattle.rd_node.proofs.Common.{parts_of}
 use Rattle.rd_node.specs.Restoring.{HasSeen}
 use Rattle.rd_node.proofs.restoring.take.Goals as goal
 

@@ -1,11 +1,10 @@
-use Rattle.std.proofs.Common.{◌≡◌, ℕ, List, [], ◌∷◌, ◌++◌, sym, ap, ◌∙◌, subst, arith, append_assoc}
-use Rattle.std.specs.Prelude.{All}
+use Rattle.std.proofs.Common.{rules, ◌≡◌, ℕ, List, [], ◌∷◌, ◌++◌, sym, ap, ◌∙◌, subst, arith, append_assoc, All, append-nil}
 use Rattle.std.specs.Vec.Iter.{into_iter_items}
-use Rattle.std.proofs.lemmas.List.{append-nil, nil_from_length}
-use Rattle.rd_envelope.specs.Words.{parts_of}
+use Rattle.std.proofs.lemmas.List.{nil_from_length}
+use Rattle.rd_node.proofs.Common.{parts_of, AreSound, HoldsKept}
 use Rattle.rd_keeper.specs.declared.stored.Stored.{Stored}
-use Rattle.rd_node.specs.Loading.{IsSoundAt, AreSound}
-use Rattle.rd_node.specs.Restoring.{IsFitAt, TakesAt, HoldsKept}
+use Rattle.rd_node.specs.Loading.{IsSoundAt}
+use Rattle.rd_node.specs.Restoring.{IsFitAt, TakesAt}
 use Rattle.rd_node.proofs.Restorings.{same_length, fit_sound, declared_next, holds_more, holds_none, sound_none, sound_more, first_unsound}
 use Rattle.rd_node.proofs.restoring.take_all.Goals as goal
 
@@ -59,15 +58,14 @@ loop-stored-preserved g c =
       sound = sound_more R S keys id view.given kept stored c.loop-stored.invariant.sound (fit_sound R S id view.given keys stored index parts takes.before fit);
     }
 
-pub returns-clause-declared : goal.returns-clause-declared
-returns-clause-declared g c = c.loop-stored.invariant.declared
-
-pub returns-clause-holds : goal.returns-clause-holds
-returns-clause-holds g c =
-    subst (λ (kept : List Stored). All (HoldsKept g.T.Replica g.T.SpelledData c.args.id c.args.view.now kept) c.loop-stored.states)
-    (none_left c.loop-stored.yielded (into_iter_items c.loop-stored.stored-iterator) c.args.loaded.items (nil_from_length (into_iter_items c.loop-stored.stored-iterator) (sym c.loop-stored.stored-iterator.rest.ok.0 ∙ c.in-None.ensures.steps.0)) c.loop-stored.invariant.split) c.loop-stored.invariant.holds
-
-pub returns-clause-sound : goal.returns-clause-sound
-returns-clause-sound g c =
-    subst (AreSound g.T.Replica g.T.SpelledData c.args.keys.now c.args.id c.args.view.now.given)
-    (none_left c.loop-stored.yielded (into_iter_items c.loop-stored.stored-iterator) c.args.loaded.items (nil_from_length (into_iter_items c.loop-stored.stored-iterator) (sym c.loop-stored.stored-iterator.rest.ok.0 ∙ c.in-None.ensures.steps.0)) c.loop-stored.invariant.split) c.loop-stored.invariant.sound
+pub returns : goal.returns
+returns g c = record {
+  declared = c.loop-stored.invariant.declared;
+  holds =
+      subst (λ (kept : List Stored). All (HoldsKept g.T.Replica g.T.SpelledData c.args.id c.args.view.now kept) c.loop-stored.states)
+      (none_left c.loop-stored.yielded (into_iter_items c.loop-stored.stored-iterator) c.args.loaded.items (nil_from_length (into_iter_items c.loop-stored.stored-iterator) (sym c.loop-stored.stored-iterator.rest.ok.0 ∙ c.in-None.ensures.steps.0)) c.loop-stored.invariant.split) c.loop-stored.invariant.holds;
+  sound =
+      subst (AreSound g.T.Replica g.T.SpelledData c.args.keys.now c.args.id c.args.view.now.given)
+      (none_left c.loop-stored.yielded (into_iter_items c.loop-stored.stored-iterator) c.args.loaded.items (nil_from_length (into_iter_items c.loop-stored.stored-iterator) (sym c.loop-stored.stored-iterator.rest.ok.0 ∙ c.in-None.ensures.steps.0)) c.loop-stored.invariant.split) c.loop-stored.invariant.sound;
+  unfit = search rules;
+}

@@ -1,9 +1,6 @@
-use Rattle.std.proofs.Common.{◌≡◌, ◌++◌, map}
-use Rattle.std.specs.Prelude.{All}
+use Rattle.std.proofs.Common.{◌≡◌, ◌++◌, map, All}
 use Rattle.std.specs.Vec.Iter.{into_iter_items}
-use Rattle.rd_node.specs.Keys.{declared_by}
-use Rattle.rd_node.specs.Loading.{AreSound}
-use Rattle.rd_node.specs.Restoring.{HoldsKept}
+use Rattle.rd_node.proofs.Common.{declared_by, AreSound, HoldsKept}
 use Rattle.rd_node.proofs.restoring.take_all.Given as goal
 
 -- those that were loaded so far, and those to come

@@ -1,10 +1,8 @@
-use Rattle.std.proofs.Common.{take, sym, subst, arith}
-use Rattle.std.specs.Prelude.{map}
+use Rattle.std.proofs.Common.{take, sym, subst, arith, map, take_all}
 use Rattle.std.specs.List.{AllZip}
-use Rattle.std.proofs.lemmas.List.{take_all}
-use Rattle.rd_messages.specs.Standing.{StandsForKeyed, StandsForKeyedGroup}
-use Rattle.rd_node.specs.Sending.{state_in, IsHeldBy, groups_of, entries_of}
-use Rattle.rd_node.proofs.Flushes.{groups_of-more, entries_of-more, deltas_are}
+use Rattle.rd_node.proofs.Common.{StandsForKeyed, StandsForKeyedGroup, state_in, IsHeldBy}
+use Rattle.rd_node.specs.Sending.{groups_of, entries_of}
+use Rattle.rd_node.proofs.Sendings.{groups_of-more, entries_of-more, deltas_are}
 use Rattle.rd_node.proofs.sending.deltas.Goals as goal
 
 pub loop-state-preserved : goal.loop-state-preserved

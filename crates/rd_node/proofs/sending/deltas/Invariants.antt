@@ -1,13 +1,8 @@
-use Rattle.std.proofs.Common.{◌≡◌, take}
-use Rattle.std.specs.Prelude.{map, All}
+use Rattle.std.proofs.Common.{◌≡◌, take, map, All}
 use Rattle.std.specs.List.{AllZip}
-use Rattle.rd_history.specs.Texts.{Text}
-use Rattle.rd_history.specs.History.{History}
-use Rattle.rd_model.specs.DataType.{Replication}
+use Rattle.rd_node.proofs.Common.{Text, History, Replication, Shown, StandsForKeyed, StandsForKeyedGroup, state_in, IsHeldBy}
 use Rattle.rd_model.specs.Node as nodes
-use Rattle.rd_kinds.specs.declared.shown.Shown.{Shown}
-use Rattle.rd_messages.specs.Standing.{StandsForKeyed, StandsForKeyedGroup}
-use Rattle.rd_node.specs.Sending.{state_in, IsHeldBy, groups_of, entries_of}
+use Rattle.rd_node.specs.Sending.{groups_of, entries_of}
 use Rattle.rd_node.proofs.sending.deltas.Given as goal
 
 -- the keys so far are in the lists

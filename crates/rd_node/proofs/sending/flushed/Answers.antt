@@ -1,10 +1,9 @@
-use Rattle.std.proofs.Common.{◌≡◌, true, false, take, ap, sym, ◌∙◌, arith}
+use Rattle.std.proofs.Common.{◌≡◌, true, false, take, ap, sym, ◌∙◌, arith, ◌==◌, if◌then◌else◌}
 use Rattle.std.proofs.lemmas.Bool.Decides.{nat_tests}
-use Rattle.std.specs.Prelude.{◌==◌, if◌then◌else◌}
-use Rattle.rd_vectors.specs.Vectors.{number_at}
-use Rattle.rd_node.specs.Sending.{flushed_to, peers_of}
+use Rattle.rd_node.proofs.Common.{number_at, peers_of}
+use Rattle.rd_node.specs.Sending.{flushed_to}
 use Rattle.rd_node.proofs.Lists.{one_more}
-use Rattle.rd_node.proofs.Flushes.{flushed_to-peer, flushed_to-itself}
+use Rattle.rd_node.proofs.Sendings.{flushed_to-peer, flushed_to-itself}
 use Rattle.rd_node.proofs.sending.flushed.Goals as goal
 use Rattle.rd_node.proofs.sending.flushed.Goals.{then-ne+in_ok-set_flushed, else-ne}
 

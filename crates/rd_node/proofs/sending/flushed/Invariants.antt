@@ -1,6 +1,6 @@
 use Rattle.std.proofs.Common.{◌≡◌, ℕ, take}
-use Rattle.rd_vectors.specs.Vectors.{number_at}
-use Rattle.rd_node.specs.Sending.{flushed_to, peers_of}
+use Rattle.rd_node.proofs.Common.{number_at, peers_of}
+use Rattle.rd_node.specs.Sending.{flushed_to}
 use Rattle.rd_node.proofs.sending.flushed.Given as goal
 
 abbrev pub invariant-loop-peer : goal.invariant-loop-peer

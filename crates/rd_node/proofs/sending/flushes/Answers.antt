@@ -1,7 +1,6 @@
 use Rattle.std.proofs.Common.{sym, subst, arith}
-use Rattle.rd_node.specs.declared.change.Change.TheVariants.{Flushed}
-use Rattle.rd_node.specs.Changes.{AreMade, IsFlush}
-use Rattle.rd_node.proofs.Written.{counted_more, made_more}
+use Rattle.rd_node.proofs.Common.{Flushed, AreMade, IsFlush}
+use Rattle.rd_node.proofs.Lists.{counted_more, made_more}
 use Rattle.rd_node.proofs.sending.flushes.Goals as goal
 
 pub loop-state-preserved : goal.loop-state-preserved

@@ -1,8 +1,5 @@
-use Rattle.std.proofs.Common.{◌≡◌, ℕ, ◌<◌, length}
-use Rattle.std.specs.Prelude.{slice_index_or}
-use Rattle.rd_node.specs.declared.key.KeyState.{KeyState}
-use Rattle.rd_node.specs.declared.change.Change.{Change}
-use Rattle.rd_node.specs.Changes.{IsFlush}
+use Rattle.std.proofs.Common.{◌≡◌, ℕ, ◌<◌, length, slice_index_or}
+use Rattle.rd_node.proofs.Common.{KeyState, Change, IsFlush}
 use Rattle.rd_node.proofs.sending.flushes.Given as goal
 
 abbrev pub invariant-loop-state : goal.invariant-loop-state

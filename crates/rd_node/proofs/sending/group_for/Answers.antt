@@ -1,14 +1,20 @@
 use Rattle.std.proofs.Common.{◌≡◌, refl, sym, ap, ◌∙◌, subst₂}
 use Rattle.std.proofs.lemmas.Bool.{false_from_ne_true}
+use Rattle.rd_node.proofs.Common.{Ghosts, state_in}
 use Rattle.rd_model.specs.Entry.{group_after}
+use Rattle.rd_model.specs.Step.{goes_as_group}
 use Rattle.rd_envelope.specs.Images.{StandsForGroup}
 use Rattle.rd_envelope.specs.Words.{group_parts}
+use Rattle.rd_envelope.specs.declared.group.Group.{Group}
 use Rattle.rd_deltalog.specs.Words.{answer_in}
 use Rattle.rd_deltalog.specs.Answers.Answer.{AsGroup}
-use Rattle.rd_model.specs.Step.{goes_as_group}
-use Rattle.rd_node.specs.Sending.{state_in}
-use Rattle.rd_node.proofs.Grouped.{not_a_group}
+use Rattle.rd_deltalog.specs.declared.grouped.Grouped.{Grouped}
+use Rattle.rd_deltalog.specs.declared.grouped.Grouped.TheVariants as variant
 use Rattle.rd_node.proofs.sending.group_for.Goals as goal
+
+not_a_group : {T Kind Op Delta : Type 0} {ghosts : Ghosts T Kind Op Delta} (grouped : Grouped T Kind Op Delta ghosts) → ((group : Group T Kind Op Delta ghosts) → grouped ≡ variant.Group group → ⊥) → answer_in grouped ≡ AsGroup → ⊥
+not_a_group (variant.Group group) other is = other group refl
+not_a_group _ other is = cc is
 
 pub returns-in-Group : goal.returns-in-Group
 returns-in-Group g c = λ D kinds logs id node keeps h behind.

@@ -1,9 +1,8 @@
-use Rattle.std.proofs.Common.{◌≡◌, true, false, not, refl, sym, ap, ◌∙◌, arith}
+use Rattle.std.proofs.Common.{◌≡◌, true, false, not, refl, sym, ap, ◌∙◌, arith, ◌&&◌, ◌==◌}
 use Rattle.std.proofs.lemmas.Bool.Decides.{nat_tests}
-use Rattle.std.specs.Prelude.{◌&&◌, ◌==◌}
 use mathlib.Core.Bool.{and-false}
 use Rattle.rd_node.specs.Sending.{is_sent}
-use Rattle.rd_node.proofs.Flushes.{sent_is}
+use Rattle.rd_node.proofs.Sendings.{sent_is}
 use Rattle.rd_node.proofs.sending.post.Goals as goal
 use Rattle.rd_node.proofs.sending.post.Goals.{then-eq-via-then-eq, then-eq-via-else-eq+then-not-any_behind}
 

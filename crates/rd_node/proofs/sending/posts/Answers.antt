@@ -1,10 +1,9 @@
-use Rattle.std.proofs.Common.{take, sym, ap, ◌∙◌, subst, subst₂, arith}
+use Rattle.std.proofs.Common.{take, sym, ap, ◌∙◌, subst, subst₂, arith, take_all}
 use Rattle.std.specs.List.{AllZip}
-use Rattle.std.proofs.lemmas.List.{take_all}
-use Rattle.rd_messages.specs.Standing.{StandsForPost}
+use Rattle.rd_node.proofs.Common.{StandsForPost}
 use Rattle.rd_node.specs.Sending.{IsPostFor, post_to}
 use Rattle.rd_node.proofs.Lists.{zip_push}
-use Rattle.rd_node.proofs.Flushes.{posts_to, posts_to-one, posts_to-none, posts_are}
+use Rattle.rd_node.proofs.Sendings.{posts_to, posts_to-one, posts_to-none, posts_are}
 use Rattle.rd_node.proofs.sending.posts.Goals as goal
 use Rattle.rd_node.proofs.sending.posts.Goals.{in-Some+in_ok-push, in_default}
 

@@ -1,15 +1,8 @@
-use Rattle.std.proofs.Common.{◌≡◌, take}
-use Rattle.std.specs.Prelude.{map, All}
+use Rattle.std.proofs.Common.{◌≡◌, take, map, All}
 use Rattle.std.specs.List.{AllZip}
-use Rattle.rd_history.specs.Texts.{Text}
-use Rattle.rd_history.specs.History.{History}
-use Rattle.rd_model.specs.DataType.{Replication}
+use Rattle.rd_node.proofs.Common.{Text, History, Replication, Shown, StandsForPost, declared_by, IsHeldBy}
 use Rattle.rd_model.specs.Node as nodes
-use Rattle.rd_kinds.specs.declared.shown.Shown.{Shown}
-use Rattle.rd_messages.specs.Standing.{StandsForPost}
-use Rattle.rd_node.specs.Keys.{declared_by}
-use Rattle.rd_node.specs.Sending.{IsHeldBy}
-use Rattle.rd_node.proofs.Flushes.{posts_to}
+use Rattle.rd_node.proofs.Sendings.{posts_to}
 use Rattle.rd_node.proofs.sending.posts.Given as goal
 
 -- the members so far were sent to

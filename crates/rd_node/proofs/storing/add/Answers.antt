@@ -1,16 +1,12 @@
-use Rattle.std.proofs.Common.{◌≡◌, false, [], ◌∷◌, ◌++◌, length, sym, ap, ◌∙◌, subst, arith, Result, Ok, Err}
-use Rattle.std.specs.Prelude.{map, OnOk}
-use Rattle.std.proofs.lemmas.List.{append-nil}
-use Rattle.rd_history.specs.History.{History}
-use Rattle.rd_model.specs.Entry.{Entry, is_unchanged}
+use Rattle.std.proofs.Common.{◌≡◌, false, [], ◌∷◌, ◌++◌, length, sym, ap, ◌∙◌, subst, arith, Result, Ok, Err, map, OnOk, append-nil}
+use Rattle.rd_node.proofs.Common.{History, is_unchanged, StandsFor, parts_of}
+use Rattle.rd_model.specs.Entry.{Entry}
 use Rattle.rd_keeper.specs.declared.stored.Stored.{Stored}
-use Rattle.rd_envelope.specs.Images.{StandsFor}
-use Rattle.rd_envelope.specs.Words.{parts_of}
 use Rattle.rd_envelope_codec.specs.Entries.{entry_spelled}
 use Rattle.rd_node.specs.Stores.{spelled_entry}
 use Rattle.rd_node.specs.Storing.{stored_of}
-use Rattle.rd_node.proofs.Keepers.{on_ok}
-use Rattle.rd_node.proofs.ToStore.{stored_not, stored_same, stored_one}
+use Rattle.rd_node.proofs.Standing.{on_ok}
+use Rattle.rd_node.proofs.Making.{stored_not, stored_same, stored_one}
 use Rattle.rd_node.proofs.storing.add.Given as given
 use Rattle.rd_node.proofs.storing.add.Goals as goal
 use Rattle.rd_node.proofs.storing.add.Goals.{then-not-state-via-then-not-state, then-not-state-via-else-not-state+then-is_unchanged}
@@ -43,7 +39,7 @@ returns-clause-spelled g c = λ log old new s t.
 
 pub returns-clause-kept : goal.returns-clause-kept
 returns-clause-kept g c = λ log old new k s t below.
-    holds c.push.result (record { parts = parts_of c.args.entry.now; of_kind = c.requires; image = t; readable = c.in_ok-spell.ensures.readable log new t })
+    holds c.push.result (record { parts = parts_of c.args.entry.now; of_kind = c.requires; image = t; readable = c.in_ok-spell.ensures.readable })
   where
     holds : {X E P : Type 0} (result : Result X E) → P → OnOk result P
     holds (Ok x) p = p

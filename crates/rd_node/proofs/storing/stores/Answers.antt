@@ -1,13 +1,7 @@
 use Rattle.std.proofs.Common.{◌≡◌, sym, ap, ◌∙◌, subst, arith, take_all}
-use Rattle.rd_envelope.specs.Images.{StandsFor}
-use Rattle.rd_envelope.specs.Words.{parts_of}
-use Rattle.rd_model.specs.Entry.{is_unchanged}
-use Rattle.rd_model.proofs.Taking.{is_unchanged-same}
-use Rattle.rd_node.specs.declared.key.KeyState.{KeyState}
+use Rattle.rd_node.proofs.Common.{StandsFor, parts_of, is_unchanged, is_unchanged-same, KeyState, AreSpelled, StandsAfter}
 use Rattle.rd_node.specs.Planning.{entry_in}
-use Rattle.rd_node.specs.Storing.{AreSpelled}
-use Rattle.rd_node.specs.Taking.{StandsAfter}
-use Rattle.rd_node.proofs.ToStore.{put_of, put_all_keys, spelled_more, spelled_still}
+use Rattle.rd_node.proofs.Making.{put_of, put_all_keys, spelled_more, spelled_still}
 use Rattle.rd_node.proofs.storing.stores.Goals as goal
 use Rattle.rd_node.proofs.storing.stores.Goals.{in-Some+in_ok-add, in_default}
 

@@ -1,14 +1,7 @@
-use Rattle.std.proofs.Common.{◌≡◌, take}
-use Rattle.std.specs.Prelude.{map, All}
-use Rattle.rd_history.specs.Texts.{Text}
-use Rattle.rd_history.specs.History.{History}
+use Rattle.std.proofs.Common.{◌≡◌, take, map, All}
+use Rattle.rd_node.proofs.Common.{Text, History, Shown, declared_by, StandsForKey, LeadsOn, AreSpelled}
 use Rattle.rd_model.specs.Node.{Node as Member}
-use Rattle.rd_kinds.specs.declared.shown.Shown.{Shown}
-use Rattle.rd_node.specs.Keys.{declared_by}
-use Rattle.rd_node.specs.Members.{StandsForKey}
-use Rattle.rd_node.specs.Planning.{LeadsOn}
-use Rattle.rd_node.specs.Storing.{AreSpelled}
-use Rattle.rd_node.proofs.ToStore.{put_of}
+use Rattle.rd_node.proofs.Making.{put_of}
 use Rattle.rd_node.proofs.storing.stores.Given as goal
 
 -- those of the keys so far

@@ -1,6 +1,6 @@
 use Rattle.std.proofs.Common.{refl}
-use Rattle.rd_node.proofs.Working.{kept_first, leads_first}
-use Rattle.rd_node.proofs.GossipSteps.{holds_held}
+use Rattle.rd_node.proofs.Takings.{kept_first, leads_first}
+use Rattle.rd_node.proofs.TakingSteps.{holds_held}
 use Rattle.rd_node.specs.Replies.{spelled_groups}
 use Rattle.rd_node.proofs.taking.compared.Goals as goal
 

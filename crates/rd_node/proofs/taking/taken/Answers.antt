@@ -1,5 +1,5 @@
-use Rattle.rd_envelope_codec.specs.Entries.{entry_digest}
-use Rattle.rd_node.proofs.GossipSteps.{no_status}
+use Rattle.rd_node.proofs.Common.{entry_digest}
+use Rattle.rd_node.proofs.TakingSteps.{no_status}
 use Rattle.rd_node.proofs.taking.taken.Goals as goal
 
 pub returns-in_default-clause-image : goal.returns-in_default-clause-image

@@ -1,18 +1,10 @@
-use Rattle.std.proofs.Common.{◌++◌, [], ◌≢◌, None, take, length, refl, sym, ap, ◌∙◌, subst, arith}
-use Rattle.std.specs.Prelude.{map, nat_lt}
+use Rattle.std.proofs.Common.{◌++◌, [], ◌≢◌, None, take, length, refl, sym, ap, ◌∙◌, subst, arith, map, nat_lt, append-nil, take_all}
 use Rattle.std.specs.List.{list_any}
-use Rattle.std.proofs.lemmas.List.{append-nil, take_all}
-use Rattle.rd_history.specs.History.{IsPartOf}
+use Rattle.rd_node.proofs.Common.{IsPartOf, number_at, StandsFor, parts_of, KeyTick, delta_groups, state_in, tick_in}
 use Rattle.rd_model.specs.Step.{Ticking}
-use Rattle.rd_vectors.specs.Vectors.{number_at}
-use Rattle.rd_envelope.specs.Images.{StandsFor}
-use Rattle.rd_envelope.specs.Words.{parts_of}
-use Rattle.rd_node.specs.declared.ticking.KeyTick.{KeyTick}
-use Rattle.rd_node.specs.Replies.{delta_groups, meant_at_key}
-use Rattle.rd_node.specs.Sending.{state_in}
-use Rattle.rd_node.specs.Ticking.{IsInCourse, tick_in}
-use Rattle.rd_node.proofs.Ticks.{part_before}
-use Rattle.rd_node.proofs.Courses.{own_first, course_first, own_last, own_none, ticked_last, ticked_none, course_after, after_more}
+use Rattle.rd_node.specs.Replies.{meant_at_key}
+use Rattle.rd_node.specs.Ticking.{IsInCourse}
+use Rattle.rd_node.proofs.Ticks.{part_before, own_first, course_first, own_last, own_none, ticked_last, ticked_none, course_after, after_more}
 use Rattle.rd_node.proofs.ticking.key_tick.Goals as goal
 
 pub loop-identity-init : goal.loop-identity-init
@@ -68,50 +60,44 @@ loop-identity-preserved g c =
           );
     }
 
-pub returns-clause-own : goal.returns-clause-own
-returns-clause-own g c =
-    own_last c.args.state.now c.loop-identity.ticking g.T.Replica c.args.id c.args.removed.now _ c.requires c.loop-identity.invariant.own (let few = c.loop-identity.invariant.few in omega (arith, few)) refl c.into_vec.ensures
-
-pub returns-clause-image : goal.returns-clause-image
-returns-clause-image g c = λ digest kinds logs node ticks due.
-    let removed = due.gone in
-    let held = due.held in
-    let part = due.log in
+pub returns : goal.returns
+returns g c =
     let R = g.T.Replica in
-    let D = delta_groups R.data_type digest in
     let state = c.args.state.now in
-    let all = take_all c.loop-identity.identity-index c.args.removed.now (omega arith) ∙ sym removed in
-    let here = subst (λ (n : Ticking g.row.T-Op.Denot). IsPartOf n.entry.history (logs state.name)) (sym (ap (course_after D node state) all)) part in
-    ticked_last state c.loop-identity.ticking R D node logs _ _ all (c.loop-identity.invariant.course digest kinds logs node ticks held here).0 refl c.into_vec.ensures
+    record {
+      own = own_last c.args.state.now c.loop-identity.ticking g.T.Replica c.args.id c.args.removed.now _ c.requires c.loop-identity.invariant.own (let few = c.loop-identity.invariant.few in omega (arith, few)) refl c.into_vec.ensures;
+      image = λ digest kinds logs node ticks due.
+          let removed = due.gone in
+          let held = due.held in
+          let part = due.log in
+          let D = delta_groups R.data_type digest in
+          let all = take_all c.loop-identity.identity-index c.args.removed.now (omega arith) ∙ sym removed in
+          let here = subst (λ (n : Ticking g.row.T-Op.Denot). IsPartOf n.entry.history (logs state.name)) (sym (ap (course_after D node state) all)) part in
+          ticked_last state c.loop-identity.ticking R D node logs _ _ all (c.loop-identity.invariant.course digest kinds logs node ticks held here).0 refl c.into_vec.ensures;
+      told = λ digest kinds logs node ticks due.
+          let removed = due.gone in
+          let held = due.held in
+          let part = due.log in
+          let D = delta_groups R.data_type digest in
+          let all = take_all c.loop-identity.identity-index c.args.removed.now (omega arith) ∙ sym removed in
+          let here = subst (λ (n : Ticking g.row.T-Op.Denot). IsPartOf n.entry.history (logs state.name)) (sym (ap (course_after D node state) all)) part in
+          (c.loop-identity.invariant.course digest kinds logs node ticks held here).1
+          ∙ ap (λ (n : Ticking g.row.T-Op.Denot). map meant_at_key c.args.outcomes.now ++ n.outcomes) (ap (course_after D node state) all) ∙ ap (λ l. map meant_at_key c.args.outcomes.now ++ l) (sym (append-nil (tick_in D node state).outcomes));
+    }
 
-pub returns-clause-told : goal.returns-clause-told
-returns-clause-told g c = λ digest kinds logs node ticks due.
-    let removed = due.gone in
-    let held = due.held in
-    let part = due.log in
-    let R = g.T.Replica in
-    let D = delta_groups R.data_type digest in
-    let state = c.args.state.now in
-    let all = take_all c.loop-identity.identity-index c.args.removed.now (omega arith) ∙ sym removed in
-    let here = subst (λ (n : Ticking g.row.T-Op.Denot). IsPartOf n.entry.history (logs state.name)) (sym (ap (course_after D node state) all)) part in
-    (c.loop-identity.invariant.course digest kinds logs node ticks held here).1
-    ∙ ap (λ (n : Ticking g.row.T-Op.Denot). map meant_at_key c.args.outcomes.now ++ n.outcomes) (ap (course_after D node state) all) ∙ ap (λ l. map meant_at_key c.args.outcomes.now ++ l) (sym (append-nil (tick_in D node state).outcomes))
-
-pub returns-then-not-knows_any-clause-own : goal.returns-then-not-knows_any-clause-own
-returns-then-not-knows_any-clause-own g c = own_none g.T.Replica c.args.id c.args.removed.now c.args.state.now _ c.requires refl c.new.ensures.items
-
-pub returns-then-not-knows_any-clause-image : goal.returns-then-not-knows_any-clause-image
-returns-then-not-knows_any-clause-image g c = λ digest kinds logs node ticks due.
-    let removed = due.gone in
-    let held = due.held in
-    let part = due.log in
-    (ticked_none g.T.Replica digest kinds logs node c.args.state.now c.args.id c.args.view c.args.members.now ticks held _ c.args.removed.now (sym removed) (ap (λ entry. list_any (λ r. nat_lt 0 (number_at entry.versions r)) c.args.removed.now) (sym c.envelope-held.ensures) ∙ sym c.knows_any.ensures ∙ c.if-not-knows_any.true) refl c.new.ensures.items).0
-
-pub returns-then-not-knows_any-clause-told : goal.returns-then-not-knows_any-clause-told
-returns-then-not-knows_any-clause-told g c = λ digest kinds logs node ticks due.
-    let removed = due.gone in
-    let held = due.held in
-    let part = due.log in
-    let tick : KeyTick g.row.T.Denot g.row.T-Kind.Denot g.row.T-Op.Denot g.row.T-Delta.Denot = record { entry = None; prunes = c.new.result } in
-    let none = (ticked_none g.T.Replica digest kinds logs node c.args.state.now c.args.id c.args.view c.args.members.now ticks held tick c.args.removed.now (sym removed) (ap (λ entry. list_any (λ r. nat_lt 0 (number_at entry.versions r)) c.args.removed.now) (sym c.envelope-held.ensures) ∙ sym c.knows_any.ensures ∙ c.if-not-knows_any.true) refl c.new.ensures.items).1 in
-    sym (ap (λ l. map meant_at_key c.args.outcomes.now ++ (l ++ [])) none ∙ append-nil (map meant_at_key c.args.outcomes.now))
+pub returns-then-not-knows_any : goal.returns-then-not-knows_any
+returns-then-not-knows_any g c = record {
+  own = own_none g.T.Replica c.args.id c.args.removed.now c.args.state.now _ c.requires refl c.new.ensures.items;
+  image = λ digest kinds logs node ticks due.
+      let removed = due.gone in
+      let held = due.held in
+      let part = due.log in
+      (ticked_none g.T.Replica digest kinds logs node c.args.state.now c.args.id c.args.view c.args.members.now ticks held _ c.args.removed.now (sym removed) (ap (λ entry. list_any (λ r. nat_lt 0 (number_at entry.versions r)) c.args.removed.now) (sym c.envelope-held.ensures) ∙ sym c.knows_any.ensures ∙ c.if-not-knows_any.true) refl c.new.ensures.items).0;
+  told = λ digest kinds logs node ticks due.
+      let removed = due.gone in
+      let held = due.held in
+      let part = due.log in
+      let tick : KeyTick g.row.T.Denot g.row.T-Kind.Denot g.row.T-Op.Denot g.row.T-Delta.Denot = record { entry = None; prunes = c.new.result } in
+      let none = (ticked_none g.T.Replica digest kinds logs node c.args.state.now c.args.id c.args.view c.args.members.now ticks held tick c.args.removed.now (sym removed) (ap (λ entry. list_any (λ r. nat_lt 0 (number_at entry.versions r)) c.args.removed.now) (sym c.envelope-held.ensures) ∙ sym c.knows_any.ensures ∙ c.if-not-knows_any.true) refl c.new.ensures.items).1 in
+      sym (ap (λ l. map meant_at_key c.args.outcomes.now ++ (l ++ [])) none ∙ append-nil (map meant_at_key c.args.outcomes.now));
+}

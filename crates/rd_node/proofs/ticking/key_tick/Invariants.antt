@@ -1,14 +1,10 @@
-use Rattle.std.proofs.Common.{◌≡◌, ℕ, ◌≤◌, ◌++◌, List, length, take}
-use Rattle.std.specs.Prelude.{map}
-use Rattle.rd_history.specs.Texts.{Text}
-use Rattle.rd_history.specs.History.{History, IsPartOf}
+use Rattle.std.proofs.Common.{◌≡◌, ℕ, ◌≤◌, ◌++◌, List, length, take, map}
+use Rattle.rd_node.proofs.Common.{Text, History, IsPartOf, Shown, delta_groups, IsHeldBy, TicksIn}
 use Rattle.rd_model.specs.Entry as model
 use Rattle.rd_model.specs.Node as nodes
-use Rattle.rd_kinds.specs.declared.shown.Shown.{Shown}
-use Rattle.rd_node.specs.Replies.{delta_groups, meant_at_key}
-use Rattle.rd_node.specs.Sending.{IsHeldBy}
-use Rattle.rd_node.specs.Ticking.{TicksIn, IsOwnCourse, IsInCourse}
-use Rattle.rd_node.proofs.Courses.{course_after}
+use Rattle.rd_node.specs.Replies.{meant_at_key}
+use Rattle.rd_node.specs.Ticking.{IsOwnCourse, IsInCourse}
+use Rattle.rd_node.proofs.Ticks.{course_after}
 use Rattle.rd_node.proofs.ticking.key_tick.Given as goal
 
 -- the identities so far are done

@@ -1,11 +1,8 @@
-use Rattle.std.proofs.Common.{ap, sym, ◌∙◌, subst, refl}
-use Rattle.std.specs.Prelude.{Ok}
+use Rattle.std.proofs.Common.{ap, sym, ◌∙◌, subst, refl, Ok}
+use Rattle.rd_node.proofs.Common.{StandsFor, parts_of}
 use Rattle.rd_model.specs.Entry.{ticked}
-use Rattle.rd_envelope.specs.Images.{StandsFor}
-use Rattle.rd_envelope.specs.Words.{parts_of}
 use Rattle.rd_node.specs.Ticking.{IsTicked}
-use Rattle.rd_node.proofs.Ticks.{nothing_at, marked_at, newer_at, standing_at}
-use Rattle.rd_node.proofs.Performing.{tick_as}
+use Rattle.rd_node.proofs.Ticks.{nothing_at, marked_at, newer_at, standing_at, tick_as}
 use Rattle.rd_node.proofs.ticking.outcome_of.Goals as goal
 
 pub returns-in-NothingKnown-clause-image : goal.returns-in-NothingKnown-clause-image

@@ -1,9 +1,6 @@
-use Rattle.std.proofs.Common.{ap, sym, subst, refl}
-use Rattle.std.specs.Prelude.{Ok}
-use Rattle.rd_envelope.specs.Images.{StandsFor}
-use Rattle.rd_envelope.specs.Words.{parts_of}
-use Rattle.rd_node.proofs.Ticks.{taken_next}
-use Rattle.rd_node.proofs.Performing.{standing, ticked_waits, ticked_blocks, ticked_performs, ticked_as}
+use Rattle.std.proofs.Common.{ap, sym, subst, refl, Ok}
+use Rattle.rd_node.proofs.Common.{StandsFor, parts_of}
+use Rattle.rd_node.proofs.Ticks.{taken_next, standing, ticked_waits, ticked_blocks, ticked_performs, ticked_as}
 use Rattle.rd_node.proofs.ticking.performed.Goals as goal
 
 pub returns-in-Performed-clause-image : goal.returns-in-Performed-clause-image

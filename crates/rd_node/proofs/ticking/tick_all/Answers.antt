@@ -1,12 +1,8 @@
-use Rattle.std.proofs.Common.{◌++◌, [], ◌∷◌, take, sym, ap, ◌∙◌, subst, arith}
-use Rattle.std.specs.Prelude.{flat_map}
-use Rattle.std.proofs.lemmas.List.{take_all}
+use Rattle.std.proofs.Common.{◌++◌, [], ◌∷◌, take, sym, ap, ◌∙◌, subst, arith, flat_map, take_all}
 use Rattle.std.proofs.lemmas.Grind.{flat_map-append}
-use Rattle.rd_node.specs.Changes.{AreMade}
-use Rattle.rd_node.specs.Replies.{delta_groups}
-use Rattle.rd_node.specs.Ticking.{CanTick, IsDue, IsKeyTick, IsTickedAs, TellsMore, tick_in}
-use Rattle.rd_node.proofs.Lists.{one_more}
-use Rattle.rd_node.proofs.Written.{counted_more, made_more}
+use Rattle.rd_node.proofs.Common.{AreMade, delta_groups, IsKeyTick, IsTickedAs, tick_in}
+use Rattle.rd_node.specs.Ticking.{CanTick, IsDue, TellsMore}
+use Rattle.rd_node.proofs.Lists.{one_more, counted_more, made_more}
 use Rattle.rd_node.proofs.ticking.tick_all.Goals as goal
 
 pub key_tick-requires : goal.key_tick-requires
@@ -37,18 +33,15 @@ loop-state-preserved g c =
           ∙ sym (ap (flat_map (λ s. (tick_in D node s).outcomes)) (one_more keys index state within c.state-item.is) ∙ flat_map-append (λ s. (tick_in D node s).outcomes) (take index keys) (state ∷ []));
     }
 
-pub returns-clause-own : goal.returns-clause-own
-returns-clause-own g c =
+pub returns : goal.returns
+returns g c =
     let inv = c.loop-state.invariant in
-    subst (AreMade (IsKeyTick g.T.Replica c.args.id) c.args.keys.now) (sym c.into_vec.ensures) (record { one_each = (let n = inv.counted in omega arith); made = λ k d e within. inv.own k d e (omega arith) })
-
-pub returns-clause-image : goal.returns-clause-image
-returns-clause-image g c = λ digest kinds logs node ticks due.
-    let R = g.T.Replica in
-    let inv = c.loop-state.invariant in
-    let image = inv.image digest kinds logs node ticks due in
-    subst (AreMade (IsTickedAs (delta_groups R.data_type digest) node R logs) c.args.keys.now) (sym c.into_vec.ensures) (record { one_each = (let n = inv.counted in omega arith); made = λ k d e within. image k d e (omega arith) })
-
-pub returns-clause-told : goal.returns-clause-told
-returns-clause-told g c = λ digest kinds logs node ticks due.
-    subst (λ keys. TellsMore (delta_groups g.T.Replica.data_type digest) node [] keys c.loop-state.outcomes) (take_all c.loop-state.state-index c.args.keys.now (omega arith)) (c.loop-state.invariant.told digest kinds logs node ticks due)
+    record {
+      own = subst (AreMade (IsKeyTick g.T.Replica c.args.id) c.args.keys.now) (sym c.into_vec.ensures) (record { one_each = (let n = inv.counted in omega arith); made = λ k d e within. inv.own k d e (omega arith) });
+      image = λ digest kinds logs node ticks due.
+          let R = g.T.Replica in
+          let image = inv.image digest kinds logs node ticks due in
+          subst (AreMade (IsTickedAs (delta_groups R.data_type digest) node R logs) c.args.keys.now) (sym c.into_vec.ensures) (record { one_each = (let n = inv.counted in omega arith); made = λ k d e within. image k d e (omega arith) });
+      told = λ digest kinds logs node ticks due.
+          subst (λ keys. TellsMore (delta_groups g.T.Replica.data_type digest) node [] keys c.loop-state.outcomes) (take_all c.loop-state.state-index c.args.keys.now (omega arith)) (c.loop-state.invariant.told digest kinds logs node ticks due);
+    }

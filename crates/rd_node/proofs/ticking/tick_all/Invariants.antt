@@ -1,14 +1,8 @@
-use Rattle.std.proofs.Common.{◌≡◌, ℕ, ◌<◌, [], List, length, take, get_or}
-use Rattle.std.specs.Prelude.{All}
-use Rattle.rd_history.specs.Texts.{Text}
-use Rattle.rd_history.specs.History.{History}
+use Rattle.std.proofs.Common.{◌≡◌, ℕ, ◌<◌, [], List, length, take, get_or, All}
+use Rattle.rd_node.proofs.Common.{Text, History, Shown, KeyState, KeyTick, delta_groups, TicksIn, IsKeyTick, IsTickedAs}
 use Rattle.rd_model.specs.Entry as model
 use Rattle.rd_model.specs.Node as nodes
-use Rattle.rd_kinds.specs.declared.shown.Shown.{Shown}
-use Rattle.rd_node.specs.declared.key.KeyState.{KeyState}
-use Rattle.rd_node.specs.declared.ticking.KeyTick.{KeyTick}
-use Rattle.rd_node.specs.Replies.{delta_groups}
-use Rattle.rd_node.specs.Ticking.{TicksIn, IsDue, IsKeyTick, IsTickedAs, TellsMore}
+use Rattle.rd_node.specs.Ticking.{IsDue, TellsMore}
 use Rattle.rd_node.proofs.ticking.tick_all.Given as goal
 
 -- the keys so far are done

@@ -1,5 +1,5 @@
 use Rattle.std.proofs.Common.{set, sym, ap, ◌∙◌}
-use Rattle.rd_node.specs.Planning.{ticked}
+use Rattle.rd_node.proofs.Common.{ticked}
 use Rattle.rd_node.proofs.ticking.write_at.Goals as goal
 
 pub returns : goal.returns

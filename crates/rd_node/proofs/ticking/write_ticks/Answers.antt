@@ -1,6 +1,7 @@
 use Rattle.std.proofs.Common.{◌≡◌, ◌<◌, ◌+◌, ◌≤◌, length, take, get_or, refl, sym, ap, ◌∙◌, subst, arith, vec_len, length-set}
-use Rattle.rd_node.specs.Planning.{ticked, CanFollow}
-use Rattle.rd_node.proofs.Written.{still_unwritten, written_more, last_left, rest_left}
+use Rattle.rd_node.proofs.Common.{ticked}
+use Rattle.rd_node.specs.Planning.{CanFollow}
+use Rattle.rd_node.proofs.Lists.{still_unwritten, written_more, last_left, rest_left}
 use Rattle.rd_node.proofs.ticking.write_ticks.Goals as goal
 
 pub loop-tick-preserved : goal.loop-tick-preserved

@@ -1,8 +1,5 @@
-use Rattle.std.proofs.Common.{◌≡◌, ℕ, ◌<◌, ◌≤◌, length, take, vec_len}
-use Rattle.std.specs.Prelude.{slice_index_or}
-use Rattle.rd_node.specs.declared.key.KeyState.{KeyState}
-use Rattle.rd_node.specs.declared.ticking.KeyTick.{KeyTick}
-use Rattle.rd_node.specs.Planning.{ticked}
+use Rattle.std.proofs.Common.{◌≡◌, ℕ, ◌<◌, ◌≤◌, length, take, vec_len, slice_index_or}
+use Rattle.rd_node.proofs.Common.{KeyState, KeyTick, ticked}
 use Rattle.rd_node.proofs.ticking.write_ticks.Given as goal
 
 -- those from the end back are written

@@ -1,6 +1,6 @@
 use Rattle.std.proofs.Common.{◌<◌, ◌≤◌, ◌++◌, ◌∷◌, [], length, take, sym, ap, subst, ◌∙◌, arith}
 use Rattle.std.proofs.lemmas.List.{take_more, take_all}
-use Rattle.rd_world.proofs.Stays.{match_err}
+use Rattle.rd_world.proofs.Answering.{match_err}
 use Rattle.rd_report.proofs.Stages.{Passes, first_passed, next_passed, end_passed, kept_further_on}
 use Rattle.rd_report.proofs.playing.end_told.Goals as goal
 

@@ -1,6 +1,6 @@
 use Rattle.std.proofs.Common.{◌≡◌, ◌++◌, ◌<◌, ◌≤◌, ◌+◌, ◌∷◌, [], suc, length, take, flat_map, sym, ap, subst, ◌∙◌, string_bytes, arith}
 use Rattle.std.proofs.lemmas.List.{take_more, take_all, length-take-le}
-use Rattle.rd_world.proofs.Stays.{match_err}
+use Rattle.rd_world.proofs.Answering.{match_err}
 use Rattle.rd_report.specs.Lines.{event_text}
 use Rattle.rd_report.proofs.Stages.{Stage, all_kept, kept_further_on, first_stage, next_stage, last_stage}
 use Rattle.rd_report.proofs.playing.told.Goals as goal

@@ -1,6 +1,6 @@
 use Rattle.std.proofs.Common.{◌∙◌, subst}
 use Rattle.rd_cell.specs.Entries.{history_at}
-use Rattle.rd_world.proofs.Changing.{last_sound}
+use Rattle.rd_world.proofs.Seats.{last_sound}
 use Rattle.rd_run_order.specs.Finishing.{ArePassed}
 use Rattle.rd_run_order.proofs.Finishing.{ok_there}
 use Rattle.rd_run_order.proofs.Left.{left_of, keepers_left}

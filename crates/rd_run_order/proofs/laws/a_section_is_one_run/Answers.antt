@@ -1,6 +1,6 @@
 use Rattle.std.proofs.Common.{◌∙◌, ap, subst}
 use Rattle.rd_views.specs.Sound.{IsView, AreViews, last_view}
-use Rattle.rd_world.proofs.Changing.{last_sound}
+use Rattle.rd_world.proofs.Seats.{last_sound}
 use Rattle.rd_run_order.proofs.Together.{one_run}
 use Rattle.rd_run_order.proofs.laws.a_section_is_one_run.Goals as goal
 

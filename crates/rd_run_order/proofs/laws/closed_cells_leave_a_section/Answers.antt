@@ -1,6 +1,6 @@
 use Rattle.std.proofs.Common.{◌∙◌, subst}
 use Rattle.rd_views.specs.Sound.{AreViews}
-use Rattle.rd_world.proofs.Changing.{last_sound}
+use Rattle.rd_world.proofs.Seats.{last_sound}
 use Rattle.rd_run_order.proofs.Closing.{closed_section}
 use Rattle.rd_run_order.proofs.Places.{none_past}
 use Rattle.rd_run_order.proofs.laws.closed_cells_leave_a_section.Goals as goal

@@ -1,4 +1,4 @@
-use Rattle.rd_world.proofs.Lasting.{never_returns}
+use Rattle.rd_world.proofs.Onward.{never_returns}
 use Rattle.rd_world.proofs.laws.the_removed_never_returns.Goals as goal
 
 pub returns : goal.returns

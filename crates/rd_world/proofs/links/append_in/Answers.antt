@@ -1,12 +1,12 @@
-use Rattle.std.proofs.Common.{◌∙◌, ◌++◌, ◌∷◌, [], ap, arith, length, List}
+use Rattle.std.proofs.Common.{◌∷◌, [], ap, arith, List}
 use Rattle.rd_world.specs.Channels.{channel_of, extended}
 use Rattle.rd_world.proofs.Lists.{mapped_set, mapped_past}
-use Rattle.rd_world.proofs.Rooms.{same_row}
-use Rattle.rd_world.proofs.Stays.{err_gives}
+use Rattle.rd_world.proofs.Sendings.{same_row}
+use Rattle.rd_node.proofs.Standing.{on_err}
 use Rattle.rd_world.proofs.links.append_in.Goals as goal
 
 pub returns-in_err-push-clause-err : goal.returns-in_err-push-clause-err
-returns-in_err-push-clause-err g c = err_gives c.from_residual.result (same_row c.args.row.now c.args.to c.index_mut-link.result.now c.push.new.self c.index_mut-link.ensures.value c.in_err-push.ensures.items)
+returns-in_err-push-clause-err g c = on_err c.from_residual.result (same_row c.args.row.now c.args.to c.index_mut-link.result.now c.push.new.self c.index_mut-link.ensures.value c.in_err-push.ensures.items)
 
 pub returns-in_ok-push-clause-ok : goal.returns-in_ok-push-clause-ok
 returns-in_ok-push-clause-ok g c =

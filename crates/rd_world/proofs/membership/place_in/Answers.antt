@@ -1,6 +1,6 @@
 use Rattle.std.proofs.Common.{sym, subst}
 use Rattle.rd_views.specs.Sound.{IsView}
-use Rattle.rd_world.proofs.SeatChanges.{last_sound, few_seat}
+use Rattle.rd_world.proofs.Seats.{few_seat, last_sound}
 use Rattle.rd_world.proofs.membership.place_in.Goals as goal
 
 pub returns-clause-within : goal.returns-clause-within

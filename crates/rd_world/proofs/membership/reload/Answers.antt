@@ -1,5 +1,5 @@
 use Rattle.std.proofs.Common.{arith, sym, subst, ◌∙◌, inl, Err, Ok, None}
-use Rattle.rd_node.proofs.Keepers.{becomes_same, back_same}
+use Rattle.rd_node.proofs.Standing.{becomes_same, back_same}
 use Rattle.rd_world.specs.Reloading.{Reloads}
 use Rattle.rd_world.proofs.Seats.{acts_at, acts_nowhere, acts_same}
 use Rattle.rd_world.proofs.membership.reload.Goals as goal

@@ -2,10 +2,9 @@ use Rattle.std.proofs.Common.{◌∙◌, ◌+◌, ◌<◌, ◌++◌, ◌∷◌, 
 use Rattle.std.specs.Prelude.{if◌then◌else◌}
 use Rattle.std.specs.Vec.{with_item}
 use Rattle.rd_world.specs.declared.links.Link.{Link}
-use Rattle.rd_world.specs.Channels.{channel_of}
-use Rattle.rd_world.specs.Channels.{extended}
+use Rattle.rd_world.specs.Channels.{channel_of, extended}
 use Rattle.rd_world.proofs.Lists.{mapped_set, mapped_past}
-use Rattle.rd_world.proofs.Rooms.{room_at, room_after}
+use Rattle.rd_world.proofs.Sendings.{room_at, room_after}
 use Rattle.rd_world.proofs.sending.append.Goals as goal
 
 pub returns-then-to-len-clause-sent : goal.returns-then-to-len-clause-sent

@@ -3,7 +3,7 @@ use Rattle.std.specs.Prelude.{◌==◌}
 use Rattle.rd_model.specs.View.{Member}
 use Rattle.rd_world.specs.Sending.{HasRoom}
 use Rattle.std.proofs.lemmas.List.{take_all}
-use Rattle.rd_world.proofs.Rooms.{room_for_more, room_for_members}
+use Rattle.rd_world.proofs.Sendings.{room_for_more, room_for_members}
 use Rattle.rd_world.proofs.sending.reserve.Goals as goal
 
 pub loop-member-preserved : goal.loop-member-preserved

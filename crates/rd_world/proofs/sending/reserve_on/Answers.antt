@@ -3,7 +3,7 @@ use Rattle.std.specs.Prelude.{◌==◌}
 use Rattle.std.specs.Vec.{with_item}
 use Rattle.rd_world.specs.declared.links.Link.{Link}
 use Rattle.rd_world.specs.Sending.{HasRoom}
-use Rattle.rd_world.proofs.Rooms.{room_kept, room_made, same_row}
+use Rattle.rd_world.proofs.Sendings.{room_kept, room_made, same_row}
 use Rattle.rd_world.proofs.sending.reserve_on.Goals as goal
 
 pub returns-in_err-reserve-clause-same : goal.returns-in_err-reserve-clause-same

@@ -1,14 +1,13 @@
-use Rattle.std.proofs.Common.{◌≡◌, ◌∙◌, sym, ap, subst, refl, arith, List, length, map, ◌+◌, ◌-◌, ◌++◌, [], ◌∷◌}
+use Rattle.std.proofs.Common.{◌≡◌, ◌∙◌, sym, ap, subst, arith, List, length, map, ◌+◌, ◌-◌, ◌++◌}
 use Rattle.std.specs.Prelude.{is_ok, slice_get, option_map, true}
 use Rattle.std.specs.List.{list_all}
+use Rattle.std.proofs.lemmas.List.{map-id}
 use Rattle.std.proofs.lemmas.Iterator.Adapters.{YieldsList-from_vec}
 use Rattle.std.proofs.lemmas.Iterator.Consumers.{YieldsList-end}
 use Rattle.rd_messages.specs.declared.message.Post.{Post}
-use Rattle.rd_world.specs.Channels.{row_of}
-use Rattle.rd_world.specs.Channels.{extended}
+use Rattle.rd_world.specs.Channels.{row_of, extended}
 use Rattle.rd_world.specs.Sending.{messages_to, told_of}
-use Rattle.rd_world.proofs.Rooms.{less_room}
-use Rattle.rd_world.proofs.Sendings.{none_yet, sent_more, told_more}
+use Rattle.rd_world.proofs.Sendings.{less_room, none_yet, sent_more, told_more}
 use Rattle.rd_world.proofs.sending.send.Goals as goal
 
 pub loop-post-init : goal.loop-post-init
@@ -22,18 +21,11 @@ loop-post-preserved g c =
           (ap (λ s. record { to = c.in-Some.post.to; sketch = s }) c.sketch-sketch.ensures) c.loop-post.invariant.told c.push.ensures.succeeds c.push.ensures.items c.push.ensures.len c.push.ensures.capacity;
     }
 
-all_yielded : {A : Type 0} (xs ys : List A) → map (λ (x : A). x) xs ≡ ys → xs ≡ ys
-all_yielded {A = A} xs ys e = sym (same xs) ∙ e
-  where
-    same : (zs : List A) → map (λ (x : A). x) zs ≡ zs
-    same [] = refl
-    same (z ∷ zs) = ap (λ ws. z ∷ ws) (same zs)
-
 pub returns-clause-row : goal.returns-clause-row
 returns-clause-row g c = λ ids room has within all.
     let posts = c.args.posts.items in
     let ends = YieldsList-end (YieldsList-from_vec posts c.into_iter-post-iterator.ensures.into_iter_gives.0 (c.into_iter-post-iterator.ensures.into_iter_gives.1 ∙ c.args.posts.ok.0)) c.loop-post.yielded c.loop-post.post-iterator c.loop-post.yielded_by c.next.result c.next.new.self c.in-None.is c.next.ensures.steps in
-    let whole : c.loop-post.yielded ≡ posts = all_yielded c.loop-post.yielded posts ends.0 in
+    let whole : c.loop-post.yielded ≡ posts = sym (map-id c.loop-post.yielded) ∙ ends.0 in
     let count : length c.loop-post.yielded ≡ length posts = ap length whole in
     λ b.
     subst (λ (these : List (Post g.row.T.Denot g.row.T-Kind.Denot g.row.T-Op.Denot g.row.T-Delta.Denot g.T.Replica)). slice_get (row_of c.loop-post.row) b ≡ option_map (extended (messages_to these b)) (slice_get (row_of c.args.row.now) b)) whole
@@ -44,6 +36,6 @@ pub returns-clause-told : goal.returns-clause-told
 returns-clause-told g c = λ has.
     let posts = c.args.posts.items in
     let ends = YieldsList-end (YieldsList-from_vec posts c.into_iter-post-iterator.ensures.into_iter_gives.0 (c.into_iter-post-iterator.ensures.into_iter_gives.1 ∙ c.args.posts.ok.0)) c.loop-post.yielded c.loop-post.post-iterator c.loop-post.yielded_by c.next.result c.next.new.self c.in-None.is c.next.ensures.steps in
-    let whole : c.loop-post.yielded ≡ posts = all_yielded c.loop-post.yielded posts ends.0 in
+    let whole : c.loop-post.yielded ≡ posts = sym (map-id c.loop-post.yielded) ∙ ends.0 in
     let count : length c.loop-post.yielded ≡ length posts = ap length whole in
     c.loop-post.invariant.told.told (omega arith) ∙ ap (λ (these : List (Post g.row.T.Denot g.row.T-Kind.Denot g.row.T-Op.Denot g.row.T-Delta.Denot g.T.Replica)). c.args.sent.now.items ++ map told_of these) whole

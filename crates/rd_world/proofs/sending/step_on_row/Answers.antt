@@ -1,15 +1,15 @@
 use Rattle.std.proofs.Common.{◌∙◌, sym, subst, refl}
 use Rattle.rd_model.specs.View.{View}
 use Rattle.rd_world.specs.Sending.{HasRoom, receivers}
-use Rattle.rd_world.proofs.Stays.{unchanged_itself, err_gives}
+use Rattle.rd_node.proofs.Standing.{unchanged_same, on_err}
 use Rattle.rd_world.proofs.Sendings.{steps_on_row}
 use Rattle.rd_world.proofs.sending.step_on_row.Goals as goal
 
 pub returns-in_err-sent-clause-err : goal.returns-in_err-sent-clause-err
-returns-in_err-sent-clause-err g c = err_gives c.from_residual.result (unchanged_itself c.args.node.now, refl)
+returns-in_err-sent-clause-err g c = on_err c.from_residual.result (unchanged_same c.args.node.now, refl)
 
 pub returns-in_err-make_room-clause-err : goal.returns-in_err-make_room-clause-err
-returns-in_err-make_room-clause-err g c = err_gives c.from_residual-in_err-make_room.result (unchanged_itself c.args.node.now, c.make_room.ensures.same)
+returns-in_err-make_room-clause-err g c = on_err c.from_residual-in_err-make_room.result (unchanged_same c.args.node.now, c.make_room.ensures.same)
 
 pub returns-clause-ok : goal.returns-clause-ok
 returns-clause-ok g c =

@@ -7,18 +7,18 @@ use Rattle.rd_node.specs.declared.input.Input.TheVariants as input
 use Rattle.rd_node.specs.Steps.{MakesStep}
 use Rattle.rd_world.specs.Channels.{channel_at, message_on, row_of}
 use Rattle.rd_world.specs.Sending.{HasRoom}
-use Rattle.rd_world.proofs.Stays.{unchanged_itself, err_gives}
+use Rattle.rd_node.proofs.Standing.{unchanged_same, on_err}
 use Rattle.rd_world.proofs.Sendings.{same_rows, steps_on_row, steps_on_links}
 use Rattle.rd_world.proofs.sending.take_on.Goals as goal
 
 pub returns-in_err-sent-clause-err : goal.returns-in_err-sent-clause-err
-returns-in_err-sent-clause-err g c = err_gives c.from_residual.result (unchanged_itself c.args.node.now, refl)
+returns-in_err-sent-clause-err g c = on_err c.from_residual.result (unchanged_same c.args.node.now, refl)
 
 pub returns-in_err-reserve_on-clause-err : goal.returns-in_err-reserve_on-clause-err
 returns-in_err-reserve_on-clause-err g c =
     let rows = c.links.inside.rows in
-    err_gives c.from_residual-in_err-reserve_on.result
-    (unchanged_itself c.args.node.now, same_rows rows.items c.from-sender.result c.index_mut.result.now c.reserve_on.new.row c.index_mut.ensures.value c.reserve_on.ensures.same ∙ c.links.view_is)
+    on_err c.from_residual-in_err-reserve_on.result
+    (unchanged_same c.args.node.now, same_rows rows.items c.from-sender.result c.index_mut.result.now c.reserve_on.new.row c.index_mut.ensures.value c.reserve_on.ensures.same ∙ c.links.view_is)
 
 pub unreachable-requires : goal.unreachable-requires
 unreachable-requires g c =
@@ -33,7 +33,7 @@ unreachable-requires g c =
 pub returns-in_err-output-clause-err : goal.returns-in_err-output-clause-err
 returns-in_err-output-clause-err g c =
     let rows = c.links.inside.rows in
-    err_gives c.from_residual-in_err-output.result
+    on_err c.from_residual-in_err-output.result
     (c.in_err-output.ensures.unchanged, same_rows rows.items c.from-sender.result c.index_mut.result.now c.reserve_on.new.row c.index_mut.ensures.value c.reserve_on.ensures.same ∙ c.links.view_is)
 
 pub returns-clause-ok : goal.returns-clause-ok

@@ -1,5 +1,5 @@
 use Rattle.std.proofs.Common.{arith}
-use Rattle.rd_world.proofs.Clearing.{all_cleared, cleared_at, refused_at}
+use Rattle.rd_world.proofs.Starting.{all_cleared, cleared_at, refused_at}
 use Rattle.rd_world.proofs.start.clear_all.Goals as goal
 
 pub returns-in-Err-clause-clears : goal.returns-in-Err-clause-clears

@@ -1,4 +1,4 @@
-use Rattle.rd_world.proofs.Clearing.{AreClearedBelow}
+use Rattle.rd_world.proofs.Starting.{AreClearedBelow}
 use Rattle.rd_world.proofs.start.clear_all.Given as goal
 
 abbrev pub invariant-loop-place : goal.invariant-loop-place

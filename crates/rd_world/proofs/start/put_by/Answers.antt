@@ -1,5 +1,5 @@
 use Rattle.std.proofs.Common.{arith}
-use Rattle.rd_world.proofs.Placing.{put_whole}
+use Rattle.rd_world.proofs.Starting.{put_whole}
 use Rattle.rd_world.proofs.start.put_by.Goals as goal
 
 pub returns-clause-spare : goal.returns-clause-spare

@@ -1,4 +1,4 @@
-use Rattle.rd_world.proofs.Placing.{IsPutBy}
+use Rattle.rd_world.proofs.Starting.{IsPutBy}
 use Rattle.rd_world.proofs.start.put_by.Given as goal
 
 abbrev pub invariant-loop-keeper : goal.invariant-loop-keeper

@@ -2,7 +2,7 @@ use Rattle.std.proofs.Common.{◌≡◌, arith, sym, subst, true}
 use Rattle.rd_model.specs.View.{is_member, first_view}
 use Rattle.rd_runs.proofs.ViewLaws.{first_member}
 use Rattle.rd_world.specs.Seating.{Seats}
-use Rattle.rd_world.proofs.FirstSeats.{one_seated, all_seated, still_kept, kept_after}
+use Rattle.rd_world.proofs.Starting.{one_seated, all_seated, still_kept, kept_after}
 use Rattle.rd_world.proofs.start.seat_first.Goals as goal
 
 pub seat-requires-clause-member : goal.seat-requires-clause-member

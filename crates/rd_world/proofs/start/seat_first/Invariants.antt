@@ -1,4 +1,4 @@
-use Rattle.rd_world.proofs.FirstSeats.{IsSeatedBelow}
+use Rattle.rd_world.proofs.Starting.{IsSeatedBelow}
 use Rattle.rd_world.proofs.start.seat_first.Given as goal
 
 abbrev pub invariant-loop-place : goal.invariant-loop-place

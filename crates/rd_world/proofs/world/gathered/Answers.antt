@@ -2,7 +2,7 @@ use Rattle.std.proofs.Common.{◌≡◌, length}
 use Rattle.std.proofs.lemmas.Iterator.{YieldsList-from_zip}
 use Rattle.std.proofs.lemmas.Iterator.Adapters.{YieldsList-from_vec}
 use Rattle.std.proofs.lemmas.Iterator.Consumers.{YieldsList-end}
-use Rattle.rd_world.proofs.Gathering.{one_gathered, all_gathered}
+use Rattle.rd_world.proofs.Starting.{one_gathered, all_gathered}
 use Rattle.rd_world.proofs.world.gathered.Goals as goal
 
 pub loop-node-preserved : goal.loop-node-preserved

@@ -1,4 +1,4 @@
-use Rattle.rd_world.proofs.Gathering.{AreGathered}
+use Rattle.rd_world.proofs.Starting.{AreGathered}
 use Rattle.rd_world.proofs.world.gathered.Given as goal
 
 abbrev pub invariant-loop-node : goal.invariant-loop-node

@@ -25,7 +25,7 @@ pub returns-then-are_unmarked : goal.returns-then-are_unmarked
 returns-then-are_unmarked g c = record {
   image = λ log old new s t.
       let none = c.are_unmarked.ensures.0 c.if-are_unmarked.true in
-      same_counts g.T.Replica.IsDataOf (parts_of c.args.since.now) (parts_of c.args.self.now) log old new c.same.result s t (unmarked c.args.since.now.markers none.1) (unmarked c.args.self.now.markers none.0) c.same.ensures;
+      same_counts g.T.Replica.IsDataOf (parts_of c.args.since.now) (parts_of c.args.self.now) log old new c.same.result s t (unmarked c.args.since.now.markers none.1) (unmarked c.args.self.now.markers none.0) (rw (← c.self.view_is, ← c.since.view_is) c.same.ensures);
 }
 
 pub returns : goal.returns

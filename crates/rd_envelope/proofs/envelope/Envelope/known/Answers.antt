@@ -20,8 +20,8 @@ loop-number-preserved g c = λ log entry s. elim c.match-new.branch [
 
 pub returns-then-is_empty : goal.returns-then-is_empty
 returns-then-is_empty g c = record {
-  image = λ log entry s. copied_counts c.copy.result c.args.self.now.versions (versions entry.history) c.copy.ensures.same
-      (all_counted g.T.Replica.IsDataOf (parts_of c.args.self.now) log entry s (unmarked c.args.self.now.markers (c.is_empty.ensures.0 c.if-is_empty.true)));
+  image = λ log entry s. copied_counts c.copy.result c.args.self.now.versions (versions entry.history) (rw (← c.self.view_is) c.copy.ensures.same)
+      (all_counted g.T.Replica.IsDataOf (parts_of c.args.self.now) log entry s (unmarked c.args.self.now.markers (rw (← c.self.view_is) (c.is_empty.ensures.0 c.if-is_empty.true))));
 }
 
 pub returns : goal.returns

@@ -1,9 +1,8 @@
-use Rattle.std.proofs.Common.{take, [], ◌∷◌, ◌++◌, sym, ap, ◌∙◌, subst, map}
+use Rattle.std.proofs.Common.{take, [], ◌∷◌, ◌++◌, sym, ap, ◌∙◌, subst, map, All}
 use Rattle.std.proofs.lemmas.List.{map_more, map-append}
 use Rattle.std.proofs.lemmas.List.Elements.{All-push}
-use Rattle.std.specs.Prelude.{All}
-use Rattle.rd_node.specs.Keys.{declared, declared_by}
-use Rattle.rd_node.specs.Fresh.{IsFresh}
+use Rattle.rd_node.proofs.Common.{declared_by, IsFresh}
+use Rattle.rd_node.specs.Keys.{declared}
 use Rattle.rd_node.proofs.key.KeyState.all_new.Goals as goal
 
 pub loop-decl-preserved : goal.loop-decl-preserved

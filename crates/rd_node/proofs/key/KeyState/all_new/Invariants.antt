@@ -1,7 +1,6 @@
-use Rattle.std.proofs.Common.{◌≡◌, take, map}
-use Rattle.std.specs.Prelude.{All}
-use Rattle.rd_node.specs.Keys.{declared, declared_by}
-use Rattle.rd_node.specs.Fresh.{IsFresh}
+use Rattle.std.proofs.Common.{◌≡◌, take, map, All}
+use Rattle.rd_node.proofs.Common.{declared_by, IsFresh}
+use Rattle.rd_node.specs.Keys.{declared}
 use Rattle.rd_node.proofs.key.KeyState.all_new.Given as goal
 
 abbrev pub invariant-loop-decl : goal.invariant-loop-decl

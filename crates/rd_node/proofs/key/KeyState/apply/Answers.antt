@@ -1,19 +1,14 @@
 use Rattle.std.proofs.Common.{◌≡◌, ℕ, None, refl, ap, subst, ◌∙◌}
-use Rattle.rd_history.specs.History.{History}
+use Rattle.rd_node.proofs.Common.{History, IsTakenFrom, with_action, Envelope, StandsFor, parts_of, KeyState}
 use Rattle.rd_history.specs.History.Action.{Operation}
-use Rattle.rd_history.specs.Log.{IsTakenFrom}
 use Rattle.rd_meanings.specs.Refusal.Refusal.{Overflow, ClockSpent, SetFull}
-use Rattle.rd_model.specs.Entry.{Entry, with_action}
+use Rattle.rd_model.specs.Entry.{Entry}
 use Rattle.rd_lattice.specs.Refusals.{IsApplyRefusal}
 use Rattle.rd_lattice.specs.declared.answers.ApplyError.{ApplyError}
-use Rattle.rd_envelope.specs.declared.envelope.Envelope.{Envelope}
-use Rattle.rd_envelope.specs.Images.{StandsFor}
-use Rattle.rd_envelope.specs.Words.{parts_of}
-use Rattle.rd_node.specs.declared.key.KeyState.{KeyState}
 use Rattle.rd_node.specs.declared.key.Updated.TheVariants.{Refused, Recorded}
 use Rattle.rd_node.specs.declared.reply.Reply.TheVariants as reply
 use Rattle.rd_node.specs.Recording.{IsRecorded, StandsForRecorded}
-use Rattle.rd_node.proofs.Applying.{own_record, means_record, means_refusal}
+use Rattle.rd_node.proofs.Updating.{own_record, means_record, means_refusal}
 use Rattle.rd_node.proofs.key.KeyState.apply.Given as given
 use Rattle.rd_node.proofs.key.KeyState.apply.Goals as goal
 

@@ -1,7 +1,6 @@
 use Rattle.rd_model.specs.Entry.{empty_entry}
-use Rattle.rd_envelope.specs.Images.{StandsFor}
-use Rattle.rd_envelope.specs.Words.{parts_of}
 use Rattle.std.proofs.Common.{refl, sym, ap, ◌∙◌, subst}
+use Rattle.rd_node.proofs.Common.{StandsFor, parts_of}
 use Rattle.rd_node.proofs.key.KeyState.new.Goals as goal
 
 pub returns-clause-fresh : goal.returns-clause-fresh

@@ -1,10 +1,7 @@
-use Rattle.std.proofs.Common.{sym, ap, ◌∙◌, subst, Some, None}
-use Rattle.std.specs.Prelude.{if◌then◌else◌}
+use Rattle.std.proofs.Common.{sym, ap, ◌∙◌, subst, Some, None, if◌then◌else◌}
+use Rattle.rd_node.proofs.Common.{StandsFor, parts_of, delta_groups}
 use Rattle.rd_model.specs.Node.{Reply as Meant}
 use Rattle.rd_model.specs.Step.{value_reply}
-use Rattle.rd_envelope.specs.Images.{StandsFor}
-use Rattle.rd_envelope.specs.Words.{parts_of}
-use Rattle.rd_node.specs.Replies.{delta_groups}
 use Rattle.rd_node.proofs.key.KeyState.show.Goals as goal
 
 pub returns-then-not-has_records-clause-image : goal.returns-then-not-has_records-clause-image

@@ -1,19 +1,11 @@
 use Rattle.std.proofs.Common.{◌≡◌, None, false, refl, sym, ap, ◌∙◌, subst, subst₂}
-use Rattle.rd_model.specs.Node.{one_step_later}
-use Rattle.rd_model.specs.Node.Fate.{NoStore}
+use Rattle.rd_node.proofs.Common.{one_step_later, NoStore, step_of_take, answered, counted, is_answered_by, StandsForPosts, Nothing, Prepared, IsPrepared, replication}
 use Rattle.rd_model.specs.Node.Reply.{Taken}
-use Rattle.rd_model.specs.Step.{step_of_take, answered, counted, is_answered_by}
-use Rattle.rd_messages.specs.Standing.{StandsForPosts}
 use Rattle.rd_node.specs.declared.operation.OperationResult.TheVariants.{Wrote}
-use Rattle.rd_node.specs.declared.plan.Plan.TheVariants.{Nothing}
-use Rattle.rd_node.specs.declared.plan.Prepared.{Prepared}
 use Rattle.rd_node.specs.declared.reply.Reply.TheVariants as reply
 use Rattle.rd_node.specs.Counting.{is_write}
-use Rattle.rd_node.specs.Planning.{IsPrepared}
-use Rattle.rd_node.specs.Steps.{replication}
-use Rattle.rd_node.proofs.Counts.{counts_can, counts_opens_none, write_counts}
-use Rattle.rd_node.proofs.Operating.{operates_same}
-use Rattle.rd_node.proofs.PreparedSteps.{sound_still, prepared_moved}
+use Rattle.rd_node.proofs.Operating.{counts_can, counts_opens_none, write_counts, operates_same}
+use Rattle.rd_node.proofs.Planned.{sound_still, prepared_moved}
 use Rattle.rd_node.proofs.TakingSteps.{member_is, step_taken}
 use Rattle.rd_node.proofs.node.Node.acknowledged.Goals as goal
 

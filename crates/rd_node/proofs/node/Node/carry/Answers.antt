@@ -1,10 +1,9 @@
 use Rattle.std.proofs.Common.{refl, sym, ap, ◌∙◌, subst}
 use Rattle.std.specs.Coded.{Coded-set}
-use Rattle.rd_node.specs.Operations.{changed_operations}
+use Rattle.rd_node.proofs.Common.{changed_operations}
 use Rattle.rd_node.specs.Storing.{AreStores}
 use Rattle.rd_node.specs.Steps.{IsKeptBy}
-use Rattle.rd_node.proofs.Keepers.{on_err, unchanged_same}
-use Rattle.rd_node.proofs.Nodes.{same_otherwise}
+use Rattle.rd_node.proofs.Standing.{on_err, unchanged_same, same_otherwise}
 use Rattle.rd_node.proofs.node.Node.carry.Goals as goal
 
 pub returns-in_err-stores-clause-unchanged : goal.returns-in_err-stores-clause-unchanged

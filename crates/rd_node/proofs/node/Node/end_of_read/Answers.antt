@@ -1,15 +1,53 @@
-use Rattle.std.proofs.Common.{◌≡◌, Some, None}
+use Rattle.std.proofs.Common.{◌≡◌, Some, None, if◌then◌else◌, bytes_eq, ℕ, List, get_or, sym, ap, ◌∙◌, subst, true, map, find, option_map, position}
 use Rattle.std.proofs.lemmas.Result.{IfOk-weaker}
-use Rattle.std.specs.Prelude.{if◌then◌else◌}
-use Rattle.std.specs.Str.{bytes_eq}
-use Rattle.rd_model.specs.Entry.{has_records}
-use Rattle.rd_model.specs.Step.{read_result, result_of}
+use Rattle.rd_node.proofs.Common.{Text, VersionVector, IdentitySet, History, has_records, result_of, Replication, OpenOperation, key_state, state_of, Shown, Envelope, StandsFor, parts_of, StandsForEntry, result_meant, delta_groups, KeyState, Change, declared_by, AreMade, current_of, IsKept, LeadsTo, AreHeld}
+use Rattle.rd_model.specs.Entry as model
+use Rattle.rd_model.specs.Step.{read_result, shown_of}
+use Rattle.rd_model.specs.Node as nodes
+use Rattle.rd_model.specs.Node.{Result as Meant}
 use Rattle.rd_node.specs.declared.operation.OperationResult.{OperationResult}
-use Rattle.rd_node.specs.Operations.{result_meant}
-use Rattle.rd_node.specs.Replies.{delta_groups}
-use Rattle.rd_node.proofs.Lookup.{position-found}
-use Rattle.rd_node.proofs.ReadResults.{read_found, read_stands, read_undeclared}
+use Rattle.rd_node.proofs.Lists.{position-found, IsFound, position-none}
+use Rattle.rd_node.proofs.Standing.{find-map}
+use Rattle.rd_node.proofs.Takings.{made_at, stands_current, undeclared_in}
 use Rattle.rd_node.proofs.node.Node.end_of_read.Goals as goal
+
+module _ {T Kind Op Delta : Type 0} (D : Replication Kind Op Shown) (kind_of : T → Kind) (IsDataOf : T → History Op → VersionVector → IdentitySet → Type 0) (kinds : Text → Kind) (logs : Text → History Op) (id : ℕ) (keys : List (KeyState T Kind Op Delta))
+    (before : Text → model.Entry Op) (held : AreHeld kind_of IsDataOf kinds logs id keys before) (changes : List (Change T Kind Op Delta)) (kept : AreMade (IsKept kind_of id) keys changes)
+    (node : nodes.Node Kind Op Shown) (leads : AreMade (LeadsTo IsDataOf logs before node.entries) keys changes) (declares : node.keys ≡ map declared_by keys) (key : Text) (asked : OpenOperation) (at_key : asked.key ≡ key) (reads : asked.reads ≡ true) where
+  by_key : result_of D node asked ≡ read_result D (option_map (shown_of D) (key_state node key))
+  by_key =
+      ap (λ b. if b then read_result D (option_map (shown_of D) (key_state node asked.key)) else Meant.Wrote) reads ∙ ap (λ k. read_result D (option_map (shown_of D) (key_state node k))) at_key
+
+  read_undeclared : None ≡ position (λ (state : KeyState T Kind Op Delta). bytes_eq state.name key) keys → Meant.ReadNothing ≡ result_of D node asked
+  read_undeclared none =
+      let undeclared = undeclared_in node keys key declares (position-none (λ (state : KeyState T Kind Op Delta). bytes_eq state.name key) keys none) in
+      sym (by_key ∙ ap (λ o. read_result D (option_map (shown_of D) (option_map (state_of node) o))) undeclared)
+
+  -- the key at its place, after its change
+  module _ (index : ℕ) (at : KeyState T Kind Op Delta) (change : Change T Kind Op Delta) (found : IsFound (λ (state : KeyState T Kind Op Delta). bytes_eq state.name key) keys index) (is : at ≡ get_or keys index at) (is' : change ≡ get_or changes index change)
+      (mine : Envelope T Kind Op Delta) (same : mine ≡ current_of at change) where
+    first : StandsForEntry kind_of IsDataOf kinds logs at.name at.entry (before at.name)
+    first = subst (λ (state : KeyState T Kind Op Delta). StandsForEntry kind_of IsDataOf kinds logs state.name state.entry (before state.name)) (sym is) (held.held index at found.within)
+
+    read_stands : StandsFor IsDataOf (parts_of mine) (logs at.name) (node.entries at.name)
+    read_stands =
+        subst (λ (e : Envelope T Kind Op Delta). StandsFor IsDataOf (parts_of e) (logs at.name) (node.entries at.name)) (sym same)
+        (stands_current IsDataOf logs before node.entries at change (made_at (LeadsTo IsDataOf logs before node.entries) keys changes index at change found.within is is' leads) first.image)
+
+    kind_now : kind_of mine.value ≡ at.kind
+    kind_now =
+        let own = made_at (IsKept kind_of id) keys changes index at change found.within is is' kept in
+        ap (λ (e : Envelope T Kind Op Delta). kind_of e.value) same ∙ own.kind ∙ first.kind ∙ subst (λ (state : KeyState T Kind Op Delta). kinds state.name ≡ state.kind) (sym is) (held.of_kinds index at found.within)
+
+    declared_so : key_state node key ≡ Some (state_of node (declared_by at))
+    declared_so = ap (option_map (state_of node))
+        (ap (find (λ (decl : nodes.KeyDecl Kind). bytes_eq decl.name key)) declares ∙ find-map (λ (decl : nodes.KeyDecl Kind). bytes_eq decl.name key) declared_by keys
+        ∙ ap (option_map declared_by) (found.found at) ∙ ap (λ (state : KeyState T Kind Op Delta). Some (declared_by state)) (sym is))
+
+    read_found : (end : Meant Shown) → end ≡ read_result D (Some (if has_records (node.entries at.name) then Some (D.data_type.shown (kind_of mine.value) (node.entries at.name).history) else None)) → end ≡ result_of D node asked
+    read_found end ends =
+        ends ∙ ap (λ kind. read_result D (Some (if has_records (node.entries at.name) then Some (D.data_type.shown kind (node.entries at.name).history) else None))) kind_now
+        ∙ sym (by_key ∙ ap (λ o. read_result D (option_map (shown_of D) o)) declared_so)
 
 pub returns-in_default : goal.returns-in_default
 returns-in_default g c = λ digest kinds logs before node asked held kept leads declares at_key reads.

@@ -1,7 +1,5 @@
-use Rattle.std.proofs.Common.{ap, sym, ◌∙◌, Some}
-use Rattle.std.specs.Prelude.{option_map}
-use Rattle.std.specs.Str.{bytes_eq}
-use Rattle.rd_node.proofs.Lookup.{position-found, position-none}
+use Rattle.std.proofs.Common.{ap, sym, ◌∙◌, Some, option_map, bytes_eq}
+use Rattle.rd_node.proofs.Lists.{position-found, position-none}
 use Rattle.rd_node.proofs.node.Node.entry.Goals as goal
 
 pub returns-in-Some : goal.returns-in-Some

@@ -1,19 +1,9 @@
-use Rattle.std.proofs.Common.{None, refl, sym, ap, ◌∙◌, subst}
-use Rattle.std.specs.Prelude.{map, All}
-use Rattle.rd_model.specs.Node.{one_step_later}
-use Rattle.rd_model.specs.Node.Fate.{NoStore}
-use Rattle.rd_model.specs.Step.{step}
-use Rattle.rd_messages.specs.Standing.{StandsForPosts}
+use Rattle.std.proofs.Common.{None, refl, sym, ap, ◌∙◌, subst, map, All}
+use Rattle.rd_node.proofs.Common.{one_step_later, NoStore, step, StandsForPosts, Nothing, Prepared, declared_by, HoldsKey, IsPrepared, replication}
 use Rattle.rd_node.specs.declared.operations.OperationChange.TheVariants.{Same}
-use Rattle.rd_node.specs.declared.plan.Plan.TheVariants.{Nothing}
-use Rattle.rd_node.specs.declared.plan.Prepared.{Prepared}
 use Rattle.rd_node.specs.declared.reply.Reply.TheVariants as reply
-use Rattle.rd_node.specs.Keys.{declared_by}
-use Rattle.rd_node.specs.Gossip.{HoldsKey}
-use Rattle.rd_node.specs.Planning.{IsPrepared}
-use Rattle.rd_node.specs.Steps.{replication}
-use Rattle.rd_node.proofs.GossipSteps.{step-gossip-no_peer, step-gossip-peer, no_peer_is, holds_first}
-use Rattle.rd_node.proofs.PreparedSteps.{sound_still, sound_as, sound_told, prepared_answered, prepared_later}
+use Rattle.rd_node.proofs.TakingSteps.{step-gossip-no_peer, step-gossip-peer, no_peer_is, holds_first}
+use Rattle.rd_node.proofs.Planned.{sound_still, sound_as, sound_told, prepared_answered, prepared_later}
 use Rattle.rd_node.proofs.node.Node.gossiped.Goals as goal
 
 pub returns-then-not-is_peer-clause-sound : goal.returns-then-not-is_peer-clause-sound

@@ -1,6 +1,5 @@
 use Rattle.std.proofs.Common.{length, sym, ap, ◌∙◌}
-use Rattle.rd_model.specs.Node.{needed}
-use Rattle.rd_quorum.specs.Levels.{level_meant}
+use Rattle.rd_node.proofs.Common.{needed, level_meant}
 use Rattle.rd_node.proofs.node.Node.in_place.Goals as goal
 
 pub returns-in-Ok : goal.returns-in-Ok

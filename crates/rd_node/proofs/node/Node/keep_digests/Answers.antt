@@ -1,10 +1,26 @@
-use Rattle.std.proofs.Common.{refl, sym, ◌∙◌, subst}
+use Rattle.std.proofs.Common.{refl, sym, ◌∙◌, subst, ◌≡◌, ◌≤◌, List, length, ap, Vec}
 use Rattle.std.specs.Coded.{Coded-set}
-use Rattle.rd_node.specs.Own.{HasFewOwn, IsUnpruned, AreLogged, AreOfTheirKinds}
-use Rattle.rd_node.specs.Keys.{AreDistinctKeys}
-use Rattle.rd_node.proofs.Again.{written_again}
-use Rattle.rd_node.proofs.Nodes.{same_otherwise}
+use Rattle.std.proofs.Math.Bridge.{le_prop}
+use Rattle.std.proofs.Math.Nat.{ℕ_set}
+use Rattle.std.proofs.lemmas.List.{with_items_is}
+use Rattle.std.specs.Vec.{with_items}
+use mathlib.Core.HLevel.{is_prop→PathP}
+use Rattle.rd_node.proofs.Common.{HasFewOwn, IsUnpruned, AreLogged, AreOfTheirKinds, AreDistinctKeys}
+use Rattle.rd_node.proofs.Standing.{same_otherwise}
 use Rattle.rd_node.proofs.node.Node.keep_digests.Goals as goal
+
+written_again : {X Z : Type 0} (v : Vec X Z) (ws : List X) → ws ≡ v.items → with_items v ws ≡ v
+written_again v ws same =
+    let items : (with_items v ws).items ≡ v.items = with_items_is v ws (ap length same ∙ sym v.ok.0) ∙ same in
+    λ i. record {
+      ptr = v.ptr;
+      len = v.len;
+      cap = v.cap;
+      alloc = v.alloc;
+      items = items i;
+      ok = is_prop→PathP (λ j. (v.len ≡ length (items j)) × (v.len ≤ v.cap)) (λ j x y k. (ℕ_set _ _ x.0 y.0 k, le_prop x.1 y.1 k)) (with_items v ws).ok v.ok i;
+      small = v.small;
+    }
 
 pub invariant_of-self : goal.invariant_of-self
 invariant_of-self g c =

@@ -1,18 +1,15 @@
-use Rattle.std.proofs.Common.{◌≡◌, List, Some, refl, sym, ap, ◌∙◌, subst, inl, inr}
-use Rattle.std.specs.Prelude.{map, Option, All}
+use Rattle.std.proofs.Common.{rules, ◌≡◌, List, Some, refl, sym, ap, ◌∙◌, subst, inl, inr, map, Option, All}
 use Rattle.std.specs.Coded.{Coded-set}
+use Rattle.rd_node.proofs.Common.{declared_by, AreDistinctKeys, AreOfTheirKinds, AreSound, HoldsKept}
 use Rattle.rd_keeper.specs.declared.stored.Stored.{Stored}
 use Rattle.rd_keeper.specs.declared.keeper.KeeperError.{KeeperError}
 use Rattle.rd_keeper.specs.Tables.{Table}
 use Rattle.rd_keeper.specs.Calls.{JoinsRefusal, Gives}
 use Rattle.rd_node.specs.declared.restoring.Unfit.{Unfit}
-use Rattle.rd_node.specs.Keys.{declared_by, AreDistinctKeys}
-use Rattle.rd_node.specs.Own.{AreOfTheirKinds}
-use Rattle.rd_node.specs.Loading.{AreSound, IsFirstUnsound}
-use Rattle.rd_node.specs.Restoring.{HoldsKept, IfDamaged}
-use Rattle.rd_node.proofs.Nodes.{same_otherwise}
-use Rattle.rd_node.proofs.Loaded.{few_loaded, unpruned_loaded, logged_loaded, kinds_loaded, names_loaded, once_spelled, stands_loaded}
-use Rattle.rd_node.proofs.Fitting.{never_unsound}
+use Rattle.rd_node.specs.Loading.{IsFirstUnsound}
+use Rattle.rd_node.specs.Restoring.{IfDamaged}
+use Rattle.rd_node.proofs.Standing.{same_otherwise}
+use Rattle.rd_node.proofs.Restorings.{few_loaded, unpruned_loaded, logged_loaded, kinds_loaded, names_loaded, once_spelled, stands_loaded, never_unsound}
 use Rattle.rd_node.proofs.node.Node.loaded.Goals as goal
 
 -- what was loaded is the table that is told
@@ -25,20 +22,16 @@ restored-requires-clause-of_kinds g c = subst (AreOfTheirKinds g.T.Replica.kind_
 pub restored-requires-clause-distinct : goal.restored-requires-clause-distinct
 restored-requires-clause-distinct g c = subst AreDistinctKeys (sym c.deref.ensures.value) c.args.old.distinct
 
-pub invariant_of-result-clause-few_own : goal.invariant_of-result-clause-few_own
-invariant_of-result-clause-few_own g c = few_loaded g.T.Replica g.T.SpelledData c.args.id c.args.view c.in-Ok.loaded.items c.in-Ok-restored.keys.items c.in-Ok-restored.ensures.holds 0
-
-pub invariant_of-result-clause-unpruned : goal.invariant_of-result-clause-unpruned
-invariant_of-result-clause-unpruned g c = unpruned_loaded g.T.Replica g.T.SpelledData c.args.id c.args.view c.in-Ok.loaded.items c.in-Ok-restored.keys.items c.in-Ok-restored.ensures.holds
-
-pub invariant_of-result-clause-logged : goal.invariant_of-result-clause-logged
-invariant_of-result-clause-logged g c = logged_loaded g.T.Replica g.T.SpelledData c.args.id c.args.view c.in-Ok.loaded.items c.in-Ok-restored.keys.items c.in-Ok-restored.ensures.holds
-
-pub invariant_of-result-clause-of_kinds : goal.invariant_of-result-clause-of_kinds
-invariant_of-result-clause-of_kinds g c = kinds_loaded g.T.Replica g.T.SpelledData c.args.id c.args.view c.in-Ok.loaded.items c.in-Ok-restored.keys.items c.in-Ok-restored.ensures.holds
-
-pub invariant_of-result-clause-distinct : goal.invariant_of-result-clause-distinct
-invariant_of-result-clause-distinct g c = names_loaded c.in-Ok-restored.keys.items c.args.old.keys.items (c.in-Ok-restored.ensures.declared ∙ ap (map declared_by) c.deref.ensures.value) c.args.old.distinct
+pub invariant_of-result : goal.invariant_of-result
+invariant_of-result g c = record {
+  few_own = few_loaded g.T.Replica g.T.SpelledData c.args.id c.args.view c.in-Ok.loaded.items c.in-Ok-restored.keys.items c.in-Ok-restored.ensures.holds 0;
+  unpruned = unpruned_loaded g.T.Replica g.T.SpelledData c.args.id c.args.view c.in-Ok.loaded.items c.in-Ok-restored.keys.items c.in-Ok-restored.ensures.holds;
+  logged = logged_loaded g.T.Replica g.T.SpelledData c.args.id c.args.view c.in-Ok.loaded.items c.in-Ok-restored.keys.items c.in-Ok-restored.ensures.holds;
+  of_kinds = kinds_loaded g.T.Replica g.T.SpelledData c.args.id c.args.view c.in-Ok.loaded.items c.in-Ok-restored.keys.items c.in-Ok-restored.ensures.holds;
+  distinct = names_loaded c.in-Ok-restored.keys.items c.args.old.keys.items (c.in-Ok-restored.ensures.declared ∙ ap (map declared_by) c.deref.ensures.value) c.args.old.distinct;
+  few_steps = search rules;
+  few_operations = search rules;
+}
 
 pub returns-in-Err-Failed-clause-refused : goal.returns-in-Err-Failed-clause-refused
 returns-in-Err-Failed-clause-refused g c = (

@@ -1,8 +1,7 @@
-use Rattle.std.proofs.Common.{◌≡◌, Some, None, ap, ◌∙◌, sym}
-use Rattle.std.specs.Prelude.{slice_get}
-use Rattle.rd_node.specs.declared.operation.Operation.TheVariants.{Open, Finished, TimedOut}
-use Rattle.rd_node.specs.Operations.{result_meant}
-use Rattle.rd_node.proofs.Looking.{looked, looked_result}
+use Rattle.std.proofs.Common.{◌≡◌, Some, None, ap, ◌∙◌, sym, slice_get}
+use Rattle.rd_node.proofs.Common.{Open, result_meant}
+use Rattle.rd_node.specs.declared.operation.Operation.TheVariants.{Finished, TimedOut}
+use Rattle.rd_node.proofs.Operating.{looked, looked_result}
 use Rattle.rd_node.proofs.node.Node.look.Goals as goal
 
 pub returns-in-Some-Open : goal.returns-in-Some-Open

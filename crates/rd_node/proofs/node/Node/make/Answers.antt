@@ -1,5 +1,5 @@
 use Rattle.std.proofs.Common.{sym, subst}
-use Rattle.rd_node.specs.Steps.{IsStepOf}
+use Rattle.rd_node.proofs.Common.{IsStepOf}
 use Rattle.rd_node.proofs.Making.{makes_step}
 use Rattle.rd_node.proofs.node.Node.make.Goals as goal
 

@@ -1,22 +1,18 @@
-use Rattle.std.proofs.Common.{refl, sym, subst}
-use Rattle.rd_node.specs.Keys.{AreDistinct}
-use Rattle.rd_node.proofs.Starting.{few_fresh, unpruned_fresh, logged_fresh, kinds_fresh, names_fresh, stands_first}
+use Rattle.std.proofs.Common.{rules, refl, sym, subst}
+use Rattle.rd_node.proofs.Common.{AreDistinct}
+use Rattle.rd_node.proofs.Standing.{few_fresh, unpruned_fresh, logged_fresh, kinds_fresh, names_fresh, stands_first}
 use Rattle.rd_node.proofs.node.Node.new.Goals as goal
 
-pub invariant_of-result-clause-few_own : goal.invariant_of-result-clause-few_own
-invariant_of-result-clause-few_own g c = few_fresh g.T.Replica.kind_of g.T.Replica.IsDataOf g.T.Replica.IsDeltaOf c.args.id c.in-Ok.keys.items c.in-Ok.ensures.fresh 0
-
-pub invariant_of-result-clause-unpruned : goal.invariant_of-result-clause-unpruned
-invariant_of-result-clause-unpruned g c = unpruned_fresh g.T.Replica.kind_of g.T.Replica.IsDataOf g.T.Replica.IsDeltaOf c.args.id c.in-Ok.keys.items c.in-Ok.ensures.fresh
-
-pub invariant_of-result-clause-logged : goal.invariant_of-result-clause-logged
-invariant_of-result-clause-logged g c = logged_fresh g.T.Replica.kind_of g.T.Replica.IsDataOf g.T.Replica.IsDeltaOf c.args.id c.in-Ok.keys.items c.in-Ok.ensures.fresh
-
-pub invariant_of-result-clause-of_kinds : goal.invariant_of-result-clause-of_kinds
-invariant_of-result-clause-of_kinds g c = kinds_fresh g.T.Replica.kind_of g.T.Replica.IsDataOf g.T.Replica.IsDeltaOf c.args.id c.in-Ok.keys.items c.in-Ok.ensures.fresh
-
-pub invariant_of-result-clause-distinct : goal.invariant_of-result-clause-distinct
-invariant_of-result-clause-distinct g c = subst AreDistinct (sym (names_fresh c.in-Ok.keys.items c.args.keys.now c.in-Ok.ensures.declared)) c.requires.distinct
+pub invariant_of-result : goal.invariant_of-result
+invariant_of-result g c = record {
+  few_own = few_fresh g.T.Replica.kind_of g.T.Replica.IsDataOf g.T.Replica.IsDeltaOf c.args.id c.in-Ok.keys.items c.in-Ok.ensures.fresh 0;
+  unpruned = unpruned_fresh g.T.Replica.kind_of g.T.Replica.IsDataOf g.T.Replica.IsDeltaOf c.args.id c.in-Ok.keys.items c.in-Ok.ensures.fresh;
+  logged = logged_fresh g.T.Replica.kind_of g.T.Replica.IsDataOf g.T.Replica.IsDeltaOf c.args.id c.in-Ok.keys.items c.in-Ok.ensures.fresh;
+  of_kinds = kinds_fresh g.T.Replica.kind_of g.T.Replica.IsDataOf g.T.Replica.IsDeltaOf c.args.id c.in-Ok.keys.items c.in-Ok.ensures.fresh;
+  distinct = subst AreDistinct (sym (names_fresh c.in-Ok.keys.items c.args.keys.now c.in-Ok.ensures.declared)) c.requires.distinct;
+  few_steps = search rules;
+  few_operations = search rules;
+}
 
 pub returns-in-Ok-clause-stands : goal.returns-in-Ok-clause-stands
 returns-in-Ok-clause-stands g c = λ kinds logs histories of_kinds.

@@ -1,7 +1,7 @@
 use Rattle.std.proofs.Common.{refl, ap, ◌∙◌}
 use Rattle.rd_node.specs.declared.reply.Reply.TheVariants.{Pending}
 use Rattle.rd_node.specs.Operations.{asked_meant}
-use Rattle.rd_node.proofs.Opens.{to_peers}
+use Rattle.rd_node.proofs.Operating.{to_peers}
 use Rattle.rd_node.proofs.node.Node.opened.Goals as goal
 
 pub returns-clause-opened : goal.returns-clause-opened

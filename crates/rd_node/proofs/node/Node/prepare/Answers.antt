@@ -1,5 +1,5 @@
 use Rattle.std.proofs.Common.{sym, subst}
-use Rattle.rd_node.specs.Preparing.{Prepares}
+use Rattle.rd_node.proofs.Common.{Prepares}
 use Rattle.rd_node.proofs.node.Node.prepare.Goals as goal
 
 pub returns-in-Timeout-clause-image : goal.returns-in-Timeout-clause-image

@@ -1,8 +1,6 @@
-use Rattle.std.proofs.Common.{true, subst}
-use Rattle.std.specs.Prelude.{IfOk}
-use Rattle.rd_messages.specs.declared.message.Message.{Message}
+use Rattle.std.proofs.Common.{true, subst, IfOk}
+use Rattle.rd_node.proofs.Common.{Message, IsOpened}
 use Rattle.rd_messages.specs.declared.message.Message.TheVariants.{Read}
-use Rattle.rd_node.specs.Opening.{IsOpened}
 use Rattle.rd_node.proofs.node.Node.read.Goals as goal
 
 pub returns-clause-opened : goal.returns-clause-opened

@@ -1,19 +1,11 @@
-use Rattle.std.proofs.Common.{◌≡◌, None, Some, sym, ap, ◌∙◌, subst, subst₂}
-use Rattle.std.specs.Prelude.{option_map, if◌then◌else◌}
-use Rattle.std.specs.Str.{bytes_eq}
-use Rattle.rd_model.specs.Entry.{has_records}
+use Rattle.std.proofs.Common.{◌≡◌, None, Some, sym, ap, ◌∙◌, subst, subst₂, option_map, if◌then◌else◌, bytes_eq}
+use Rattle.rd_node.proofs.Common.{has_records, HasKey, key_state, state_of, bytes_eq-tells, StandsFor, parts_of, StandsForEntry, StandsForMessage, delta_groups}
 use Rattle.rd_model.specs.Message.{Message as Sent}
-use Rattle.rd_model.specs.Node.{HasKey, key_state, state_of}
 use Rattle.rd_model.specs.Step.{answered_entry}
-use Rattle.rd_model.proofs.Steps.{bytes_eq-tells}
-use Rattle.rd_envelope.specs.Images.{StandsFor}
-use Rattle.rd_envelope.specs.Words.{parts_of}
 use Rattle.rd_messages.specs.declared.message.Message.TheVariants.{ReadAnswer}
-use Rattle.rd_messages.specs.Standing.{StandsForEntry, StandsForMessage}
-use Rattle.rd_node.specs.Replies.{delta_groups}
-use Rattle.rd_node.proofs.Lookup.{position-found, position-none}
+use Rattle.rd_node.proofs.Lists.{position-found, position-none}
 use Rattle.rd_node.proofs.Standing.{undeclared, has_key, held_at}
-use Rattle.rd_node.proofs.Replying.{read_stands}
+use Rattle.rd_node.proofs.Sendings.{read_stands}
 use Rattle.rd_node.proofs.node.Node.read_answer.Goals as goal
 
 pub returns-in_default : goal.returns-in_default

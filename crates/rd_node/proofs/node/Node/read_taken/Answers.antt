@@ -1,18 +1,11 @@
 use Rattle.std.proofs.Common.{None, refl, sym, ap, ◌∙◌, subst}
+use Rattle.rd_node.proofs.Common.{one_step_later, key_state, NoStore, step_of_take, answer_to, entry_digest, StandsForPosts, Nothing, Prepared, IsPrepared, replication}
 use Rattle.rd_model.specs.Message.{Message as Sent}
-use Rattle.rd_model.specs.Node.{one_step_later, key_state}
-use Rattle.rd_model.specs.Node.Fate.{NoStore}
 use Rattle.rd_model.specs.Node.Reply.{Taken}
-use Rattle.rd_model.specs.Step.{step_of_take, sent, answer_to, answered_entry}
-use Rattle.rd_envelope_codec.specs.Entries.{entry_digest}
-use Rattle.rd_messages.specs.Standing.{StandsForPosts}
+use Rattle.rd_model.specs.Step.{sent, answered_entry}
 use Rattle.rd_node.specs.declared.operations.OperationChange.TheVariants.{Same}
-use Rattle.rd_node.specs.declared.plan.Plan.TheVariants.{Nothing}
-use Rattle.rd_node.specs.declared.plan.Prepared.{Prepared}
 use Rattle.rd_node.specs.declared.reply.Reply.TheVariants as reply
-use Rattle.rd_node.specs.Planning.{IsPrepared}
-use Rattle.rd_node.specs.Steps.{replication}
-use Rattle.rd_node.proofs.PreparedSteps.{sound_still, prepared_later}
+use Rattle.rd_node.proofs.Planned.{sound_still, prepared_later}
 use Rattle.rd_node.proofs.TakingSteps.{member_is, step_taken}
 use Rattle.rd_node.proofs.node.Node.read_taken.Goals as goal
 

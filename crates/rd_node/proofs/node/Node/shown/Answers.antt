@@ -1,25 +1,14 @@
-use Rattle.std.proofs.Common.{◌≡◌, true, length, refl, sym, ap, ◌∙◌}
-use Rattle.std.specs.Str.{bytes_eq}
-use Rattle.rd_model.specs.Node.{needed}
-use Rattle.rd_model.specs.Node.Fate.{NoStore}
-use Rattle.rd_model.specs.Step.{step}
-use Rattle.rd_messages.specs.declared.message.Message.{Message}
+use Rattle.std.proofs.Common.{◌≡◌, true, length, refl, sym, ap, ◌∙◌, bytes_eq}
+use Rattle.rd_node.proofs.Common.{needed, NoStore, step, Message, entry_digest, level_meant, Nothing, Prepared, IsOpened, IsSoundFor, Prepares, replication}
 use Rattle.rd_messages.specs.declared.message.Message.TheVariants.{Read}
-use Rattle.rd_envelope_codec.specs.Entries.{entry_digest}
-use Rattle.rd_quorum.specs.Levels.{level_meant}
 use Rattle.rd_node.specs.declared.input.Input.TheVariants as input
-use Rattle.rd_node.specs.declared.plan.Plan.TheVariants.{Nothing}
-use Rattle.rd_node.specs.declared.plan.Prepared.{Prepared}
 use Rattle.rd_node.specs.declared.reply.Reply.TheVariants as reply
-use Rattle.rd_node.specs.Opening.{IsOpened}
-use Rattle.rd_node.specs.Preparing.{IsSoundFor, Prepares}
-use Rattle.rd_node.specs.Steps.{replication}
-use Rattle.rd_node.proofs.Lookup.{position-found, position-none}
+use Rattle.rd_node.proofs.Lists.{position-found, position-none}
 use Rattle.rd_node.proofs.Standing.{undeclared, held_at}
-use Rattle.rd_node.proofs.PreparedSteps.{sound_still, sound_told, prepared_answered}
+use Rattle.rd_node.proofs.Planned.{sound_still, sound_told, prepared_answered}
 use Rattle.rd_node.proofs.Updating.{get_undeclared}
-use Rattle.rd_node.proofs.LevelSteps.{if_both, got_too_few, got_value, got_pending}
-use Rattle.rd_node.proofs.Opens.{opened_can, opened_pending}
+use Rattle.rd_node.proofs.Updates.{if_both, got_too_few, got_value, got_pending}
+use Rattle.rd_node.proofs.Operating.{opened_can, opened_pending}
 use Rattle.rd_node.proofs.node.Node.shown.Goals as goal
 
 pub returns-in_default-clause-sound : goal.returns-in_default-clause-sound
@@ -71,33 +60,29 @@ returns-then-number-le1-clause-image g c = λ kinds logs node sent s is safe.
     let told = c.in_ok-reply.ensures.image digest (logs at.name) (node.entries at.name) held.held.image in
     prepared_answered kinds logs code node s c.reply-then-number-le1.result c.in_ok-reply.reply c.reply-then-number-le1.ensures.view c.reply-then-number-le1.ensures.plan c.reply-then-number-le1.ensures.operations c.reply-then-number-le1.ensures.output _ (got_value kinds logs code node s digest key level index at found c.index-state.ensures sent is c.in-Ok.number number c.if-number-le1.true c.in_ok-reply.reply told)
 
-pub returns-clause-sound : goal.returns-clause-sound
-returns-clause-sound g c =
+pub returns : goal.returns
+returns g c =
     let R = g.T.Replica in
     let code = c.args.self.now in
     let name = c.index-state.result.now.name in
     let n = c.in-Ok.number in
     let message : Message g.row.T.Denot g.row.T-Kind.Denot g.row.T-Op.Denot g.row.T-Delta.Denot R = Read (length code.operations) name in
-    if_both (λ (prepared : Prepared g.row.T.Denot g.row.T-Kind.Denot g.row.T-Op.Denot g.row.T-Delta.Denot R). prepared.plan ≡ Nothing) (IsOpened code name true n message) (IsSoundFor code) c.read.result
-    (λ prepared plan o. record { plan = sound_still code prepared.plan plan; operations = opened_can code name true n message prepared o; pending = opened_pending code name true n message prepared o }) c.read.ensures.plan c.read.ensures.opened
-
-pub returns-clause-image : goal.returns-clause-image
-returns-clause-image g c =
-    let R = g.T.Replica in
-    let code = c.args.self.now in
-    let name = c.index-state.result.now.name in
-    let n = c.in-Ok.number in
-    let message : Message g.row.T.Denot g.row.T-Kind.Denot g.row.T-Op.Denot g.row.T-Delta.Denot R = Read (length code.operations) name in
-    if_both (λ (prepared : Prepared g.row.T.Denot g.row.T-Kind.Denot g.row.T-Op.Denot g.row.T-Delta.Denot R). prepared.plan ≡ Nothing) (IsOpened code name true n message)
-    (Prepares g.T.SpelledData code (input.Get c.args.key.now c.args.level)) c.read.result
-    (λ prepared plan o kinds logs node sent s is safe.
-    let S = g.T.SpelledData in
-    let digest = entry_digest S.byte_of S.history_spelled in
-    let key = c.args.key.now in
-    let level = level_meant c.args.level in
-    let index = c.in-Some.index in
-    let at = c.index-state.result.now in
-    let found = position-found (λ state. bytes_eq state.name key) code.keys.items index c.in-Some.ensures in
-    let number = ap (needed level) (ap (λ v. length v.members) s.view ∙ ap length (sym c.members-members.ensures.members)) ∙ c.in-Ok.ensures.enough in
-    got_pending kinds logs code node s digest key level index at found c.index-state.ensures sent is n number c.if-number-le1.false prepared plan o)
-    c.read.ensures.plan c.read.ensures.opened
+    record {
+      sound =
+          if_both (λ (prepared : Prepared g.row.T.Denot g.row.T-Kind.Denot g.row.T-Op.Denot g.row.T-Delta.Denot R). prepared.plan ≡ Nothing) (IsOpened code name true n message) (IsSoundFor code) c.read.result
+          (λ prepared plan o. record { plan = sound_still code prepared.plan plan; operations = opened_can code name true n message prepared o; pending = opened_pending code name true n message prepared o }) c.read.ensures.plan c.read.ensures.opened;
+      image =
+          if_both (λ (prepared : Prepared g.row.T.Denot g.row.T-Kind.Denot g.row.T-Op.Denot g.row.T-Delta.Denot R). prepared.plan ≡ Nothing) (IsOpened code name true n message)
+          (Prepares g.T.SpelledData code (input.Get c.args.key.now c.args.level)) c.read.result
+          (λ prepared plan o kinds logs node sent s is safe.
+          let S = g.T.SpelledData in
+          let digest = entry_digest S.byte_of S.history_spelled in
+          let key = c.args.key.now in
+          let level = level_meant c.args.level in
+          let index = c.in-Some.index in
+          let at = c.index-state.result.now in
+          let found = position-found (λ state. bytes_eq state.name key) code.keys.items index c.in-Some.ensures in
+          let number = ap (needed level) (ap (λ v. length v.members) s.view ∙ ap length (sym c.members-members.ensures.members)) ∙ c.in-Ok.ensures.enough in
+          got_pending kinds logs code node s digest key level index at found c.index-state.ensures sent is n number c.if-number-le1.false prepared plan o)
+          c.read.ensures.plan c.read.ensures.opened;
+    }

@@ -1,6 +1,7 @@
-use Rattle.std.proofs.Common.{◌≡◌, ◌∙◌, subst}
-use Rattle.rd_node.specs.Steps.{MakesStep, IsUnchanged}
-use Rattle.rd_node.proofs.Keepers.{on_err, unchanged_same}
+use Rattle.std.proofs.Common.{◌∙◌, subst}
+use Rattle.rd_node.proofs.Common.{IsUnchanged}
+use Rattle.rd_node.specs.Steps.{MakesStep}
+use Rattle.rd_node.proofs.Standing.{on_err, unchanged_same}
 use Rattle.rd_node.proofs.node.Node.step.Goals as goal
 
 pub returns-then-self-ge-MOST_STEPS-clause-unchanged : goal.returns-then-self-ge-MOST_STEPS-clause-unchanged

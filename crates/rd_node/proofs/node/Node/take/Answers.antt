@@ -1,7 +1,8 @@
-use Rattle.std.proofs.Common.{◌≡◌, ◌<◌, subst}
+use Rattle.std.proofs.Common.{subst}
+use Rattle.rd_node.proofs.Common.{IsUnchanged}
 use Rattle.rd_node.specs.declared.input.Input.TheVariants as input
-use Rattle.rd_node.specs.Steps.{MakesStep, IsUnchanged}
-use Rattle.rd_node.proofs.Keepers.{on_err, unchanged_same}
+use Rattle.rd_node.specs.Steps.{MakesStep}
+use Rattle.rd_node.proofs.Standing.{on_err, unchanged_same}
 use Rattle.rd_node.proofs.node.Node.take.Goals as goal
 
 pub returns-then-self-ge-MOST_STEPS-clause-unchanged : goal.returns-then-self-ge-MOST_STEPS-clause-unchanged

@@ -1,18 +1,11 @@
-use Rattle.std.proofs.Common.{refl, sym, ap, ◌∙◌, subst}
-use Rattle.std.specs.Prelude.{IfOk}
-use Rattle.rd_model.specs.Node.{one_step_later}
-use Rattle.rd_model.specs.Node.Fate.{NoStore}
-use Rattle.rd_model.specs.Step.{step, step_of_take}
+use Rattle.std.proofs.Common.{refl, sym, ap, ◌∙◌, subst, IfOk}
+use Rattle.rd_node.proofs.Common.{one_step_later, NoStore, step, step_of_take, StandsForTaken, IsPrepared, Prepares, replication}
 use Rattle.rd_model.proofs.Taking.{step-take-stranger}
 use Rattle.rd_messages.specs.declared.message.Message.TheVariants.{ReadAnswer}
 use Rattle.rd_node.specs.declared.input.Input.TheVariants as input
 use Rattle.rd_node.specs.declared.reply.Reply.TheVariants as reply
-use Rattle.rd_node.specs.Inputs.{StandsForTaken}
-use Rattle.rd_node.specs.Planning.{IsPrepared}
-use Rattle.rd_node.specs.Preparing.{Prepares}
-use Rattle.rd_node.specs.Steps.{replication}
 use Rattle.rd_node.proofs.TakingSteps.{member_is, step_taken, exchanges}
-use Rattle.rd_node.proofs.PreparedSteps.{sound_told, prepared_answered}
+use Rattle.rd_node.proofs.Planned.{sound_told, prepared_answered}
 use Rattle.rd_node.proofs.node.Node.taken.Goals as goal
 
 pub returns-then-not-contains-clause-sound : goal.returns-then-not-contains-clause-sound

@@ -1,23 +1,23 @@
-use Rattle.std.proofs.Common.{◌≡◌, None, refl, ap, ◌∙◌, sym, subst}
-use Rattle.std.specs.Prelude.{slice_get, is_some}
-use Rattle.rd_model.specs.Node.Fate.{NoStore}
+use Rattle.std.proofs.Common.{◌≡◌, None, refl, ap, ◌∙◌, sym, subst, slice_get, is_some, ℕ, true, false, not, ◌==◌, if◌then◌else◌, filter}
+use Rattle.rd_node.proofs.Common.{NoStore, OpenOperation, one_step_later, step, answered, Replication, Shown, Open, Put, Nothing, Prepared, is_pending, IsPrepared, meant, replication}
+use Rattle.rd_model.specs.Node as nodes
 use Rattle.rd_model.specs.Node.{Reply as Meant}
-use Rattle.rd_model.specs.Step.{step, answered}
-use Rattle.rd_node.specs.declared.operation.Operation.TheVariants.{Open, TimedOut}
-use Rattle.rd_node.specs.declared.operations.OperationChange.TheVariants.{Put}
-use Rattle.rd_node.specs.declared.plan.Plan.TheVariants.{Nothing}
-use Rattle.rd_node.specs.declared.plan.Prepared.{Prepared}
+use Rattle.rd_node.specs.declared.operation.Operation.TheVariants.{TimedOut}
 use Rattle.rd_node.specs.declared.reply.Reply.TheVariants as reply
-use Rattle.rd_node.specs.Outputs.{is_pending}
-use Rattle.rd_node.specs.Planning.{IsPrepared}
-use Rattle.rd_node.specs.Replies.{meant}
-use Rattle.rd_node.specs.Steps.{replication}
-use Rattle.rd_node.proofs.Closes.{closed, step-closes, step-closes_none}
-use Rattle.rd_node.proofs.Counts.{open_there, open_within}
-use Rattle.rd_node.proofs.Looking.{looked_open}
-use Rattle.rd_node.proofs.Operating.{operates_closed}
-use Rattle.rd_node.proofs.PreparedSteps.{sound_still, sound_told, prepared_moved, prepared_answered, quiet_output}
+use Rattle.rd_node.specs.Counting.{is_open}
+use Rattle.rd_node.proofs.Operating.{open_there, open_within, looked_open, operates_closed}
+use Rattle.rd_node.proofs.Planned.{sound_still, sound_told, prepared_moved, prepared_answered, quiet_output}
 use Rattle.rd_node.proofs.node.Node.timed_out.Goals as goal
+
+module _ {Kind Op : Type 0} (D : Replication Kind Op Shown) (node : nodes.Node Kind Op Shown) (op : ℕ) where
+  abbrev closed : nodes.Node Kind Op Shown
+  closed = record (one_step_later node) { open_operations = filter (λ (o : OpenOperation). not (o.op == op)) node.open_operations }
+
+  step-closes : is_open node op ≡ true → step D node (nodes.Input.Timeout op) NoStore ≡ answered closed Meant.TimedOut
+  step-closes is = ap (λ b. if b then answered closed Meant.TimedOut else answered (one_step_later node) Meant.NoSuchOp) is
+
+  step-closes_none : is_open node op ≡ false → step D node (nodes.Input.Timeout op) NoStore ≡ answered (one_step_later node) Meant.NoSuchOp
+  step-closes_none is = ap (λ b. if b then answered closed Meant.TimedOut else answered (one_step_later node) Meant.NoSuchOp) is
 
 pub returns-in-Some-clause-sound : goal.returns-in-Some-clause-sound
 returns-in-Some-clause-sound g c =

@@ -1,12 +1,25 @@
-use Rattle.std.proofs.Common.{◌+◌, set, refl}
+use Rattle.std.proofs.Common.{rules, ◌+◌, set, refl, ◌≡◌, ℕ, length, Vec}
 use Rattle.std.specs.Coded.{Coded-set}
-use Rattle.rd_node.specs.Planning.{AreOwned}
-use Rattle.rd_node.proofs.InPlace.{keys_still, owned_still, owned_in_place, steps_in_place}
-use Rattle.rd_node.proofs.Keepers.{tells_same}
-use Rattle.rd_node.proofs.Nodes.{same_otherwise}
-use Rattle.rd_node.proofs.Vectors.{with_item-same}
+use Rattle.std.specs.Vec.{with_item}
+use Rattle.std.proofs.Math.Nat.{ℕ_set}
+use mathlib.Core.HLevel.{is_prop→PathP}
+use Rattle.rd_node.proofs.Common.{AreOwned}
+use Rattle.rd_node.proofs.Updates.{keys_still, owned_still, owned_in_place, steps_in_place}
+use Rattle.rd_node.proofs.Standing.{tells_same, same_otherwise}
 use Rattle.rd_node.proofs.node.Node.update_in_place.Given as given
 use Rattle.rd_node.proofs.node.Node.update_in_place.Goals as goal
+
+-- the element that stood there leaves all as it was
+with_item-same : {X Z : Type 0} (v : Vec X Z) (i : ℕ) (x : X) → set v.items i x ≡ v.items → with_item v i x ≡ v
+with_item-same v i x e = λ j. record {
+  ptr = v.ptr;
+  len = v.len;
+  cap = v.cap;
+  alloc = v.alloc;
+  items = e j;
+  ok = (is_prop→PathP (λ k. v.len ≡ length (e k)) (λ k. ℕ_set _ _) (with_item v i x).ok.0 v.ok.0 j, v.ok.1);
+  small = v.small;
+}
 
 -- MEMORY WAS REFUSED
 
@@ -31,20 +44,16 @@ made g c =
     owned_in_place g.T.SpelledData c.args.self.now c.in-Update.key c.in-Update.op c.in-Update.level c.in-Some.index c.in-Some.ensures c.index_mut.result.now c.index_mut.ensures.value
     c.in-Ok.became c.apply.new.self c.in-Ok.ensures.applied
 
-pub invariant_of-self-clause-few_own : goal.invariant_of-self-clause-few_own
-invariant_of-self-clause-few_own g c = (made g c).few
-
-pub invariant_of-self-clause-unpruned : goal.invariant_of-self-clause-unpruned
-invariant_of-self-clause-unpruned g c = (made g c).unpruned
-
-pub invariant_of-self-clause-logged : goal.invariant_of-self-clause-logged
-invariant_of-self-clause-logged g c = (made g c).logged
-
-pub invariant_of-self-clause-of_kinds : goal.invariant_of-self-clause-of_kinds
-invariant_of-self-clause-of_kinds g c = (made g c).of_kinds
-
-pub invariant_of-self-clause-distinct : goal.invariant_of-self-clause-distinct
-invariant_of-self-clause-distinct g c = (made g c).distinct
+pub invariant_of-self : goal.invariant_of-self
+invariant_of-self g c = record {
+  few_own = (made g c).few;
+  unpruned = (made g c).unpruned;
+  logged = (made g c).logged;
+  of_kinds = (made g c).of_kinds;
+  distinct = (made g c).distinct;
+  few_steps = search rules;
+  few_operations = search rules;
+}
 
 pub returns-in-Ok-clause-step : goal.returns-in-Ok-clause-step
 returns-in-Ok-clause-step g c =

@@ -1,32 +1,17 @@
-use Rattle.std.proofs.Common.{◌≡◌, None, false, length, refl, sym, ap, ◌∙◌, subst}
-use Rattle.std.specs.Str.{bytes_eq}
-use Rattle.rd_model.specs.Node.{needed}
-use Rattle.rd_model.specs.Node.Fate.{NoStore}
-use Rattle.rd_model.specs.Step.{step}
-use Rattle.rd_messages.specs.declared.message.Message.{Message}
+use Rattle.std.proofs.Common.{◌≡◌, None, false, length, refl, sym, ap, ◌∙◌, subst, bytes_eq}
+use Rattle.rd_node.proofs.Common.{needed, NoStore, step, Message, entry_digest, level_meant, At, Prepared, IsOpened, is_pending, IsSoundPlan, IsSoundFor, Prepares, replication}
 use Rattle.rd_messages.specs.declared.message.Message.TheVariants.{Write}
-use Rattle.rd_envelope_codec.specs.Entries.{entry_digest}
-use Rattle.rd_quorum.specs.Levels.{level_meant}
 use Rattle.rd_node.specs.declared.operations.OperationChange.TheVariants.{Same}
 use Rattle.rd_node.specs.declared.input.Input.TheVariants as input
 use Rattle.rd_node.specs.declared.key.Updated.TheVariants.{Refused, Recorded}
-use Rattle.rd_node.specs.declared.plan.Plan.TheVariants.{At}
-use Rattle.rd_node.specs.declared.plan.Prepared.{Prepared}
 use Rattle.rd_node.specs.declared.reply.Reply.TheVariants as reply
-use Rattle.rd_node.specs.Opening.{IsOpened}
-use Rattle.rd_node.specs.Outputs.{is_pending}
-use Rattle.rd_node.specs.Planning.{IsSoundPlan}
-use Rattle.rd_node.specs.Preparing.{IsSoundFor, Prepares}
-use Rattle.rd_node.specs.Steps.{replication}
 use Rattle.rd_node.specs.Updates.{IsOwn, MeansUpdate}
-use Rattle.rd_node.proofs.Lookup.{position-found, position-none}
+use Rattle.rd_node.proofs.Lists.{position-found, position-none}
 use Rattle.rd_node.proofs.Standing.{undeclared}
-use Rattle.rd_node.proofs.PreparedSteps.{sound_told, sound_as, prepared_answered}
+use Rattle.rd_node.proofs.Planned.{sound_told, sound_as, prepared_answered}
 use Rattle.rd_node.proofs.Updating.{update_undeclared}
-use Rattle.rd_node.proofs.Records.{sound_recorded}
-use Rattle.rd_node.proofs.LevelSteps.{if_both, told_unfit, told_too_few}
-use Rattle.rd_node.proofs.InPlace.{prepares_refused, prepares_done, prepares_pending}
-use Rattle.rd_node.proofs.Opens.{opened_can, opened_pending}
+use Rattle.rd_node.proofs.Updates.{sound_recorded, if_both, told_unfit, told_too_few, prepares_refused, prepares_done, prepares_pending}
+use Rattle.rd_node.proofs.Operating.{opened_can, opened_pending}
 use Rattle.rd_node.proofs.node.Node.updated.Goals as goal
 
 pub returns-in_default-clause-sound : goal.returns-in_default-clause-sound
@@ -98,21 +83,8 @@ returns-in-Refused-clause-image g c =
     prepares_refused g.T.SpelledData code key op c.args.level index at found c.index-state.ensures fits c.in-Ok.number number c.reply-in-Refused.result c.reply-in-Refused.ensures.view
     c.in-Refused.reply means c.reply-in-Refused.ensures.plan c.reply-in-Refused.ensures.operations c.reply-in-Refused.ensures.output
 
-pub returns-then-number-le1-clause-sound : goal.returns-then-number-le1-clause-sound
-returns-then-number-le1-clause-sound g c =
-    let R = g.T.Replica in
-    let code = c.args.self.now in
-    let index = c.in-Some.index in
-    let at = c.index-state.result.now in
-    let found = position-found (λ state. bytes_eq state.name c.args.key.now) code.keys.items index c.in-Some.ensures in
-    let entry = c.in-Recorded.entry in
-    let next = c.in-Recorded.next in
-    let own : IsOwn R code.id at (Recorded entry next) = subst (IsOwn R code.id at) c.in-Recorded.is c.in_ok-reply.ensures.owned in
-    let prepared : Prepared g.row.T.Denot g.row.T-Kind.Denot g.row.T-Op.Denot g.row.T-Delta.Denot R = record { view = None; plan = At index entry next; operations = Same; output = c.told.result } in
-    sound_as code prepared (sound_recorded code index at entry next found.within c.index-state.ensures own) refl (ap (λ o. is_pending o.reply) c.told.ensures)
-
-pub returns-then-number-le1-clause-image : goal.returns-then-number-le1-clause-image
-returns-then-number-le1-clause-image g c =
+pub returns-then-number-le1 : goal.returns-then-number-le1
+returns-then-number-le1 g c =
     let R = g.T.Replica in
     let code = c.args.self.now in
     let key = c.args.key.now in
@@ -120,52 +92,48 @@ returns-then-number-le1-clause-image g c =
     let index = c.in-Some.index in
     let at = c.index-state.result.now in
     let found = position-found (λ state. bytes_eq state.name key) code.keys.items index c.in-Some.ensures in
-    let fits = sym c.fits.ensures ∙ c.if-not-fits.false in
-    let number = ap (needed (level_meant c.args.level)) (ap length (sym c.members-members.ensures.members)) ∙ c.in-Ok.ensures.enough in
     let entry = c.in-Recorded.entry in
     let next = c.in-Recorded.next in
     let own : IsOwn R code.id at (Recorded entry next) = subst (IsOwn R code.id at) c.in-Recorded.is c.in_ok-reply.ensures.owned in
-    let means : MeansUpdate R code.id op at (Recorded entry next) = subst (MeansUpdate R code.id op at) c.in-Recorded.is c.in_ok-reply.ensures.means in
     let prepared : Prepared g.row.T.Denot g.row.T-Kind.Denot g.row.T-Op.Denot g.row.T-Delta.Denot R = record { view = None; plan = At index entry next; operations = Same; output = c.told.result } in
-    prepares_done g.T.SpelledData code key op c.args.level index at found c.index-state.ensures fits c.in-Ok.number number prepared refl entry next own means refl c.if-number-le1.true refl c.told.ensures
+    record {
+      sound =
+          sound_as code prepared (sound_recorded code index at entry next found.within c.index-state.ensures own) refl (ap (λ o. is_pending o.reply) c.told.ensures);
+      image =
+          let fits = sym c.fits.ensures ∙ c.if-not-fits.false in
+          let number = ap (needed (level_meant c.args.level)) (ap length (sym c.members-members.ensures.members)) ∙ c.in-Ok.ensures.enough in
+          let means : MeansUpdate R code.id op at (Recorded entry next) = subst (MeansUpdate R code.id op at) c.in-Recorded.is c.in_ok-reply.ensures.means in
+          prepares_done g.T.SpelledData code key op c.args.level index at found c.index-state.ensures fits c.in-Ok.number number prepared refl entry next own means refl c.if-number-le1.true refl c.told.ensures;
+    }
 
-pub returns-else-number-le1-clause-sound : goal.returns-else-number-le1-clause-sound
-returns-else-number-le1-clause-sound g c =
-    let R = g.T.Replica in
-    let code = c.args.self.now in
-    let index = c.in-Some.index in
-    let at = c.index-state.result.now in
-    let found = position-found (λ state. bytes_eq state.name c.args.key.now) code.keys.items index c.in-Some.ensures in
-    let entry = c.in-Recorded.entry in
-    let next = c.in-Recorded.next in
-    let own : IsOwn R code.id at (Recorded entry next) = subst (IsOwn R code.id at) c.in-Recorded.is c.in_ok-reply.ensures.owned in
-    let message : Message g.row.T.Denot g.row.T-Kind.Denot g.row.T-Op.Denot g.row.T-Delta.Denot R = Write (length code.operations) at.name entry in
-    let n = c.in-Ok.number in
-    if_both (λ (prepared : Prepared g.row.T.Denot g.row.T-Kind.Denot g.row.T-Op.Denot g.row.T-Delta.Denot R). prepared.plan ≡ At index entry next) (IsOpened code at.name false n message) (IsSoundFor code) c.written.result
-    (λ prepared plan o. record {
-      plan = subst (IsSoundPlan R code.id code.steps code.keys.items) (sym plan) (sound_recorded code index at entry next found.within c.index-state.ensures own);
-      operations = opened_can code at.name false n message prepared o;
-      pending = opened_pending code at.name false n message prepared o;
-    }) c.written.ensures.plan c.written.ensures.opened
-
-pub returns-else-number-le1-clause-image : goal.returns-else-number-le1-clause-image
-returns-else-number-le1-clause-image g c =
+pub returns-else-number-le1 : goal.returns-else-number-le1
+returns-else-number-le1 g c =
     let R = g.T.Replica in
     let code = c.args.self.now in
     let key = c.args.key.now in
     let op = c.args.op.now in
     let index = c.in-Some.index in
     let at = c.index-state.result.now in
+    let found = position-found (λ state. bytes_eq state.name key) code.keys.items index c.in-Some.ensures in
     let entry = c.in-Recorded.entry in
     let next = c.in-Recorded.next in
-    let message : Message g.row.T.Denot g.row.T-Kind.Denot g.row.T-Op.Denot g.row.T-Delta.Denot R = Write (length code.operations) at.name entry in
-    let found = position-found (λ state. bytes_eq state.name key) code.keys.items index c.in-Some.ensures in
-    let fits = sym c.fits.ensures ∙ c.if-not-fits.false in
-    let n = c.in-Ok.number in
-    let number = ap (needed (level_meant c.args.level)) (ap length (sym c.members-members.ensures.members)) ∙ c.in-Ok.ensures.enough in
     let own : IsOwn R code.id at (Recorded entry next) = subst (IsOwn R code.id at) c.in-Recorded.is c.in_ok-reply.ensures.owned in
-    let means : MeansUpdate R code.id op at (Recorded entry next) = subst (MeansUpdate R code.id op at) c.in-Recorded.is c.in_ok-reply.ensures.means in
-    if_both (λ (prepared : Prepared g.row.T.Denot g.row.T-Kind.Denot g.row.T-Op.Denot g.row.T-Delta.Denot R). prepared.plan ≡ At index entry next) (IsOpened code at.name false n message)
-    (Prepares g.T.SpelledData code (input.Update key op c.args.level)) c.written.result
-    (λ prepared plan o. prepares_pending g.T.SpelledData code key op c.args.level index at found c.index-state.ensures fits n number prepared o.viewed entry next own means plan c.if-number-le1.false o)
-    c.written.ensures.plan c.written.ensures.opened
+    let message : Message g.row.T.Denot g.row.T-Kind.Denot g.row.T-Op.Denot g.row.T-Delta.Denot R = Write (length code.operations) at.name entry in
+    let n = c.in-Ok.number in
+    record {
+      sound =
+          if_both (λ (prepared : Prepared g.row.T.Denot g.row.T-Kind.Denot g.row.T-Op.Denot g.row.T-Delta.Denot R). prepared.plan ≡ At index entry next) (IsOpened code at.name false n message) (IsSoundFor code) c.written.result
+          (λ prepared plan o. record {
+            plan = subst (IsSoundPlan R code.id code.steps code.keys.items) (sym plan) (sound_recorded code index at entry next found.within c.index-state.ensures own);
+            operations = opened_can code at.name false n message prepared o;
+            pending = opened_pending code at.name false n message prepared o;
+          }) c.written.ensures.plan c.written.ensures.opened;
+      image =
+          let fits = sym c.fits.ensures ∙ c.if-not-fits.false in
+          let number = ap (needed (level_meant c.args.level)) (ap length (sym c.members-members.ensures.members)) ∙ c.in-Ok.ensures.enough in
+          let means : MeansUpdate R code.id op at (Recorded entry next) = subst (MeansUpdate R code.id op at) c.in-Recorded.is c.in_ok-reply.ensures.means in
+          if_both (λ (prepared : Prepared g.row.T.Denot g.row.T-Kind.Denot g.row.T-Op.Denot g.row.T-Delta.Denot R). prepared.plan ≡ At index entry next) (IsOpened code at.name false n message)
+          (Prepares g.T.SpelledData code (input.Update key op c.args.level)) c.written.result
+          (λ prepared plan o. prepares_pending g.T.SpelledData code key op c.args.level index at found c.index-state.ensures fits n number prepared o.viewed entry next own means plan c.if-number-le1.false o)
+          c.written.ensures.plan c.written.ensures.opened;
+    }

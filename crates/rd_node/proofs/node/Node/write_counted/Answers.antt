@@ -1,7 +1,7 @@
 use Rattle.std.proofs.Common.{◌≡◌, ap, refl, subst, not}
 use Rattle.rd_node.specs.declared.operation.OperationResult.TheVariants.{Wrote}
 use Rattle.rd_node.specs.Counting.{open_at, is_write, IsAnswered}
-use Rattle.rd_node.proofs.Counts.{none_open, other_open, counts_nothing, counts_waits, counts_ends}
+use Rattle.rd_node.proofs.Operating.{none_open, other_open, counts_nothing, counts_waits, counts_ends}
 use Rattle.rd_node.proofs.node.Node.write_counted.Goals as goal
 
 pub returns-in_default : goal.returns-in_default

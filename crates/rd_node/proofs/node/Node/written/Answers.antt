@@ -1,8 +1,6 @@
-use Rattle.std.proofs.Common.{false, subst}
-use Rattle.std.specs.Prelude.{IfOk}
-use Rattle.rd_messages.specs.declared.message.Message.{Message}
+use Rattle.std.proofs.Common.{false, subst, IfOk}
+use Rattle.rd_node.proofs.Common.{Message, IsOpened}
 use Rattle.rd_messages.specs.declared.message.Message.TheVariants.{Write}
-use Rattle.rd_node.specs.Opening.{IsOpened}
 use Rattle.rd_node.proofs.node.Node.written.Goals as goal
 
 pub returns-clause-opened : goal.returns-clause-opened

@@ -1,7 +1,8 @@
 use Rattle.std.proofs.Common.{◌<◌, ◌≤◌, ◌∙◌, sym, subst}
+use Rattle.rd_node.proofs.Common.{IsStepOf, IsUnchanged}
 use Rattle.rd_machine.specs.Faults.{RoseAt}
-use Rattle.rd_node.specs.Steps.{is_failure, IsStepOf, IsUnchanged}
-use Rattle.rd_node.proofs.Keepers.{on_err, unchanged_same, rose_by}
+use Rattle.rd_node.specs.Steps.{is_failure}
+use Rattle.rd_node.proofs.Standing.{on_err, unchanged_same, rose_by}
 use Rattle.rd_node.proofs.Making.{makes_step}
 use Rattle.rd_node.proofs.node.NodeMachine.step.Goals as goal
 

@@ -1,7 +1,8 @@
 use Rattle.std.proofs.Common.{ap, ◌∙◌}
 use Rattle.std.proofs.lemmas.Result.{on_ok_weaker}
-use Rattle.rd_vectors.specs.Vectors.{number_at, raised}
-use Rattle.rd_node.proofs.Courses.{noted_once}
+use Rattle.rd_node.proofs.Common.{number_at}
+use Rattle.rd_vectors.specs.Vectors.{raised}
+use Rattle.rd_node.proofs.Ticks.{noted_once}
 use Rattle.rd_node.proofs.ticking.KeyTicking.note.Goals as goal
 
 pub returns-clause-noted : goal.returns-clause-noted

@@ -1,10 +1,9 @@
 use Rattle.std.proofs.Common.{[], ◌∷◌, ◌++◌, ap, sym, ◌∙◌, subst, refl, Some}
 use Rattle.std.proofs.lemmas.Result.{on_ok_weaker}
-use Rattle.rd_markers.specs.Marks.{performed_in}
-use Rattle.rd_envelope.specs.Words.{parts_of}
+use Rattle.rd_node.proofs.Common.{performed_in, parts_of}
 use Rattle.rd_node.specs.declared.ticking.KeyTicking.{KeyTicking}
 use Rattle.rd_node.specs.Ticking.{IsTickOf, IsNoted, tick_at}
-use Rattle.rd_node.proofs.Courses.{further_none, further_some, untold, told_more}
+use Rattle.rd_node.proofs.Ticks.{further_none, further_some, untold, told_more}
 use Rattle.rd_node.proofs.ticking.KeyTicking.tick.Goals as goal
 
 pub returns-in_default-clause-image : goal.returns-in_default-clause-image

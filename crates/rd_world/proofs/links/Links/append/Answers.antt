@@ -1,14 +1,14 @@
 use Rattle.std.proofs.Common.{ℕ, ◌∙◌, ◌∷◌, [], ap, arith, subst, List, map, set}
 use Rattle.std.proofs.Math.Seq.{map-set_same}
 use Rattle.rd_world.specs.Channels.{Channel, row_of, extended, ChangesOne}
-use Rattle.rd_world.proofs.Rows.{changed_one}
-use Rattle.rd_world.proofs.Stays.{err_gives}
+use Rattle.rd_world.proofs.Sendings.{changed_one}
+use Rattle.rd_node.proofs.Standing.{on_err}
 use Rattle.rd_world.proofs.links.Links.append.Goals as goal
 
 pub returns-in_err-append_in-clause-err : goal.returns-in_err-append_in-clause-err
 returns-in_err-append_in-clause-err g c =
     let seen = row_of {M = g.row.M.Denot} in
-    err_gives c.from_residual.result (map-set_same seen c.self.inside.rows.items c.from-sender.result c.append_in.new.row c.index_mut.result.now (c.in_err-append_in.ensures.err ∙ ap seen c.index_mut.ensures.value) ∙ c.self.view_is)
+    on_err c.from_residual.result (map-set_same seen c.self.inside.rows.items c.from-sender.result c.append_in.new.row c.index_mut.result.now (c.in_err-append_in.ensures.err ∙ ap seen c.index_mut.ensures.value) ∙ c.self.view_is)
 
 pub returns-in_ok-append_in-clause-ok : goal.returns-in_ok-append_in-clause-ok
 returns-in_ok-append_in-clause-ok g c =

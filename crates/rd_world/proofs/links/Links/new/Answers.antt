@@ -1,7 +1,7 @@
 use Rattle.std.proofs.Common.{◌≡◌, ◌∙◌, ap, List, map, replicate, arith}
 use Rattle.rd_history.specs.Table.{identity_limit}
 use Rattle.rd_world.specs.Channels.{Channel, row_of, channel_at, no_messages}
-use Rattle.rd_world.proofs.Rows.{channel_at-replicate}
+use Rattle.rd_world.proofs.Sendings.{channel_at-replicate}
 use Rattle.rd_world.proofs.links.Links.new.Goals as goal
 
 pub returns : goal.returns

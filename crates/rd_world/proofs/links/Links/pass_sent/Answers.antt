@@ -1,6 +1,6 @@
 use Rattle.std.proofs.Common.{ℕ, ◌∙◌, arith, subst, List, map, set}
 use Rattle.rd_world.specs.Channels.{Channel, row_of, passed, ChangesOne}
-use Rattle.rd_world.proofs.Rows.{changed_one, changed_none}
+use Rattle.rd_world.proofs.Sendings.{changed_one, changed_none}
 use Rattle.rd_world.proofs.links.Links.pass_sent.Goals as goal
 
 pub returns-then-sender-len : goal.returns-then-sender-len

@@ -1,6 +1,6 @@
 use Rattle.std.proofs.Common.{ℕ, ◌∙◌, arith, subst, List, map, set}
 use Rattle.rd_world.specs.Channels.{Channel, row_of, due_from, ChangesOne}
-use Rattle.rd_world.proofs.Rows.{changed_one}
+use Rattle.rd_world.proofs.Sendings.{changed_one}
 use Rattle.rd_world.proofs.links.Links.set_next.Goals as goal
 
 pub returns-then-sender-len : goal.returns-then-sender-len

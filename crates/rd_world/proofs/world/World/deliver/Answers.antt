@@ -2,9 +2,8 @@ use Rattle.std.proofs.Common.{◌∙◌, ◌<◌, ap, refl, arith}
 use Rattle.std.specs.Prelude.{option_copied}
 use Rattle.rd_history.specs.Table.{identity_limit}
 use Rattle.rd_model.specs.View.{is_member}
-use Rattle.rd_world.proofs.Delivering.{call_absent, call_unsent, call_reply, call_other}
-use Rattle.rd_world.proofs.Answering.{as_before}
-use Rattle.rd_world.proofs.Stays.{match_err}
+use Rattle.rd_world.proofs.Steps.{call_absent, call_unsent, call_reply, call_other}
+use Rattle.rd_world.proofs.Answering.{as_before, match_err}
 use Rattle.rd_world.proofs.world.World.deliver.Goals as goal
 use Rattle.rd_world.proofs.world.World.deliver.Goals.{in-Reply, in_default-answer}
 

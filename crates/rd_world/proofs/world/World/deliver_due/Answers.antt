@@ -1,6 +1,6 @@
 use Rattle.std.proofs.Common.{arith}
 use Rattle.rd_world.proofs.Rounding.{none_delivered, one_delivered, halts_push, halts_deliver, all_delivered}
-use Rattle.rd_world.proofs.Stays.{match_err}
+use Rattle.rd_world.proofs.Answering.{match_err}
 use Rattle.rd_world.proofs.world.World.deliver_due.Goals as goal
 
 pub loop-index-init : goal.loop-index-init

@@ -1,8 +1,8 @@
 use Rattle.std.proofs.Common.{◌∙◌, ◌<◌, ◌-◌, sym, ap, arith}
 use Rattle.rd_history.specs.Table.{identity_limit}
 use Rattle.rd_world.specs.Settling.{met_full, sent_in}
-use Rattle.rd_world.proofs.SettleCalls.{skips_same, skips_delivery, told_delivery, halts_delivery, halts_uncounted}
-use Rattle.rd_world.proofs.Stays.{match_err}
+use Rattle.rd_world.proofs.Settled.{skips_same, skips_delivery, told_delivery, halts_delivery, halts_uncounted}
+use Rattle.rd_world.proofs.Answering.{match_err}
 use Rattle.rd_world.proofs.world.World.deliver_last.Goals as goal
 use Rattle.rd_world.proofs.world.World.deliver_last.Goals.{then-before-sent-via-then-before-sent, then-before-sent-via-else-before-sent+then-met_full}
 

@@ -2,7 +2,7 @@ use Rattle.std.proofs.Common.{◌∙◌, ◌++◌, [], ap}
 use Rattle.rd_model.specs.View.{identities_of}
 use Rattle.rd_views.specs.Sound.{last_view}
 use Rattle.rd_world.specs.Rounds.{dues_from}
-use Rattle.rd_world.proofs.DueLists.{more_of, id_is}
+use Rattle.rd_world.proofs.Rounding.{more_of, id_is}
 use Rattle.rd_world.proofs.world.World.dues.Goals as goal
 
 pub loop-number-preserved : goal.loop-number-preserved

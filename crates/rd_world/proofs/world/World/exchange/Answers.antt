@@ -1,10 +1,10 @@
 use Rattle.std.proofs.Common.{◌∙◌, ap}
 use Rattle.rd_node.specs.Steps.{replication}
 use Rattle.rd_world.specs.Settling.{sent_in, exchanges}
-use Rattle.rd_world.proofs.SettleExchanges.{halts_gossip, halts_gossiped, halts_status, halts_statused, halts_answer, exchange_ends}
-use Rattle.rd_world.proofs.SettleParts.{halts_before, as_it_was}
-use Rattle.rd_world.proofs.SettleSteps.{goes_exchange}
-use Rattle.rd_world.proofs.Stays.{match_err}
+use Rattle.rd_world.proofs.Settled.{halts_gossip, halts_gossiped, halts_status, halts_statused, halts_answer, exchange_ends}
+use Rattle.rd_world.proofs.Standings.{as_it_was}
+use Rattle.rd_world.proofs.SettleParts.{halts_before, goes_exchange}
+use Rattle.rd_world.proofs.Answering.{match_err}
 use Rattle.rd_world.proofs.world.World.exchange.Goals as goal
 
 pub returns-in_err-before : goal.returns-in_err-before

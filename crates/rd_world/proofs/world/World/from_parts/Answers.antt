@@ -1,5 +1,5 @@
-use Rattle.std.proofs.Common.{◌∙◌, sym, arith, length, ◌≡◌, vec_len}
-use Rattle.rd_world.proofs.Parting.{all_put, are_seated}
+use Rattle.std.proofs.Common.{◌∙◌, sym, ◌≡◌, vec_len}
+use Rattle.rd_world.proofs.Seats.{all_put, are_seated}
 use Rattle.rd_world.proofs.world.World.from_parts.Goals as goal
 
 pub returns-clause-members : goal.returns-clause-members

@@ -1,9 +1,8 @@
 use Rattle.std.proofs.Common.{◌∙◌, ◌<◌, sym, ap, refl, arith, length, Some, None}
 use Rattle.rd_views.specs.Sound.{last_view}
 use Rattle.rd_world.specs.Giving.{ChangesAt, gone}
-use Rattle.rd_world.proofs.ByPlace.{few_places}
-use Rattle.rd_world.proofs.Changing.{seat_found, last_sound, item_found, never_empty, seated_set, same_id}
-use Rattle.rd_world.proofs.Outcomes.{match_each, outcome_gives, outcome_refuses}
+use Rattle.rd_world.proofs.Seats.{few_places, seat_found, last_sound, item_found, never_empty, seated_set, same_id}
+use Rattle.rd_world.proofs.Answering.{match_each, outcome_gives, outcome_refuses}
 use Rattle.rd_world.proofs.world.World.give.Goals as goal
 
 pub returns-in_default : goal.returns-in_default

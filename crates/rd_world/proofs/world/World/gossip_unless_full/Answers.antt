@@ -1,7 +1,7 @@
 use Rattle.std.proofs.Common.{◌∙◌, sym, ap}
 use Rattle.rd_world.specs.Settling.{met_full}
-use Rattle.rd_world.proofs.SettleCalls.{skips_gossip, told_gossip, halts_gossip_call}
-use Rattle.rd_world.proofs.Stays.{match_err}
+use Rattle.rd_world.proofs.Settled.{skips_gossip, told_gossip, halts_gossip_call}
+use Rattle.rd_world.proofs.Answering.{match_err}
 use Rattle.rd_world.proofs.world.World.gossip_unless_full.Goals as goal
 
 pub returns-then-met_full : goal.returns-then-met_full

@@ -3,9 +3,9 @@ use Rattle.rd_views.specs.Sound.{last_view}
 use Rattle.rd_node.specs.declared.input.Input.TheVariants as input
 use Rattle.rd_world.specs.Channels.{channel_at, message_on}
 use Rattle.rd_world.specs.Giving.{ChangesAt, gone}
-use Rattle.rd_world.proofs.ByPlace.{few_places}
-use Rattle.rd_world.proofs.Changing.{seat_found, last_sound, item_found, never_empty, seated_set, same_id}
-use Rattle.rd_world.proofs.Outcomes.{match_each, outcome_gives, outcome_refuses, taken_so, some_message}
+use Rattle.rd_world.proofs.Seats.{few_places, seat_found, last_sound, item_found, never_empty, seated_set, same_id}
+use Rattle.rd_world.proofs.Lists.{some_there}
+use Rattle.rd_world.proofs.Answering.{match_each, outcome_gives, outcome_refuses, taken_so}
 use Rattle.rd_world.proofs.world.World.hand.Goals as goal
 
 pub returns-in_default : goal.returns-in_default
@@ -25,7 +25,7 @@ invariant_of-self-in-Some-index_mut-clause-seated g c =
     let small = few_places (last_view world.views) (last_sound world.views c.last.ensures.sound) c.args.to c.in-Some.place seat in
     let within : c.from.result < length world.nodes.items = omega (arith, world.nodes.ok.0, world.eight_nodes) in
     seated_set world.views world.nodes.items world.spare.items world.seated c.from.result c.in-Some-index_mut.node c.take_on-outcome.new.node within (item_found world.nodes.items c.from.result c.index_mut.result.now (Some c.in-Some-index_mut.node) within c.index_mut.ensures.value c.in-Some-index_mut.is)
-    (let sent = some_message (message_on (channel_at world.links c.args.from c.args.to) c.args.index) c.requires in
+    (let sent = some_there (message_on (channel_at world.links c.args.from c.args.to) c.args.index) c.requires in
     same_id g.T.SpelledData c.in-Some-index_mut.node c.take_on-outcome.new.node (input.Take c.args.from sent.0) c.args.to world.links c.take_on-outcome.new.links c.take_on-outcome.result
     (taken_so g.T.SpelledData c.in-Some-index_mut.node c.args.from c.args.index c.take_on-outcome.new.node c.args.to world.links c.take_on-outcome.new.links c.take_on-outcome.result c.take_on-outcome.ensures.ok sent.0 sent.1) c.take_on-outcome.ensures.err)
 

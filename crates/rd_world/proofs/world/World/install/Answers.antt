@@ -1,7 +1,7 @@
 use Rattle.std.proofs.Common.{◌∙◌, ap}
 use Rattle.std.specs.Prelude.{option_copied}
 use Rattle.rd_model.specs.View.{is_member}
-use Rattle.rd_world.proofs.Installing.{installs_gone, installs_none, installs}
+use Rattle.rd_world.proofs.Steps.{installs_gone, installs_none, installs}
 use Rattle.rd_world.proofs.world.World.install.Goals as goal
 
 pub returns-then-not-contains : goal.returns-then-not-contains

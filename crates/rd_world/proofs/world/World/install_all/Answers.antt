@@ -3,10 +3,9 @@ use Rattle.std.specs.Prelude.{fold}
 use Rattle.rd_model.specs.Script.{install_last}
 use Rattle.rd_node.specs.Steps.{replication}
 use Rattle.rd_world.specs.Settling.{installs}
-use Rattle.rd_world.proofs.SettleLoops.{none_called, one_called, halts_call, all_called, installs_are}
-use Rattle.rd_world.proofs.SettleParts.{settles_as, halts_so, halts_before, as_it_was}
-use Rattle.rd_world.proofs.SettleSteps.{goes_install, goes_installs}
-use Rattle.rd_world.proofs.Stays.{match_err}
+use Rattle.rd_world.proofs.SettleParts.{none_called, one_called, halts_call, all_called, installs_are, settles_as, halts_so, halts_before, goes_install, goes_installs}
+use Rattle.rd_world.proofs.Standings.{as_it_was}
+use Rattle.rd_world.proofs.Answering.{match_err}
 use Rattle.rd_world.proofs.world.World.install_all.Goals as goal
 
 pub loop-id-init : goal.loop-id-init

@@ -1,7 +1,7 @@
 use Rattle.rd_model.specs.Script.{install_last}
 use Rattle.rd_node.specs.Steps.{replication}
 use Rattle.rd_world.specs.Settling.{Settles}
-use Rattle.rd_world.proofs.SettleLoops.{called_for}
+use Rattle.rd_world.proofs.SettleParts.{called_for}
 use Rattle.rd_world.proofs.world.World.install_all.Given as goal
 
 abbrev pub invariant-loop-id : goal.invariant-loop-id

@@ -1,8 +1,8 @@
 use Rattle.std.proofs.Common.{◌∙◌, sym, ap}
 use Rattle.rd_model.specs.View.{View}
 use Rattle.rd_world.specs.Settling.{met_full}
-use Rattle.rd_world.proofs.SettleCalls.{skips_upto_date, skips_install, told_install, halts_install}
-use Rattle.rd_world.proofs.Stays.{match_err}
+use Rattle.rd_world.proofs.Settled.{skips_upto_date, skips_install, told_install, halts_install}
+use Rattle.rd_world.proofs.Answering.{match_err}
 use Rattle.rd_world.proofs.world.World.install_last.Goals as goal
 use Rattle.rd_world.proofs.world.World.install_last.Goals.{then-not-is_behind-via-then-not-is_behind, then-not-is_behind-via-else-not-is_behind+then-met_full}
 

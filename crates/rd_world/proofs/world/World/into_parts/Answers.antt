@@ -1,9 +1,9 @@
-use Rattle.std.proofs.Common.{◌∙◌, sym, arith, length, ◌≡◌}
+use Rattle.std.proofs.Common.{◌∙◌, sym}
 use Rattle.rd_node.specs.declared.input.Input.{Input}
 use Rattle.rd_node.specs.declared.reply.Fate.{Fate}
 use Rattle.rd_node.specs.declared.reply.Output.{Output}
 use Rattle.rd_node.specs.declared.reply.StepError.{StepError}
-use Rattle.rd_world.proofs.Parting.{all_taken}
+use Rattle.rd_world.proofs.Seats.{all_taken}
 use Rattle.rd_world.proofs.world.World.into_parts.Goals as goal
 
 pub returns-clause-members : goal.returns-clause-members

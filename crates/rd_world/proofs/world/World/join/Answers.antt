@@ -5,9 +5,8 @@ use Rattle.rd_views.specs.Changes.{RefusesJoin}
 use Rattle.rd_keeper.specs.declared.keeper.KeeperError.TheVariants.{Failed, Memory}
 use Rattle.rd_world.specs.Keeping.{AreSeated}
 use Rattle.rd_world.specs.Seating.{ActsAt, RefusesSeat}
-use Rattle.rd_world.proofs.Undoing.{undone_is, two_now, sound_before}
-use Rattle.rd_world.proofs.JoinFailing.{plays_taken, plays_many, plays_failed, remains_join, seated_spared}
-use Rattle.rd_world.proofs.Joining.{plays_anew, seated_joined, anew_as, joined_last, is_next_view, spare_there, free_there}
+use Rattle.rd_world.proofs.Seats.{undone_is, two_now, sound_before}
+use Rattle.rd_world.proofs.Joining.{plays_taken, plays_many, plays_failed, remains_join, seated_spared, plays_anew, seated_joined, anew_as, joined_last, is_next_view, spare_there, free_there}
 use Rattle.rd_world.proofs.world.World.join.Goals as goal
 
 pub returns-in-Err-PlaceTaken : goal.returns-in-Err-PlaceTaken

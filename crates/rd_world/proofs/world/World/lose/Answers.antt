@@ -1,7 +1,7 @@
 use Rattle.std.proofs.Common.{◌<◌, ◌≤◌, refl, arith}
 use Rattle.rd_history.specs.Table.{identity_limit}
 use Rattle.rd_world.specs.Channels.{channel_at, count_on}
-use Rattle.rd_world.proofs.Losing.{plays_lost, plays_none}
+use Rattle.rd_world.proofs.Steps.{plays_lost, plays_none}
 use Rattle.rd_world.proofs.world.World.lose.Goals as goal
 
 pub returns-then-index-sent : goal.returns-then-index-sent

@@ -2,15 +2,15 @@ use Rattle.std.proofs.Common.{refl, sym, subst, ◌∙◌}
 use Rattle.rd_views.specs.Sound.{last_view}
 use Rattle.rd_views.specs.Changes.{RefusesRemoval}
 use Rattle.rd_world.specs.Keeping.{AreSeated}
-use Rattle.rd_world.proofs.Clearing.{none_of}
-use Rattle.rd_world.proofs.Quietly.{alike_itself}
-use Rattle.rd_world.proofs.SeatChanges.{last_sound}
+use Rattle.rd_world.proofs.Starting.{none_of}
+use Rattle.rd_world.proofs.Standings.{same_itself}
+use Rattle.rd_world.proofs.Seats.{last_sound}
 use Rattle.rd_world.proofs.Removing.{plays_removed, plays_gone, plays_last, seated_after, some_keeper}
 use Rattle.rd_world.proofs.world.World.remove.Goals as goal
 
 pub returns-in_default : goal.returns-in_default
 returns-in_default g c =
-    plays_gone g.T.SpelledData c.args.id c.args.self.now c.args.self.now (alike_itself c.args.self.now) (sym c.place_in.ensures.place ∙ none_of c.place_in.result c.in_default.not-Some) c.line.result c.line.ensures
+    plays_gone g.T.SpelledData c.args.id c.args.self.now c.args.self.now (same_itself c.args.self.now) (sym c.place_in.ensures.place ∙ none_of c.place_in.result c.in_default.not-Some) c.line.result c.line.ensures
 
 pub invariant_of-self-clause-seated : goal.invariant_of-self-clause-seated
 invariant_of-self-clause-seated g c =

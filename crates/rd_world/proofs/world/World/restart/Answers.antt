@@ -4,14 +4,10 @@ use Rattle.rd_model.specs.View.{with_replaced}
 use Rattle.rd_views.specs.Sound.{last_view}
 use Rattle.rd_views.specs.Changes.{RefusesReplacement}
 use Rattle.rd_world.specs.Keeping.{AreSeated}
-use Rattle.rd_world.proofs.Clearing.{none_of}
-use Rattle.rd_world.proofs.SeatChanges.{last_sound}
-use Rattle.rd_world.proofs.Undoing.{undone_is}
+use Rattle.rd_world.proofs.Starting.{none_of}
+use Rattle.rd_world.proofs.Seats.{last_sound, undone_is}
 use Rattle.rd_world.proofs.Joining.{is_next_view, joined_last}
-use Rattle.rd_world.proofs.Replacing.{member_there, seated_replaced, seated_back}
-use Rattle.rd_world.proofs.Restarting.{plays_restarted}
-use Rattle.rd_world.proofs.ComingBack.{plays_gone, plays_many, remains_restart}
-use Rattle.rd_world.proofs.RestartEnds.{then_there, came_back, same_id, plays_back}
+use Rattle.rd_world.proofs.Restarting.{member_there, seated_replaced, seated_back, plays_restarted, plays_gone, plays_many, remains_restart, then_there, came_back, same_id, plays_back}
 use Rattle.rd_world.proofs.world.World.restart.Goals as goal
 
 pub returns-in_default : goal.returns-in_default

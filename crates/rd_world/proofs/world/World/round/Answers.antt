@@ -1,11 +1,12 @@
 use Rattle.std.proofs.Common.{◌∙◌, ◌<◌, sym, ap, arith, List, [], ◌∷◌, ◌++◌, length}
 use Rattle.std.specs.Prelude.{vec_len}
-use Rattle.std.proofs.lemmas.List.{take_all}
+use Rattle.std.proofs.lemmas.Bool.{eqb-true}
+use Rattle.std.proofs.lemmas.List.{take_all, nil_from_length}
 use Rattle.rd_world.specs.declared.event.Event.{Event}
 use Rattle.rd_world.specs.declared.rounds.Due.{Due}
-use Rattle.rd_world.proofs.Changing.{last_sound}
-use Rattle.rd_world.proofs.Rounding.{none_turned, one_turned, halts_turn, plays_nothing, plays_round, remains_round, remains_still, empty_count, some_count, no_dues}
-use Rattle.rd_world.proofs.Stays.{match_err}
+use Rattle.rd_world.proofs.Seats.{last_sound}
+use Rattle.rd_world.proofs.Rounding.{none_turned, one_turned, halts_turn, plays_nothing, plays_round, remains_round, remains_still, some_count}
+use Rattle.rd_world.proofs.Answering.{match_err}
 use Rattle.rd_world.proofs.world.World.round.Goals as goal
 
 pub returns-in_err-dues : goal.returns-in_err-dues
@@ -16,8 +17,8 @@ returns-in_err-push g c = match_err _ _ c.from_residual-in_err-push.result c.fro
 
 pub returns-then-is_empty : goal.returns-then-is_empty
 returns-then-is_empty g c =
-    let none = empty_count (vec_len c.in_ok-dues.dues) (sym c.is_empty.ensures ∙ c.if-is_empty.true) in
-    plays_nothing g.T.SpelledData c.args.self.now (last_sound c.args.self.now.views c.in_ok-dues.ensures.sound) c.in_ok-dues.dues.items c.in_ok-dues.ensures.due (no_dues c.in_ok-dues.dues.items (omega (arith, c.in_ok-dues.dues.ok.0))) c.push.new.self
+    let none = eqb-true (vec_len c.in_ok-dues.dues) 0 (sym c.is_empty.ensures ∙ c.if-is_empty.true) in
+    plays_nothing g.T.SpelledData c.args.self.now (last_sound c.args.self.now.views c.in_ok-dues.ensures.sound) c.in_ok-dues.dues.items c.in_ok-dues.ensures.due (nil_from_length c.in_ok-dues.dues.items (omega (arith, c.in_ok-dues.dues.ok.0))) c.push.new.self
     (c.in_ok-push.ensures.ok ∙ ap (λ (events : List Event). events ++ c.line.result ∷ []) c.new-events.ensures ∙ ap (λ (event : Event). event ∷ []) c.line.ensures)
 
 pub loop-due-init : goal.loop-due-init

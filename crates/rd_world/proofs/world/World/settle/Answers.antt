@@ -1,7 +1,7 @@
 use Rattle.std.proofs.Common.{◌∙◌, sym, ap}
 use Rattle.rd_world.specs.Settling.{met_full, sent_in, last_blocked}
 use Rattle.rd_world.proofs.Settled.{halts_installs, halts_sweeps, halts_tick_1, halts_sweep_1, halts_tick_2, ticks_twice, remains_settle, halts_sweep_2, halts_counting, plays_stopped, plays_settled}
-use Rattle.rd_world.proofs.Stays.{match_err}
+use Rattle.rd_world.proofs.Answering.{match_err}
 use Rattle.rd_world.proofs.world.World.settle.Goals as goal
 
 pub returns-in_err-install_all : goal.returns-in_err-install_all

@@ -1,11 +1,11 @@
 use Rattle.std.proofs.Common.{arith, refl, sym, ap, subst, ◌∙◌, map}
 use Rattle.std.specs.Prelude.{is_some}
+use Rattle.std.proofs.lemmas.List.{nil_from_length}
 use Rattle.rd_node.specs.Members.{AreDistinct}
 use Rattle.rd_world.specs.Keeping.{AreSeated}
 use Rattle.rd_world.specs.Places.{item_at}
 use Rattle.rd_world.specs.Seating.{AreFirstSeats}
-use Rattle.rd_world.proofs.Clearing.{none_refused}
-use Rattle.rd_world.proofs.Starting.{no_items, item_of_all, some_within, cleared_kept, come_back, seats_first, starts}
+use Rattle.rd_world.proofs.Starting.{none_refused, item_of_all, some_within, cleared_kept, come_back, seats_first, starts}
 use Rattle.rd_world.proofs.world.World.start.Goals as goal
 
 pub returns-in-Err : goal.returns-in-Err
@@ -45,6 +45,6 @@ returns-in-Ok-seat_first g c =
 
 pub returns-in-Err-seat_first : goal.returns-in-Err-seat_first
 returns-in-Err-seat_first g c =
-    come_back c.seat_first.new.nodes.items c.put_by.new.spare.items c.seat_first.new.spare.items c.clear_all.new.keepers.items c.put_by.ensures.spare c.seat_first.ensures.kept c.args.keepers.items c.gathered.result.items c.put_by.new.keepers.items (no_items c.put_by.new.keepers.items (omega (arith, c.put_by.new.keepers.ok.0, c.put_by.ensures.none)))
+    come_back c.seat_first.new.nodes.items c.put_by.new.spare.items c.seat_first.new.spare.items c.clear_all.new.keepers.items c.put_by.ensures.spare c.seat_first.ensures.kept c.args.keepers.items c.gathered.result.items c.put_by.new.keepers.items (nil_from_length c.put_by.new.keepers.items (omega (arith, c.put_by.new.keepers.ok.0, c.put_by.ensures.none)))
     (omega (arith, c.seat_first.new.nodes.ok.0, c.seat_first.ensures.len_nodes, c.clear_all.new.keepers.ok.0, c.clear_all.ensures.len)) (omega (arith, c.seat_first.new.spare.ok.0, c.seat_first.ensures.len_spare, c.clear_all.new.keepers.ok.0, c.clear_all.ensures.len)) c.gathered.ensures
     (none_refused g.K.Keeper c.clear_all.result c.args.keepers.items c.clear_all.new.keepers.items c.in_default.not-Some c.clear_all.ensures.clears)

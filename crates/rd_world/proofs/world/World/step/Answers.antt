@@ -1,5 +1,5 @@
 use Rattle.rd_world.proofs.Settled.{remains_same}
-use Rattle.rd_world.proofs.Stays.{match_err}
+use Rattle.rd_world.proofs.Answering.{match_err}
 use Rattle.rd_world.proofs.world.World.step.Goals as goal
 
 pub returns-in_err-events : goal.returns-in_err-events

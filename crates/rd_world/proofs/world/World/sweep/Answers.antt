@@ -3,10 +3,9 @@ use Rattle.std.specs.Prelude.{fold}
 use Rattle.rd_model.specs.View.{leader}
 use Rattle.rd_model.specs.Script.{exchange, sweep}
 use Rattle.rd_node.specs.Steps.{replication}
-use Rattle.rd_world.proofs.SettleLoops.{none_called, one_called, halts_call, all_called, sweep_is}
-use Rattle.rd_world.proofs.SettleParts.{settles_as, halts_so, halts_before, as_it_was}
-use Rattle.rd_world.proofs.SettleSteps.{goes_exchange, goes_sweep}
-use Rattle.rd_world.proofs.Stays.{match_err}
+use Rattle.rd_world.proofs.SettleParts.{none_called, one_called, halts_call, all_called, sweep_is, settles_as, halts_so, halts_before, goes_exchange, goes_sweep}
+use Rattle.rd_world.proofs.Standings.{as_it_was}
+use Rattle.rd_world.proofs.Answering.{match_err}
 use Rattle.rd_world.proofs.world.World.sweep.Goals as goal
 
 pub loop-id-init : goal.loop-id-init

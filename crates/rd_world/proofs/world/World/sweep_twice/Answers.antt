@@ -1,8 +1,7 @@
 use Rattle.rd_model.specs.Script.{sweep}
 use Rattle.rd_node.specs.Steps.{replication}
-use Rattle.rd_world.proofs.SettleParts.{settles_or_then, halts_first}
-use Rattle.rd_world.proofs.SettleSteps.{goes_sweep}
-use Rattle.rd_world.proofs.Stays.{match_err}
+use Rattle.rd_world.proofs.SettleParts.{settles_or_then, halts_first, goes_sweep}
+use Rattle.rd_world.proofs.Answering.{match_err}
 use Rattle.rd_world.proofs.world.World.sweep_twice.Goals as goal
 
 pub returns-in_err-sweep : goal.returns-in_err-sweep

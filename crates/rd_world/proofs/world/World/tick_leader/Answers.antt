@@ -1,8 +1,8 @@
 use Rattle.std.proofs.Common.{◌∙◌, sym, ap}
 use Rattle.rd_model.specs.View.{leader}
 use Rattle.rd_world.specs.Settling.{met_full}
-use Rattle.rd_world.proofs.SettleCalls.{skips_tick, told_tick, halts_tick_call}
-use Rattle.rd_world.proofs.Stays.{match_err}
+use Rattle.rd_world.proofs.Settled.{skips_tick, told_tick, halts_tick_call}
+use Rattle.rd_world.proofs.Answering.{match_err}
 use Rattle.rd_world.proofs.world.World.tick_leader.Goals as goal
 
 pub returns-then-met_full : goal.returns-then-met_full
