@@ -1,0 +1,406 @@
+//! What is refused: texts that are no script, and sources, sinks and keepers that fail.
+
+use crate::kinds_tests::EMPTY;
+use crate::rows::{MANY, build, compare, keepers, printed, sink, source, status};
+use rd_outside::{MemorySink, MemorySource};
+use rd_top::Status;
+use std::alloc::Global;
+use std::test::Fail;
+
+// A text that breaks each rule, and what is printed. In the last of rule 4 and the first of rule 7 a later step breaks a rule of a lower number or a higher.
+const BROKEN: [(&str, &str); 37] = [
+    (r#"[]"#, "not a script: step 0 rule 1\n"),
+    (r#"{"members":1}"#, "not a script: step 0 rule 1\n"),
+    (
+        r#"{"members":1,"keys":[{"key":"n","kind":"gcounter"}],"steps":[],"more":0}"#,
+        "not a script: step 0 rule 1\n",
+    ),
+    (
+        r#"{"members":0,"keys":[{"key":"n","kind":"gcounter"}],"steps":[]}"#,
+        "not a script: step 0 rule 2\n",
+    ),
+    (
+        r#"{"members":9,"keys":[{"key":"n","kind":"gcounter"}],"steps":[]}"#,
+        "not a script: step 0 rule 2\n",
+    ),
+    (
+        r#"{"members":1.0,"keys":[],"steps":[]}"#,
+        "not a script: step 0 rule 2\n",
+    ),
+    (
+        r#"{"members":1,"keys":[],"steps":[{"do":"fly"}]}"#,
+        "not a script: step 0 rule 3\n",
+    ),
+    (
+        r#"{"members":1,"keys":[{"key":"n","kind":"map"}],"steps":[]}"#,
+        "not a script: step 0 rule 3\n",
+    ),
+    (
+        r#"{"members":1,"keys":[{"key":"N","kind":"flag"}],"steps":[]}"#,
+        "not a script: step 0 rule 3\n",
+    ),
+    (
+        r#"{"members":1,"keys":[{"key":"aaaaaaaaaaaaaaaaaaaaaaaaaaaaaaaaa","kind":"flag"}],"steps":[]}"#,
+        "not a script: step 0 rule 3\n",
+    ),
+    (
+        r#"{"members":1,"keys":[{"key":"n","kind":"flag"},{"key":"n","kind":"gset"}],"steps":[]}"#,
+        "not a script: step 0 rule 3\n",
+    ),
+    (
+        r#"{"members":1,"keys":[{"key":"n","kind":"flag","durable":null}],"steps":[]}"#,
+        "not a script: step 0 rule 3\n",
+    ),
+    (
+        r#"{"members":1,"keys":[{"key":"n","kind":"flag"}],"steps":{}}"#,
+        "not a script: step 0 rule 4\n",
+    ),
+    (
+        r#"{"members":1,"keys":[{"key":"n","kind":"flag"}],"steps":[{"do":"fly"},7]}"#,
+        "not a script: step 0 rule 4\n",
+    ),
+    (
+        r#"{"members":1,"keys":[{"key":"n","kind":"gcounter"}],"steps":[{"do":"round"},{"do":"round"},{"do":"round"},{"do":"fly"}]}"#,
+        "not a script: step 4 rule 5\n",
+    ),
+    (
+        r#"{"members":1,"keys":[{"key":"n","kind":"gcounter"}],"steps":[{"at":0}]}"#,
+        "not a script: step 1 rule 5\n",
+    ),
+    (
+        r#"{"members":1,"keys":[{"key":"n","kind":"gcounter"}],"steps":[{"do":"update","at":0,"key":"n","op":"delete"}]}"#,
+        "not a script: step 1 rule 5\n",
+    ),
+    (
+        r#"{"members":1,"keys":[{"key":"n","kind":"gcounter"}],"steps":[{"do":"flush"}]}"#,
+        "not a script: step 1 rule 6\n",
+    ),
+    (
+        r#"{"members":1,"keys":[{"key":"n","kind":"gcounter"}],"steps":[{"do":"settle","at":0}]}"#,
+        "not a script: step 1 rule 6\n",
+    ),
+    (
+        r#"{"members":1,"keys":[{"key":"n","kind":"gcounter"}],"steps":[{"do":"settle"},{"do":"round","times":2}]}"#,
+        "not a script: step 2 rule 6\n",
+    ),
+    (
+        r#"{"members":1,"keys":[{"key":"n","kind":"gcounter"}],"steps":[{"do":"flush","at":64},{"do":"fly"}]}"#,
+        "not a script: step 1 rule 7\n",
+    ),
+    (
+        r#"{"members":1,"keys":[{"key":"n","kind":"gcounter"}],"steps":[{"do":"flush","at":-0}]}"#,
+        "not a script: step 1 rule 7\n",
+    ),
+    (
+        r#"{"members":1,"keys":[{"key":"n","kind":"gcounter"}],"steps":[{"do":"join","place":8}]}"#,
+        "not a script: step 1 rule 7\n",
+    ),
+    (
+        r#"{"members":1,"keys":[{"key":"n","kind":"gcounter"}],"steps":[{"do":"deliver","from":0,"to":0,"index":4294967296}]}"#,
+        "not a script: step 1 rule 7\n",
+    ),
+    (
+        r#"{"members":1,"keys":[{"key":"n","kind":"gcounter"}],"steps":[{"do":"get","at":0,"key":"n n"}]}"#,
+        "not a script: step 1 rule 8\n",
+    ),
+    (
+        r#"{"members":1,"keys":[{"key":"n","kind":"gcounter"}],"steps":[{"do":"update","at":0,"key":"n","op":"add","element":1}]}"#,
+        "not a script: step 1 rule 9\n",
+    ),
+    (
+        r#"{"members":1,"keys":[{"key":"n","kind":"gcounter"}],"steps":[{"do":"update","at":0,"key":"n","op":"increment","by":1.5}]}"#,
+        "not a script: step 1 rule 10\n",
+    ),
+    (
+        r#"{"members":1,"keys":[{"key":"n","kind":"gcounter"}],"steps":[{"do":"update","at":0,"key":"n","op":"increment","by":0}]}"#,
+        "not a script: step 1 rule 10\n",
+    ),
+    (
+        r#"{"members":1,"keys":[{"key":"n","kind":"gcounter"}],"steps":[{"do":"update","at":0,"key":"n","op":"decrement","by":9223372036854775808}]}"#,
+        "not a script: step 1 rule 10\n",
+    ),
+    (
+        r#"{"members":1,"keys":[{"key":"n","kind":"gcounter"}],"steps":[{"do":"update","at":0,"key":"n","op":"assign","text":"a","now":9223372036854775808}]}"#,
+        "not a script: step 1 rule 10\n",
+    ),
+    (
+        r#"{"members":1,"keys":[{"key":"n","kind":"gcounter"}],"steps":[{"do":"update","at":0,"key":"n","op":"add","element":"xxxxxxxxxxxxxxxxxxxxxxxxxxxxxxxxxxxxxxxxxxxxxxxxxxxxxxxxxxxxxxxxx"}]}"#,
+        "not a script: step 1 rule 11\n",
+    ),
+    (
+        r#"{"members":1,"keys":[{"key":"n","kind":"gcounter"}],"steps":[{"do":"get","at":0,"key":"n","level":null}]}"#,
+        "not a script: step 1 rule 12\n",
+    ),
+    (
+        r#"{"members":1,"keys":[{"key":"n","kind":"gcounter"}],"steps":[{"do":"get","at":0,"key":"n","level":{"to":65}}]}"#,
+        "not a script: step 1 rule 12\n",
+    ),
+    (
+        r#"{"members":1,"keys":[{"key":"n","kind":"gcounter"}],"steps":[{"do":"get","at":0,"key":"n","level":{"majority":65}}]}"#,
+        "not a script: step 1 rule 12\n",
+    ),
+    (
+        r#"{"members":1,"keys":[{"key":"n","kind":"gcounter"}],"steps":[{"do":"threads"}]}"#,
+        "not a script: step 1 rule 6\n",
+    ),
+    (
+        r#"{"members":1,"keys":[{"key":"n","kind":"gcounter"}],"steps":[{"do":"threads","clients":[[{"do":"flush","at":64}]]}]}"#,
+        "not a script: step 1 rule 13\n",
+    ),
+    (
+        r#"{"members":1,"keys":[{"key":"n","kind":"gcounter"}],"steps":[{"do":"threads","clients":[[{"do":"flush","at":0}]]}]}"#,
+        "not a script: step 1 rule 14\n",
+    ),
+];
+
+// Each number and text of a step at its limit.
+const AT_THE_LIMITS: &str =
+    r#"{"members":8,"keys":[{"key":"abcdefghijklmnopqrstuvwxyz012345","kind":"gset"}],"steps":[
+    {"do":"update","at":63,"key":"abcdefghijklmnopqrstuvwxyz012345","op":"add","element":"x"},
+    {"do":"update","at":0,"key":"abcdefghijklmnopqrstuvwxyz012345","op":"add","element":"xxxxxxxxxxxxxxxxxxxxxxxxxxxxxxxxxxxxxxxxxxxxxxxxxxxxxxxxxxxxxxxx"},
+    {"do":"get","at":0,"key":"abcdefghijklmnopqrstuvwxyz012345","level":{"to":64}},
+    {"do":"get","at":0,"key":"abcdefghijklmnopqrstuvwxyz012345","level":{"majority":64}},
+    {"do":"deliver","from":63,"to":0,"index":4294967295},
+    {"do":"install","at":0,"view":4294967295},
+    {"do":"timeout","at":0,"op":4294967295},
+    {"do":"join","place":7},
+    {"do":"lose","from":63,"to":63}]}"#;
+
+const AT_THE_LIMITS_REPORT: &str = r#"1 update 63 abcdefghijklmnopqrstuvwxyz012345 gone
+2 update 0 abcdefghijklmnopqrstuvwxyz012345 done
+3 get 0 abcdefghijklmnopqrstuvwxyz012345 too few
+4 get 0 abcdefghijklmnopqrstuvwxyz012345 pending 0 sent 1:read 2:read 3:read 4:read 5:read 6:read 7:read
+5 deliver 63>0 4294967295 no such message
+6 install 0 view 4294967295 no such view
+7 timeout 0 4294967295 no such op
+8 join 7 place taken
+9 lose 63>63 0 no such message
+final view 0
+member 0 place 0 view 0
+abcdefghijklmnopqrstuvwxyz012345 {"xxxxxxxxxxxxxxxxxxxxxxxxxxxxxxxxxxxxxxxxxxxxxxxxxxxxxxxxxxxxxxxx"} known 0:1 marks -
+member 1 place 1 view 0
+abcdefghijklmnopqrstuvwxyz012345 - known - marks -
+member 2 place 2 view 0
+abcdefghijklmnopqrstuvwxyz012345 - known - marks -
+member 3 place 3 view 0
+abcdefghijklmnopqrstuvwxyz012345 - known - marks -
+member 4 place 4 view 0
+abcdefghijklmnopqrstuvwxyz012345 - known - marks -
+member 5 place 5 view 0
+abcdefghijklmnopqrstuvwxyz012345 - known - marks -
+member 6 place 6 view 0
+abcdefghijklmnopqrstuvwxyz012345 - known - marks -
+member 7 place 7 view 0
+abcdefghijklmnopqrstuvwxyz012345 - known - marks -
+"#;
+
+// A script, and what is printed where one byte of it is raised by one: `j` is no JSON text, `d` is done, and a number is the rule that is broken.
+const SCRIPT: &str =
+    r#"{"members":1,"keys":[{"key":"n","kind":"flag"}],"steps":[{"do":"flush","at":0}]}"#;
+
+const RAISED: &[u8; 80] =
+    b"jj1111111jjdjj1111jjjjj333jjjdjjj3333jjj3333jjjjj11111jjjjj55jjj55555jjj66jjdjjj";
+
+#[test]
+fn tells_the_first_broken_rule(rt: HostRuntime) -> Result<(), Fail> {
+    let alloc = rt.alloc();
+    for (script, text) in BROKEN {
+        let (code, sink) = printed(alloc, script, keepers(alloc, 0, &[])?)?;
+        assert_eq!(rt; code, u8::from(Status::NotAScript), "at {script}");
+        assert_eq!(rt; sink.bytes(), text.as_bytes(), "at {script}");
+    }
+    Ok(())
+}
+
+#[test]
+fn takes_what_is_at_the_limits(rt: HostRuntime) -> Result<(), Fail> {
+    let none: &[u64] = &[];
+    compare(
+        &rt,
+        rt.alloc(),
+        0,
+        &[(AT_THE_LIMITS, none, AT_THE_LIMITS_REPORT)],
+    )
+}
+
+#[test]
+fn bounds_keys_and_steps(rt: HostRuntime) -> Result<(), Fail> {
+    let alloc = rt.alloc();
+    let rows = [
+        (16, 4096, Status::Done),
+        (17, 4096, Status::NotAScript),
+        (16, 4097, Status::NotAScript),
+    ];
+    for (keys, steps, status) in rows {
+        let script = build(
+            alloc,
+            &[
+                (1, r#"{"members":1,"keys":["#, &[]),
+                (
+                    keys - 1,
+                    r#"{"key":"k#","kind":"flag"},"#,
+                    &[(1, 1, 1, MANY)],
+                ),
+                (1, r#"{"key":"k","kind":"flag"}],"steps":["#, &[]),
+                (steps - 1, r#"{"do":"round"},"#, &[]),
+                (1, r#"{"do":"round"}]}"#, &[]),
+            ],
+        )?;
+        let (code, _) = printed(alloc, script.as_str(), keepers(alloc, 0, &[])?)?;
+        assert_eq!(rt; code, u8::from(status), "at {keys} {steps}");
+    }
+    Ok(())
+}
+
+// What a text prints, a number for the rule.
+fn told(alloc: Global, bytes: &[u8]) -> Result<u8, Fail> {
+    let mut source = source(alloc, bytes, &[])?;
+    let mut sink = sink(alloc, &[])?;
+    let code = status(
+        alloc,
+        "plain",
+        &mut source,
+        &mut sink,
+        keepers(alloc, 0, &[])?,
+    )?;
+    let rule = match sink.bytes() {
+        [.., rule, b'\n'] => *rule,
+        _ => b'-',
+    };
+    match code {
+        0 => Ok(b'd'),
+        2 if sink.bytes() == b"not json\n".as_slice() => Ok(b'j'),
+        3 => Ok(rule),
+        _ => Ok(b'-'),
+    }
+}
+
+#[test]
+fn reads_cut_and_raised_texts(rt: HostRuntime) -> Result<(), Fail> {
+    let alloc = rt.alloc();
+    let script = SCRIPT.as_bytes();
+    assert_eq!(rt; told(alloc, script)?, b'd');
+    for (at, outcome) in RAISED.iter().enumerate() {
+        let mut raised = Vec::from_slice(alloc, script)?;
+        if let Some(byte) = raised.get_mut(at) {
+            *byte = byte.saturating_add(1);
+        }
+        assert_eq!(rt; told(alloc, &raised)?, *outcome, "raised at {at}");
+        let cut = &script[..at.min(script.len())];
+        assert_eq!(rt; told(alloc, cut)?, b'j', "cut at {at}");
+    }
+    Ok(())
+}
+
+#[test]
+fn bounds_the_script(rt: HostRuntime) -> Result<(), Fail> {
+    let alloc = rt.alloc();
+    let rows = [
+        (8_388_608, Status::NotJson, "not json\n"),
+        (8_388_609, Status::TooLong, "too long\n"),
+    ];
+    for (length, outcome, text) in rows {
+        let spaces = vec![in alloc; b' '; length]?;
+        let mut source = MemorySource::new(alloc, spaces, 4096, Vec::new(alloc));
+        let mut sink = sink(alloc, &[])?;
+        let code = status(
+            alloc,
+            "plain",
+            &mut source,
+            &mut sink,
+            keepers(alloc, 0, &[])?,
+        )?;
+        assert_eq!(rt; code, u8::from(outcome), "at {length}");
+        assert_eq!(rt; sink.bytes(), text.as_bytes(), "at {length}");
+    }
+    Ok(())
+}
+
+#[test]
+fn answers_by_cause(rt: HostRuntime) -> Result<(), Fail> {
+    let alloc = rt.alloc();
+    let none: &[u64] = &[];
+    let first: &[u64] = &[0];
+    let rows = [
+        (
+            "plain",
+            "{\"members\":1",
+            none,
+            none,
+            none,
+            Status::NotJson,
+            "not json\n",
+        ),
+        ("plain", "", none, none, none, Status::NotJson, "not json\n"),
+        (
+            "plain",
+            EMPTY,
+            none,
+            &[1],
+            none,
+            Status::WriteFailed,
+            "final vi",
+        ),
+        ("gen 1", EMPTY, none, first, none, Status::WriteFailed, ""),
+        (
+            "sum 1",
+            EMPTY,
+            none,
+            &[1],
+            none,
+            Status::WriteFailed,
+            "final vi",
+        ),
+        (
+            "gen 0",
+            EMPTY,
+            first,
+            none,
+            none,
+            Status::Usage,
+            "bad words\n",
+        ),
+        (
+            "gen 0",
+            EMPTY,
+            none,
+            &[1],
+            none,
+            Status::WriteFailed,
+            "bad word",
+        ),
+        ("plain", EMPTY, first, none, none, Status::ReadFailed, ""),
+        (
+            "plain",
+            EMPTY,
+            none,
+            none,
+            first,
+            Status::ClearFailed,
+            "store failed at 0\n",
+        ),
+        (
+            "sum 1",
+            EMPTY,
+            none,
+            none,
+            first,
+            Status::ClearFailed,
+            "store failed at 0\n",
+        ),
+    ];
+    for (line, script, reads, writes, clears, outcome, text) in rows {
+        let mut source = source(alloc, script.as_bytes(), reads)?;
+        let mut sink = MemorySink::new(alloc, 8, Vec::from_slice(alloc, writes)?);
+        let code = status(
+            alloc,
+            line,
+            &mut source,
+            &mut sink,
+            keepers(alloc, 0, clears)?,
+        )?;
+        assert_eq!(rt; code, u8::from(outcome), "at {line} {script}");
+        assert_eq!(rt; sink.bytes(), text.as_bytes(), "at {line} {script}");
+    }
+    Ok(())
+}
