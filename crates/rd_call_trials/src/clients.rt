@@ -1,6 +1,6 @@
 //! What is read of the clients of a script, and which rule is told first.
 
-use crate::scripts::{level_tail, link, operation_line, with_steps};
+use crate::scripts::{check_told, level_tail, link, operation_line, parts, with_steps};
 use rd_script::{Command, Repeated, RunScript, RunStep, ScriptError, read_run_script, read_script};
 use std::alloc::Global;
 use std::test::Fail;
@@ -99,47 +99,76 @@ fn line(alloc: Global, repeated: &Repeated) -> Result<String, Fail> {
     Ok(line)
 }
 
+/// Without clients a script is refused for the same rule.
+fn plain_fault(alloc: Global, text: &str) -> Result<String, Fail> {
+    let told = match read_script(alloc, text.as_bytes()) {
+        Err(ScriptError::NotAScript { step, rule }) => format!(in alloc;
+            "step {step} rule {rule}"
+        )?,
+        _ => String::new(alloc),
+    };
+    Ok(told)
+}
+
+fn check_refused(alloc: Global, row: &str) -> Result<(), Fail> {
+    let (rule, step) = parts(row)?;
+    let steps = format!(in alloc; "{{\"do\":\"round\"}},{step},{{}}")?;
+    let text = with_steps(alloc, steps.as_str())?;
+    let want = format!(in alloc; "step 2 rule {rule}")?;
+    let told = fault(alloc, read_run_script(alloc, text.as_bytes()))?;
+    check_told(alloc, told.as_str(), want.as_str(), step)?;
+    let plainly = plain_fault(alloc, text.as_str())?;
+    check_told(alloc, plainly.as_str(), want.as_str(), step)
+}
+
 #[test]
 fn refuses_clients_that_break_a_rule(rt: HostRuntime) -> Result<(), Fail> {
-    let alloc = rt.alloc();
-    for (rule, step) in REFUSED.lines().filter_map(|row| row.split_once(": ")) {
-        let steps = format!(in alloc; "{{\"do\":\"round\"}},{step},{{}}")?;
-        let text = with_steps(alloc, steps.as_str())?;
-        let want = format!(in alloc; "step 2 rule {rule}")?;
-        let told = fault(alloc, read_run_script(alloc, text.as_bytes()))?;
-        assert_eq!(rt; told.as_str(), want.as_str(), "at {step}");
-        let plainly = match read_script(alloc, text.as_bytes()) {
-            Err(ScriptError::NotAScript { step, rule }) => format!(in alloc;
-                "step {step} rule {rule}"
-            )?,
-            _ => String::new(alloc),
-        };
-        assert_eq!(rt; plainly.as_str(), want.as_str(), "at {step}");
+    for row in REFUSED.lines() {
+        check_refused(rt.alloc(), row)?;
     }
     Ok(())
 }
 
+/// Adds what the clients of a step are to do, a line a client; of another step that it is plain.
+fn push_step(alloc: Global, told: &mut String, step: &RunStep) -> Result<(), Fail> {
+    let RunStep::Threads { clients } = step else {
+        told.push_str("plain\n")?;
+        return Ok(());
+    };
+    for client in clients.as_slice() {
+        told.push_str("client")?;
+        for repeated in client.as_slice() {
+            let line = line(alloc, repeated)?;
+            write!(told, " {line}")?;
+        }
+        told.push_str("\n")?;
+    }
+    Ok(())
+}
+
+/// The steps of a script.
+fn steps_told(alloc: Global, steps: &str) -> Result<String, Fail> {
+    let text = with_steps(alloc, steps)?;
+    let script = read_run_script(alloc, text.as_bytes())?;
+    let mut told = String::new(alloc);
+    for step in script.steps.as_slice() {
+        push_step(alloc, &mut told, step)?;
+    }
+    Ok(told)
+}
+
+fn check_command(alloc: Global, row: &str) -> Result<(), Fail> {
+    let (want, command) = parts(row)?;
+    let step = format!(in alloc; "{{\"do\":\"threads\",\"clients\":[[{command}]]}}")?;
+    let want = format!(in alloc; "client {want}\n")?;
+    let told = steps_told(alloc, step.as_str())?;
+    check_told(alloc, told.as_str(), want.as_str(), command)
+}
+
 #[test]
 fn reads_each_command(rt: HostRuntime) -> Result<(), Fail> {
-    let alloc = rt.alloc();
-    for (want, command) in COMMANDS.lines().filter_map(|row| row.split_once(": ")) {
-        let step = format!(in alloc; "{{\"do\":\"threads\",\"clients\":[[{command}]]}}")?;
-        let text = with_steps(alloc, step.as_str())?;
-        let script = read_run_script(alloc, text.as_bytes())?;
-        assert_eq!(rt; script.steps.len(), 1, "at {command}");
-        for step in script.steps.as_slice() {
-            let RunStep::Threads { clients } = step else {
-                continue;
-            };
-            for repeated in clients
-                .as_slice()
-                .iter()
-                .flat_map(|client| client.as_slice())
-            {
-                let line = line(alloc, repeated)?;
-                assert_eq!(rt; line.as_str(), want);
-            }
-        }
+    for row in COMMANDS.lines() {
+        check_command(rt.alloc(), row)?;
     }
     Ok(())
 }
@@ -149,31 +178,11 @@ fn reads_clients_among_plain_steps(rt: HostRuntime) -> Result<(), Fail> {
     let alloc = rt.alloc();
     let steps =
         r#"{"do":"round"},{"do":"threads","clients":[[{"do":"flush","at":0,"times":2},{"do":"tick","at":1}],[{"do":"gossip","at":1,"to":0}]]},{"do":"settle"}"#;
-    let text = with_steps(alloc, steps)?;
-    let script = read_run_script(alloc, text.as_bytes())?;
-    let mut told = String::new(alloc);
-    for step in script.steps.as_slice() {
-        match step {
-            RunStep::Plain(_) => told.push_str("plain\n")?,
-            RunStep::Threads { clients } => {
-                for client in clients.as_slice() {
-                    told.push_str("client")?;
-                    for repeated in client.as_slice() {
-                        let line = line(alloc, repeated)?;
-                        write!(told, " {line}")?;
-                    }
-                    told.push_str("\n")?;
-                }
-            }
-        }
-    }
-    assert_eq!(rt;
-        told.as_str(),
-        "plain\nclient flush 0 times 2 tick 1 times 1\nclient gossip 1 0 times 1\nplain\n"
-    );
+    let want = "plain\nclient flush 0 times 2 tick 1 times 1\nclient gossip 1 0 times 1\nplain\n";
+    let told = steps_told(alloc, steps)?;
+    check_told(alloc, told.as_str(), want, steps)?;
     let told = fault(alloc, read_run_script(alloc, b"[]"))?;
-    assert_eq!(rt; told.as_str(), "step 0 rule 1");
+    check_told(alloc, told.as_str(), "step 0 rule 1", "[]")?;
     let told = fault(alloc, read_run_script(alloc, b"["))?;
-    assert_eq!(rt; told.as_str(), "not json");
-    Ok(())
+    check_told(alloc, told.as_str(), "not json", "[")
 }

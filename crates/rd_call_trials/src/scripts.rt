@@ -173,6 +173,20 @@ false: {"durable":false,"key":"a","kind":"gcounter"}
 true: {"durable":true,"key":"a","kind":"gcounter"}
 true: {"durable":false,"durable":true,"key":"a","kind":"gcounter"}"#;
 
+/// That this is told, and nothing else.
+pub fn check_told(alloc: Global, told: &str, want: &str, at: &str) -> Result<(), Fail> {
+    if told == want {
+        return Ok(());
+    }
+    let said = format!(in alloc; "{told}, and not {want}, at {at}")?;
+    Err(said.into())
+}
+
+/// What is wanted and of what, in a row.
+pub fn parts(row: &str) -> Result<(&str, &str), Fail> {
+    Ok(row.split_once(": ").ok_or("no row")?)
+}
+
 // What is said of a script: its fault, or how many members, keys and steps it has.
 fn told(alloc: Global, text: &str) -> Result<String, Fail> {
     let told = match read_script(alloc, text.as_bytes()) {
@@ -264,61 +278,79 @@ pub fn with_steps(alloc: Global, steps: &str) -> Result<String, Fail> {
     Ok(text)
 }
 
+fn check_script(alloc: Global, row: &str) -> Result<(), Fail> {
+    let (want, text) = parts(row)?;
+    let told = told(alloc, text)?;
+    check_told(alloc, told.as_str(), want, text)
+}
+
+fn check_steps(alloc: Global, row: &str) -> Result<(), Fail> {
+    let (want, steps) = parts(row)?;
+    let text = with_steps(alloc, steps)?;
+    let told = told(alloc, text.as_str())?;
+    check_told(alloc, told.as_str(), want, steps)
+}
+
 #[test]
 fn tells_the_first_rule_that_a_script_breaks(rt: HostRuntime) -> Result<(), Fail> {
-    let alloc = rt.alloc();
-    for (want, text) in SCRIPTS.lines().filter_map(|row| row.split_once(": ")) {
-        let told = told(alloc, text)?;
-        assert_eq!(rt; told.as_str(), want, "at {text}");
+    for row in SCRIPTS.lines() {
+        check_script(rt.alloc(), row)?;
     }
-    for (want, steps) in STEPS.lines().filter_map(|row| row.split_once(": ")) {
-        let text = with_steps(alloc, steps)?;
-        let told = told(alloc, text.as_str())?;
-        assert_eq!(rt; told.as_str(), want, "at {steps}");
+    for row in STEPS.lines() {
+        check_steps(rt.alloc(), row)?;
     }
     Ok(())
+}
+
+fn check_form(alloc: Global, row: &str) -> Result<(), Fail> {
+    let (want, step) = parts(row)?;
+    let text = with_steps(alloc, step)?;
+    let script = read_script(alloc, text.as_bytes())?;
+    match script.steps.as_slice() {
+        [step] => check_told(alloc, line(alloc, step)?.as_str(), want, row),
+        _ => Err("no step".into()),
+    }
 }
 
 #[test]
 fn reads_each_form(rt: HostRuntime) -> Result<(), Fail> {
-    let alloc = rt.alloc();
-    for (want, step) in FORMS.lines().filter_map(|row| row.split_once(": ")) {
-        let text = with_steps(alloc, step)?;
-        let script = read_script(alloc, text.as_bytes())?;
-        assert_eq!(rt; script.steps.len(), 1, "at {step}");
-        for step in script.steps.as_slice() {
-            let line = line(alloc, step)?;
-            assert_eq!(rt; line.as_str(), want);
-        }
+    for row in FORMS.lines() {
+        check_form(rt.alloc(), row)?;
     }
     Ok(())
+}
+
+fn check_key(alloc: Global, row: &str) -> Result<(), Fail> {
+    let (want, key) = parts(row)?;
+    let text = format!(in alloc; "{{\"members\":1,\"keys\":[{key}],\"steps\":[]}}")?;
+    let script = read_script(alloc, text.as_bytes())?;
+    match script.keys.as_slice() {
+        [declared] if declared.durable == (want == "true") => Ok(()),
+        _ => Err("another key".into()),
+    }
 }
 
 #[test]
 fn reads_which_keys_are_durable(rt: HostRuntime) -> Result<(), Fail> {
-    let alloc = rt.alloc();
-    for (want, key) in KEYS.lines().filter_map(|row| row.split_once(": ")) {
-        let text = format!(in alloc; "{{\"members\":1,\"keys\":[{key}],\"steps\":[]}}")?;
-        let script = read_script(alloc, text.as_bytes())?;
-        assert_eq!(rt; script.keys.len(), 1, "at {key}");
-        for declared in script.keys.as_slice() {
-            assert_eq!(rt; declared.durable, want == "true", "at {key}");
-        }
+    for row in KEYS.lines() {
+        check_key(rt.alloc(), row)?;
     }
     Ok(())
 }
 
+/// A script of so many rounds, and what is told of it.
+fn check_rounds(alloc: Global, count: u32, want: &str) -> Result<(), Fail> {
+    let mut steps = String::from_str(alloc, "{\"do\":\"round\"}")?;
+    for _ in 1..count {
+        steps.push_str(",{\"do\":\"round\"}")?;
+    }
+    let text = with_steps(alloc, steps.as_str())?;
+    let told = told(alloc, text.as_str())?;
+    check_told(alloc, told.as_str(), want, "rounds")
+}
+
 #[test]
 fn bounds_the_number_of_steps(rt: HostRuntime) -> Result<(), Fail> {
-    let alloc = rt.alloc();
-    for (count, want) in [(4096, "8 1 4096"), (4097, "step 0 rule 4")] {
-        let mut steps = String::from_str(alloc, "{\"do\":\"round\"}")?;
-        for _ in 1..count {
-            steps.push_str(",{\"do\":\"round\"}")?;
-        }
-        let text = with_steps(alloc, steps.as_str())?;
-        let told = told(alloc, text.as_str())?;
-        assert_eq!(rt; told.as_str(), want);
-    }
-    Ok(())
+    check_rounds(rt.alloc(), 4096, "8 1 4096")?;
+    check_rounds(rt.alloc(), 4097, "step 0 rule 4")
 }
