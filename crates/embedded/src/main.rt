@@ -66,34 +66,37 @@ fn member(
     }
 }
 
-/// Hands the messages of one member to another, and then what this answers back. A service would send and receive them.
-fn hand(from: &mut Member, to: &mut Member, posts: Posts<Data>) -> Result<(), Stopped> {
-    for Post { to: _, message } in posts.into_vec() {
-        let heard = Input::Take {
-            from: from.id(),
-            message,
-        };
-        for Post { to: _, message } in to.step(&heard)?.posts.into_vec() {
-            let answered = Input::Take {
-                from: to.id(),
-                message,
-            };
-            from.step(&answered)?;
+/// Makes a step of a member.
+fn step(member: &mut Member, input: Input<Data>) -> Result<Output<Data>, StepError> {
+    member.step(&input)
+}
+
+/// Hands a message to its receiver, and answers what this sends. A service would send and receive it.
+fn hand(from: Id, post: Post<Data>, to: &mut Member) -> Result<Posts<Data>, Stopped> {
+    let Post { to: _, message } = post;
+    Ok(step(to, Input::Take { from, message })?.posts)
+}
+
+/// Hands the messages of one member to another, and then what this answers back.
+fn exchange(from: &mut Member, to: &mut Member, posts: Posts<Data>) -> Result<(), Stopped> {
+    for post in posts.into_vec() {
+        for answer in hand(from.id(), post, to)?.into_vec() {
+            hand(to.id(), answer, from)?;
         }
     }
     Ok(())
 }
 
+/// What a member answers to a question for the value of a key.
+fn ask(member: &mut Member, key: Text) -> Result<Reply, Stopped> {
+    let level = Level::Local;
+    Ok(step(member, Input::Get { key, level })?.reply)
+}
+
 /// What a member shows of a key.
 fn shown(alloc: Global, member: &mut Member, key: Text) -> Result<String, Stopped> {
     let mut text = String::new(alloc);
-    let level = Level::Local;
-    let Output {
-        reply,
-        posts: _,
-        finished: _,
-    } = member.step(&Input::Get { key, level })?;
-    if let Reply::Value(value) = reply {
+    if let Reply::Value(value) = ask(member, key)? {
         push_shown(alloc, &mut text, &value)?;
     }
     Ok(text)
@@ -116,20 +119,31 @@ fn keys(alloc: Global) -> Result<Items<KeyDecl<Data>>, Stopped> {
     Ok(keys)
 }
 
-/// A member puts something into its cart.
-fn add(alloc: Global, member: &mut Member, element: &str) -> Result<(), Stopped> {
+/// Something is put into the cart.
+fn addition(alloc: Global, element: &str) -> Result<Input<Data>, Stopped> {
     let key = cart(alloc)?;
     let op = Op::Add(Text::new(alloc, element)?);
     let level = Level::Local;
-    member.step(&Input::Update { key, op, level })?;
+    Ok(Input::Update { key, op, level })
+}
+
+/// A member puts something into its cart.
+fn add(alloc: Global, member: &mut Member, element: &str) -> Result<(), Stopped> {
+    let addition = addition(alloc, element)?;
+    step(member, addition)?;
     Ok(())
+}
+
+/// What a member sends of its own accord.
+fn flush(member: &mut Member) -> Result<Posts<Data>, Stopped> {
+    Ok(step(member, Input::Flush)?.posts)
 }
 
 /// One of the two members adds milk and sends what it has, and the other shows its cart.
 fn shop(alloc: Global, first: &mut Member, second: &mut Member) -> Result<String, Stopped> {
     add(alloc, first, "milk")?;
-    let posts = first.step(&Input::Flush)?.posts;
-    hand(first, second, posts)?;
+    let posts = flush(first)?;
+    exchange(first, second, posts)?;
     shown(alloc, second, cart(alloc)?)
 }
 

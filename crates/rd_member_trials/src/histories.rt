@@ -1,8 +1,10 @@
 //! Members that update, send, take, leave, install and prune at random.
 
 use crate::company::Company;
-use rd_kinds::Kind;
+use rd_kinds::{Kind, Op};
+use rd_lattice::SpelledData;
 use rd_trial_parts::{Random, operation};
+use rd_value::Data;
 use std::alloc::Global;
 use std::test::Fail;
 
@@ -14,7 +16,12 @@ const MEMBERS: u8 = 4;
 const STEPS: u64 = 200;
 
 /// A member makes a step at random, or a message comes to one.
-fn step(alloc: Global, company: &mut Company, kind: Kind, random: &mut Random) -> Result<(), Fail> {
+fn step<T: SpelledData<Kind = Kind, Op = Op>>(
+    alloc: Global,
+    company: &mut Company<T>,
+    kind: Kind,
+    random: &mut Random,
+) -> Result<(), Fail> {
     let count = company.len() as u64;
     if count == 0 {
         return Err("no member".into());
@@ -33,19 +40,25 @@ fn step(alloc: Global, company: &mut Company, kind: Kind, random: &mut Random) -
 }
 
 /// One of the messages on their way comes to its receiver, mostly one of the first, and sometimes not for the last time.
-fn deliver(company: &mut Company, random: &mut Random) -> Result<(), Fail> {
+fn deliver<T: SpelledData<Kind = Kind, Op = Op>>(
+    company: &mut Company<T>,
+    random: &mut Random,
+) -> Result<(), Fail> {
     let messages = company.on_their_way() as u64;
     if messages == 0 {
         return Ok(());
     }
     let early = random.below(messages) + 1;
     let which = random.below(early) as usize;
-    company.deliver(which, random.below(8) == 0)?;
-    Ok(())
+    company.deliver(which, random.below(8) == 0)
 }
 
 /// A member tells another its digests, and the last messages come at once: these, what is answered, and the answer to that.
-fn exchange(company: &mut Company, at: usize, to: usize) -> Result<(), Fail> {
+fn exchange<T: SpelledData<Kind = Kind, Op = Op>>(
+    company: &mut Company<T>,
+    at: usize,
+    to: usize,
+) -> Result<(), Fail> {
     company.gossip(at, to)?;
     for _ in 0_u8..3 {
         if let Some(which) = company.on_their_way().checked_sub(1) {
@@ -56,7 +69,7 @@ fn exchange(company: &mut Company, at: usize, to: usize) -> Result<(), Fail> {
 }
 
 /// Each member knows what it has taken, and shows what that means.
-fn check(company: &Company) -> Result<(), Fail> {
+fn check<T: SpelledData<Kind = Kind, Op = Op>>(company: &Company<T>) -> Result<(), Fail> {
     for at in 0..company.len() {
         if !company.shows_what_is_meant(at)? {
             return Err("another value is meant".into());
@@ -66,8 +79,12 @@ fn check(company: &Company) -> Result<(), Fail> {
 }
 
 /// Plays the steps of one history, and answers how many prunes were performed.
-fn play(alloc: Global, kind: Kind, random: &mut Random) -> Result<u64, Fail> {
-    let mut company = Company::new(alloc, kind, MEMBERS)?;
+fn play<T: SpelledData<Kind = Kind, Op = Op>>(
+    alloc: Global,
+    kind: Kind,
+    random: &mut Random,
+) -> Result<u64, Fail> {
+    let mut company: Company<T> = Company::new(alloc, kind, MEMBERS)?;
     for number in 0..STEPS {
         step(alloc, &mut company, kind, random)?;
         if number % 8 == 0 {
@@ -82,7 +99,7 @@ fn play(alloc: Global, kind: Kind, random: &mut Random) -> Result<u64, Fail> {
 fn play_all(alloc: Global, kind: Kind, random: &mut Random) -> Result<(), Fail> {
     let mut prunes: u64 = 0;
     for _ in 0..HISTORIES {
-        prunes = prunes.saturating_add(play(alloc, kind, random)?);
+        prunes = prunes.saturating_add(play::<Data>(alloc, kind, random)?);
     }
     if prunes < HISTORIES / 2 {
         return Err("few prunes".into());

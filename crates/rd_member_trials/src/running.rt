@@ -1,12 +1,12 @@
 use rd_bytes::Text;
 use rd_envelope::Group;
 use rd_keeper::MemoryKeeper;
-use rd_kinds::Kind;
+use rd_kinds::{Kind, Op};
+use rd_lattice::SpelledData;
 use rd_meaning::Action;
-use rd_messages::Message;
-use rd_node::{Input, KeyDecl, Node, Output};
+use rd_messages::{Message, Post, Posts};
+use rd_node::{Input, KeyDecl, Node, Output, Reply};
 use rd_trial_parts::Records;
-use rd_value::Data;
 use rd_vectors::{Id, Order, VersionVector};
 use rd_views::View;
 use std::alloc::Global;
@@ -18,40 +18,46 @@ pub(crate) fn key(alloc: Global) -> Result<Text, Fail> {
 }
 
 /// A member of a view with one durable key, over a keeper that fails at the calls named.
-pub(crate) fn member(
+pub(crate) fn member<T: SpelledData<Kind = Kind, Op = Op>>(
     alloc: Global,
     kind: Kind,
     id: Id,
     view: View,
     failing: Vec<u64>,
-) -> Result<Node<Data, MemoryKeeper>, Fail> {
+) -> Result<Node<T, MemoryKeeper>, Fail> {
     if !view.contains(id) {
         return Err("no member".into());
     }
-    let key = key(alloc)?;
-    let keys = vec![in alloc;
-        KeyDecl {
-            key,
-            kind,
-            durable: true
-        },
-    ]?;
+    let keys: [KeyDecl<T>; 1] = [KeyDecl {
+        key: key(alloc)?,
+        kind,
+        durable: true,
+    }];
     match Node::new(alloc, id, view, &keys, MemoryKeeper::new(alloc, failing)) {
         Ok(node) => Ok(node),
         Err(_) => Err("memory".into()),
     }
 }
 
-/// A running member, and beside it how many records of each identity it has taken.
+/// A message on its way, and how many records of each identity its sender had taken.
 #[derive(Drop)]
-pub(crate) struct Running {
-    node: Node<Data, MemoryKeeper>,
+pub(crate) struct Sent<T: SpelledData<Kind = Kind, Op = Op>> {
+    from: Id,
+    pub(crate) to: Id,
+    message: Message<T>,
     taken: VersionVector,
 }
 
-impl Running {
+/// A running member, and beside it how many records of each identity it has taken.
+#[derive(Drop)]
+pub(crate) struct Running<T: SpelledData<Kind = Kind, Op = Op>> {
+    node: Node<T, MemoryKeeper>,
+    taken: VersionVector,
+}
+
+impl<T: SpelledData<Kind = Kind, Op = Op>> Running<T> {
     /// A member of a view, without a record.
-    pub(crate) fn new(alloc: Global, kind: Kind, id: Id, view: View) -> Result<Running, Fail> {
+    pub(crate) fn new(alloc: Global, kind: Kind, id: Id, view: View) -> Result<Running<T>, Fail> {
         Ok(Running {
             node: member(alloc, kind, id, view, Vec::new(alloc))?,
             taken: VersionVector::new(alloc),
@@ -63,14 +69,31 @@ impl Running {
         self.node.id()
     }
 
-    /// How many records of each identity it has taken.
-    pub(crate) fn taken(&self) -> &VersionVector {
-        &self.taken
+    /// Makes a step: what it answers, and what it sends.
+    pub(crate) fn step(&mut self, input: &Input<T>) -> Result<(Reply, Posts<T>), Fail> {
+        let Output { reply, posts, .. } = self.node.step(input)?;
+        Ok((reply, posts))
     }
 
-    /// Makes a step.
-    pub(crate) fn step(&mut self, input: &Input<Data>) -> Result<Output<Data>, Fail> {
-        Ok(self.node.step(input)?)
+    /// Takes a message: what it sends. What the message brought is counted, if it was taken.
+    pub(crate) fn take(&mut self, sent: &Sent<T>) -> Result<Posts<T>, Fail> {
+        let Output { reply, posts, .. } = self.node.take(sent.from, &sent.message)?;
+        if matches!(reply, Reply::Taken) {
+            self.count(&sent.message, &sent.taken)?;
+        }
+        Ok(posts)
+    }
+
+    /// A message that it sends, on its way.
+    pub(crate) fn sent(&self, alloc: Global, post: Post<T>) -> Result<Sent<T>, Fail> {
+        let taken = self.taken.copy(alloc)?;
+        let Post { to, message } = post;
+        Ok(Sent {
+            from: self.node.id(),
+            to,
+            message,
+            taken,
+        })
     }
 
     /// Adds a record that it made to those of all.
@@ -79,11 +102,7 @@ impl Running {
     }
 
     /// Counts what a message brought, which it took. Entries bring what their sender had taken.
-    pub(crate) fn count(
-        &mut self,
-        message: &Message<Data>,
-        sender: &VersionVector,
-    ) -> Result<(), Fail> {
+    fn count(&mut self, message: &Message<T>, sender: &VersionVector) -> Result<(), Fail> {
         for keyed in message.groups() {
             self.count_group(&keyed.item)?;
         }
@@ -93,9 +112,26 @@ impl Running {
         Ok(())
     }
 
-    fn count_group(&mut self, group: &Group<Data>) -> Result<(), Fail> {
+    fn count_group(&mut self, group: &Group<T>) -> Result<(), Fail> {
         self.taken.raise(group.origin, group.upto)?;
         Ok(())
+    }
+
+    /// Whether it knows the records that it has taken.
+    fn knows_what_it_took(&self, alloc: Global, key: &Text) -> Result<bool, Fail> {
+        let known = self.node.entry(key).ok_or("key")?.known(alloc)?;
+        Ok(matches!(known.compare(&self.taken), Order::Same))
+    }
+
+    /// Whether it shows what the records that it has taken mean.
+    fn shows_what_it_took(
+        &self,
+        alloc: Global,
+        key: &Text,
+        records: &Records,
+    ) -> Result<bool, Fail> {
+        let shown = self.node.entry(key).ok_or("key")?.show(alloc)?;
+        Ok(records.mean(&self.taken, &shown)?)
     }
 
     /// Whether it knows the records that it has taken, and shows what they mean.
@@ -105,9 +141,6 @@ impl Running {
         records: &Records,
     ) -> Result<bool, Fail> {
         let key = key(alloc)?;
-        let entry = self.node.entry(&key).ok_or("key")?;
-        let known = entry.known(alloc)?;
-        let shown = entry.show(alloc)?;
-        Ok(matches!(known.compare(&self.taken), Order::Same) && records.mean(&self.taken, &shown)?)
+        Ok(self.knows_what_it_took(alloc, &key)? && self.shows_what_it_took(alloc, &key, records)?)
     }
 }

@@ -1,10 +1,25 @@
 use crate::member::Member;
+use rd_envelope::{Envelope, Group};
 use rd_kinds::{Kind, Op};
 use rd_lattice::Replica;
 use rd_trial_parts::{Random, Records};
-use rd_vectors::Id;
+use rd_vectors::{Id, VersionVector};
 use std::alloc::Global;
 use std::test::Fail;
+
+/// Members without a record.
+fn members<T: Replica<Kind = Kind, Op = Op>>(
+    alloc: Global,
+    kind: Kind,
+    count: u8,
+) -> Result<Vec<Member<T>>, Fail> {
+    let mut members = Vec::new(alloc);
+    for number in 0..count {
+        let id = Id::new(number).ok_or("identity")?;
+        members.push(Member::new(alloc, kind, id)?)?;
+    }
+    Ok(members)
+}
 
 /// Members of one key, and all records that they made.
 #[derive(Drop)]
@@ -19,17 +34,9 @@ pub(crate) struct Cluster<T: Replica<Kind = Kind, Op = Op>> {
 impl<T: Replica<Kind = Kind, Op = Op>> Cluster<T> {
     /// So many members without a record.
     pub(crate) fn new(alloc: Global, kind: Kind, count: u8) -> Result<Cluster<T>, Fail> {
-        let mut members = Vec::new(alloc);
-        for number in 0..count {
-            let id = Id::new(number).ok_or("identity")?;
-            let member = Member::new(alloc, kind, id)?;
-            if members.push(member).is_err() {
-                return Err("memory".into());
-            }
-        }
         Ok(Cluster {
             alloc,
-            members,
+            members: members(alloc, kind, count)?,
             records: Records::new(alloc, kind),
             groups: 0,
             prunes: 0,
@@ -57,13 +64,25 @@ impl<T: Replica<Kind = Kind, Op = Op>> Cluster<T> {
         member.update(self.alloc, op, &mut self.records)
     }
 
+    /// What a member has: its entry, and how many records of each identity it has taken.
+    fn had(&self, at: usize) -> Result<(Envelope<T>, VersionVector), Fail> {
+        let member = self.members.get(at).ok_or("member")?;
+        let entry = member.entry.copy(self.alloc)?;
+        Ok((entry, member.taken.copy(self.alloc)?))
+    }
+
     /// A member takes what another has.
     pub(crate) fn merge(&mut self, at: usize, from: usize) -> Result<(), Fail> {
-        let other = self.members.get(from).ok_or("member")?;
-        let entry = other.entry.copy(self.alloc)?;
-        let taken = other.taken.copy(self.alloc)?;
+        let (entry, taken) = self.had(from)?;
         let member = self.members.get_mut(at).ok_or("member")?;
         member.merge(&entry, &taken)
+    }
+
+    /// The group of a member's records after a number that another has of them, if there is such a group.
+    fn group(&self, at: usize, from: usize, random: &mut Random) -> Result<Option<Group<T>>, Fail> {
+        let other = self.members.get(from).ok_or("member")?;
+        let had = self.members.get(at).ok_or("member")?.taken.at(other.id);
+        other.group(self.alloc, random.below(had.min(other.made()) + 1))
     }
 
     /// A member takes the group of another's records after a number that it has of them, if there is such a group and it is
@@ -74,10 +93,7 @@ impl<T: Replica<Kind = Kind, Op = Op>> Cluster<T> {
         from: usize,
         random: &mut Random,
     ) -> Result<(), Fail> {
-        let other = self.members.get(from).ok_or("member")?;
-        let had = self.members.get(at).ok_or("member")?.taken.at(other.id);
-        let after = random.below(had.min(other.made()) + 1);
-        let Some(group) = other.group(self.alloc, after)? else {
+        let Some(group) = self.group(at, from, random)? else {
             return Ok(());
         };
         let member = self.members.get_mut(at).ok_or("member")?;
@@ -87,20 +103,31 @@ impl<T: Replica<Kind = Kind, Op = Op>> Cluster<T> {
         Ok(())
     }
 
-    /// A member leaves: the others take its last entry, and one of them prunes it, if there is anything to prune.
-    pub(crate) fn prune(&mut self, at: usize, owner: usize, view: u32) -> Result<(), Fail> {
+    /// The members take what one who leaves has. Who they are.
+    fn take_last(&mut self, removed: &Member<T>) -> Result<Vec<Id>, Fail> {
+        let mut ids = Vec::new(self.alloc);
+        for member in self.members.iter_mut() {
+            member.merge(&removed.entry, &removed.taken)?;
+            ids.push(member.id)?;
+        }
+        Ok(ids)
+    }
+
+    /// A member leaves, and the others take its last entry. Who it was, and who they are.
+    fn leave(&mut self, at: usize) -> Result<(Id, Vec<Id>), Fail> {
         if at >= self.members.len() {
             return Err("member".into());
         }
-        let alloc = self.alloc;
         let removed = self.members.remove(at);
-        let mut ids = Vec::new(alloc);
-        for member in self.members.iter_mut() {
-            member.merge(&removed.entry, &removed.taken)?;
-            ids.push(member.id).map_err(|_| "memory")?;
-        }
+        let ids = self.take_last(&removed)?;
+        Ok((removed.id, ids))
+    }
+
+    /// A member leaves: the others take its last entry, and one of them prunes it, if there is anything to prune.
+    pub(crate) fn prune(&mut self, at: usize, owner: usize, view: u32) -> Result<(), Fail> {
+        let (removed, ids) = self.leave(at)?;
         let owner = self.members.get_mut(owner).ok_or("member")?;
-        if owner.prune(alloc, removed.id, view, &ids, &mut self.records)? {
+        if owner.prune(self.alloc, removed, view, &ids, &mut self.records)? {
             self.prunes = self.prunes.saturating_add(1);
         }
         Ok(())

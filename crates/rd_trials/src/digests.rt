@@ -3,7 +3,7 @@ ghost use Rattle.std.specs.Prelude.{◌≡◌, ◌+◌, true, false, OnOk};
 use rd_envelope::Envelope;
 use rd_envelope_codec::{Digested, Steps, digest};
 use rd_kinds::Kind;
-use rd_lattice::Replica;
+use rd_lattice::{Replica, SpelledData};
 use rd_value::Data;
 use rd_vectors::Memory;
 use std::alloc::Global;
@@ -13,8 +13,8 @@ use std::sync::ledger::{Blank, Ledger};
 use std::test::Fail;
 
 /// Three questions, for which one digest is made.
-fn three_questions<L: Ledger>(
-    digested: &mut Digested<Data>,
+fn three_questions<T: SpelledData, L: Ledger>(
+    digested: &mut Digested<T>,
     steps: &mut Steps<L>,
 ) -> Result<[[u8; 20]; 3], Memory>
     requires { digested.old.is_kept ≡ false }
@@ -28,9 +28,9 @@ fn three_questions<L: Ledger>(
 }
 
 /// The digests at three questions, and after a change the one at a fourth. Two are made.
-fn four_questions<L: Ledger>(
-    digested: &mut Digested<Data>,
-    other: Envelope<Data>,
+fn four_questions<T: SpelledData, L: Ledger>(
+    digested: &mut Digested<T>,
+    other: Envelope<T>,
     steps: &mut Steps<L>,
 ) -> Result<([[u8; 20]; 3], [u8; 20]), Memory>
     requires { digested.old.is_kept ≡ false }
@@ -43,11 +43,11 @@ fn four_questions<L: Ledger>(
 }
 
 /// The same, with a ledger of its own.
-fn asked<L: Ledger>(
+fn asked<T: SpelledData, L: Ledger>(
     alloc: Global,
     blank: Blank,
-    envelope: Envelope<Data>,
-    other: Envelope<Data>,
+    envelope: Envelope<T>,
+    other: Envelope<T>,
 ) -> Result<([[u8; 20]; 3], [u8; 20]), Memory>
     requires name { blank.name ≡ L.name }
     requires parts { blank.parts ≡ L.parts }
@@ -58,15 +58,45 @@ fn asked<L: Ledger>(
     four_questions(&mut digested, other, &mut steps)
 }
 
+/// The digests of two entries.
+fn digests<T: SpelledData>(
+    alloc: Global,
+    envelope: &Envelope<T>,
+    other: &Envelope<T>,
+) -> Result<([u8; 20], [u8; 20]), Memory> {
+    let one = digest(alloc, envelope)?;
+    Ok((one, digest(alloc, other)?))
+}
+
+/// Whether the answer to three questions was the first of two digests, and that to a fourth the second, which is another.
+fn are_told(answers: ([[u8; 20]; 3], [u8; 20]), one: [u8; 20], two: [u8; 20]) -> bool {
+    let ([first, second, third], fourth) = answers;
+    first == one && second == one && third == one && fourth == two && one != two
+}
+
+/// Whether one kept digest answers three questions, and another entry's digest a fourth.
+fn is_kept<T: SpelledData>(
+    alloc: Global,
+    envelope: Envelope<T>,
+    other: Envelope<T>,
+) -> Result<bool, Memory> {
+    let (one, two) = digests(alloc, &envelope, &other)?;
+    let answers = asked::<T, Brand>(alloc, Blank::new(1), envelope, other)?;
+    Ok(are_told(answers, one, two))
+}
+
+/// An entry without a record.
+fn entry(alloc: Global, kind: Kind) -> Result<Envelope<Data>, Fail> {
+    Ok(Envelope::new(alloc, Data::empty(alloc, &kind)?))
+}
+
 /// One kept digest answers three questions, and another entry's digest a fourth.
 #[test]
 fn a_kept_digest_is_told(rt: HostRuntime) -> Result<(), Fail> {
     let alloc = rt.alloc();
-    let envelope: Envelope<Data> = Envelope::new(alloc, Data::empty(alloc, &Kind::GSet)?);
-    let other: Envelope<Data> = Envelope::new(alloc, Data::empty(alloc, &Kind::OrSet)?);
-    let (set, or_set) = (digest(alloc, &envelope)?, digest(alloc, &other)?);
-    let ([first, second, third], fourth) = asked::<Brand>(alloc, Blank::new(1), envelope, other)?;
-    if first == set && second == set && third == set && fourth == or_set && set != or_set {
+    let set = entry(alloc, Kind::GSet)?;
+    let or_set = entry(alloc, Kind::OrSet)?;
+    if is_kept(alloc, set, or_set)? {
         return Ok(());
     }
     Err("another digest".into())

@@ -1,5 +1,6 @@
 use rd_envelope::Envelope;
 use rd_envelope_codec::{CodecError, digest, read, spell};
+use rd_lattice::SpelledData;
 use rd_trial_parts::{
     DOTS, MARKED, PRUNED, SET, SHARE, SIGNED, SWITCH, TEXTS, UNWRITTEN, WRITTEN, bytes_of,
 };
@@ -68,19 +69,28 @@ const PRUNED_NAMED: [&str; 2] = [
     "ff010502020100000000000000000100000000000000010300000000010201020100000000000000000101",
 ];
 
+/// Whether an entry is spelled so.
+fn is_spelled<T: SpelledData>(
+    alloc: Global,
+    envelope: &Envelope<T>,
+    bytes: &[u8],
+) -> Result<bool, Fail> {
+    Ok(spell(alloc, envelope)?.as_slice() == bytes)
+}
+
 /// Where the bytes are no envelope, or that they are the spelling of what is read.
-fn place(alloc: Global, bytes: &[u8]) -> Result<usize, Fail> {
-    match read::<Data>(alloc, bytes) {
-        Ok(envelope) => {
-            let spelled = spell(alloc, &envelope)?;
-            if spelled.as_slice() != bytes {
-                return Err("what is read is spelled otherwise".into());
-            }
-            Ok(READS)
-        }
+fn place_of<T: SpelledData>(alloc: Global, bytes: &[u8]) -> Result<usize, Fail> {
+    match read::<T>(alloc, bytes) {
+        Ok(envelope) if is_spelled(alloc, &envelope, bytes)? => Ok(READS),
+        Ok(_) => Err("what is read is spelled otherwise".into()),
         Err(CodecError::NotAnEnvelope(place)) => Ok(place),
         Err(CodecError::Memory) => Err("memory".into()),
     }
+}
+
+/// The same, where the data are of any kind.
+fn place(alloc: Global, bytes: &[u8]) -> Result<usize, Fail> {
+    place_of::<Data>(alloc, bytes)
 }
 
 /// The places of the faults, where the bytes are cut before each byte.
@@ -108,16 +118,14 @@ fn check_raised(alloc: Global, bytes: &[u8], places: &[u8]) -> Result<(), Fail> 
 }
 
 /// What is read is spelled so, and has this digest.
-fn check_spelling(alloc: Global, bytes: &[u8], sha1: &[u8]) -> Result<(), Fail> {
-    let envelope: Envelope<Data> = match read(alloc, bytes) {
-        Ok(envelope) => envelope,
-        Err(_) => return Err("not read".into()),
+fn check_spelling<T: SpelledData>(alloc: Global, bytes: &[u8], sha1: &[u8]) -> Result<(), Fail> {
+    let Ok(envelope) = read::<T>(alloc, bytes) else {
+        return Err("not read".into());
     };
-    if spell(alloc, &envelope)?.as_slice() != bytes {
+    if !is_spelled(alloc, &envelope, bytes)? {
         return Err("spelled otherwise".into());
     }
-    let found = digest(alloc, &envelope)?;
-    if found.as_slice() != sha1 {
+    if digest(alloc, &envelope)?.as_slice() != sha1 {
         return Err("another digest".into());
     }
     Ok(())
@@ -126,7 +134,7 @@ fn check_spelling(alloc: Global, bytes: &[u8], sha1: &[u8]) -> Result<(), Fail> 
 fn check(alloc: Global, row: [&str; 4]) -> Result<(), Fail> {
     let [bytes, sha1, cut, raised] = row;
     let bytes = bytes_of(alloc, bytes)?;
-    check_spelling(alloc, &bytes, &bytes_of(alloc, sha1)?)?;
+    check_spelling::<Data>(alloc, &bytes, &bytes_of(alloc, sha1)?)?;
     check_cuts(alloc, &bytes, &bytes_of(alloc, cut)?)?;
     check_raised(alloc, &bytes, &bytes_of(alloc, raised)?)
 }
