@@ -1,7 +1,10 @@
 //! What is read of the clients of a script, and which rule is told first.
 
-use crate::scripts::{check_told, level_tail, link, operation_line, parts, with_steps};
-use rd_script::{Command, Repeated, RunScript, RunStep, ScriptError, read_run_script, read_script};
+use crate::scripts::{
+    check_told, fault_told, get_line, parts, update_line, with_steps, word_at, word_at_with,
+    word_between,
+};
+use rd_script::{Client, Command, Repeated, RunStep, ScriptError, read_run_script, read_script};
 use std::alloc::Global;
 use std::test::Fail;
 
@@ -59,38 +62,34 @@ gossip 1 2 times 5: {"at":1,"do":"gossip","times":5,"to":2}
 tick 1 times 6: {"at":1,"do":"tick","times":6}
 install 1 4294967295 times 7: {"at":1,"do":"install","times":7,"view":4294967295}"#;
 
-fn fault(alloc: Global, refused: Result<RunScript, ScriptError>) -> Result<String, Fail> {
-    let told = match refused {
-        Ok(_) => String::from_str(alloc, "read")?,
-        Err(ScriptError::NotAScript { step, rule }) => format!(in alloc;
-            "step {step} rule {rule}"
-        )?,
-        Err(ScriptError::NotJson) => String::from_str(alloc, "not json")?,
-        Err(ScriptError::Memory) => String::from_str(alloc, "memory")?,
-    };
-    Ok(told)
+/// What is said of a script that was read, or of its fault.
+fn outcome_told<T: Drop>(alloc: Global, read: Result<T, ScriptError>) -> Result<String, Fail> {
+    match read {
+        Ok(_) => Ok(String::from_str(alloc, "read")?),
+        Err(fault) => fault_told(alloc, fault),
+    }
+}
+
+/// That this is said of a script that was read, or of its fault.
+fn check_outcome<T: Drop>(
+    alloc: Global,
+    read: Result<T, ScriptError>,
+    want: &str,
+    at: &str,
+) -> Result<(), Fail> {
+    let told = outcome_told(alloc, read)?;
+    check_told(alloc, told.as_str(), want, at)
 }
 
 fn command_line(alloc: Global, command: &Command) -> Result<String, Fail> {
-    let line = match command {
-        Command::Update { at, key, op, level } => {
-            let op = operation_line(alloc, op)?;
-            let level = level_tail(alloc, *level)?;
-            format!(in alloc; "update {} {} {op}{level}", at.number(), key.as_str())?
-        }
-        Command::Get { at, key, level } => {
-            let level = level_tail(alloc, *level)?;
-            format!(in alloc; "get {} {}{level}", at.number(), key.as_str())?
-        }
-        Command::Flush { at } => format!(in alloc; "flush {}", at.number())?,
-        Command::Gossip { at, to } => {
-            let link = link(alloc, *at, *to)?;
-            format!(in alloc; "gossip {link}")?
-        }
-        Command::Tick { at } => format!(in alloc; "tick {}", at.number())?,
-        Command::Install { at, view } => format!(in alloc; "install {} {view}", at.number())?,
-    };
-    Ok(line)
+    match command {
+        Command::Update { at, key, op, level } => update_line(alloc, *at, key, op, *level),
+        Command::Get { at, key, level } => get_line(alloc, *at, key, *level),
+        Command::Flush { at } => word_at(alloc, "flush", *at),
+        Command::Gossip { at, to } => word_between(alloc, "gossip", *at, *to),
+        Command::Tick { at } => word_at(alloc, "tick", *at),
+        Command::Install { at, view } => word_at_with(alloc, "install", *at, u64::from(*view)),
+    }
 }
 
 fn line(alloc: Global, repeated: &Repeated) -> Result<String, Fail> {
@@ -99,26 +98,30 @@ fn line(alloc: Global, repeated: &Repeated) -> Result<String, Fail> {
     Ok(line)
 }
 
-/// Without clients a script is refused for the same rule.
-fn plain_fault(alloc: Global, text: &str) -> Result<String, Fail> {
-    let told = match read_script(alloc, text.as_bytes()) {
-        Err(ScriptError::NotAScript { step, rule }) => format!(in alloc;
-            "step {step} rule {rule}"
-        )?,
-        _ => String::new(alloc),
-    };
-    Ok(told)
+/// A script whose second step is this one.
+fn with_second(alloc: Global, step: &str) -> Result<String, Fail> {
+    let steps = format!(in alloc; "{{\"do\":\"round\"}},{step},{{}}")?;
+    with_steps(alloc, steps.as_str())
 }
 
+/// That a script is refused for what a rule says of its second step.
+fn check_rule<T: Drop>(
+    alloc: Global,
+    read: Result<T, ScriptError>,
+    rule: &str,
+    step: &str,
+) -> Result<(), Fail> {
+    let want = format!(in alloc; "step 2 rule {rule}")?;
+    check_outcome(alloc, read, want.as_str(), step)
+}
+
+/// That a script with this step is refused, and for the same rule where it may have no clients.
 fn check_refused(alloc: Global, row: &str) -> Result<(), Fail> {
     let (rule, step) = parts(row)?;
-    let steps = format!(in alloc; "{{\"do\":\"round\"}},{step},{{}}")?;
-    let text = with_steps(alloc, steps.as_str())?;
-    let want = format!(in alloc; "step 2 rule {rule}")?;
-    let told = fault(alloc, read_run_script(alloc, text.as_bytes()))?;
-    check_told(alloc, told.as_str(), want.as_str(), step)?;
-    let plainly = plain_fault(alloc, text.as_str())?;
-    check_told(alloc, plainly.as_str(), want.as_str(), step)
+    let text = with_second(alloc, step)?;
+    let bytes = text.as_bytes();
+    check_rule(alloc, read_run_script(alloc, bytes), rule, step)?;
+    check_rule(alloc, read_script(alloc, bytes), rule, step)
 }
 
 #[test]
@@ -129,6 +132,17 @@ fn refuses_clients_that_break_a_rule(rt: HostRuntime) -> Result<(), Fail> {
     Ok(())
 }
 
+/// Adds a line of what a client is to do.
+fn push_client(alloc: Global, told: &mut String, client: &Client) -> Result<(), Fail> {
+    told.push_str("client")?;
+    for repeated in client.as_slice() {
+        let line = line(alloc, repeated)?;
+        write!(told, " {line}")?;
+    }
+    told.push_str("\n")?;
+    Ok(())
+}
+
 /// Adds what the clients of a step are to do, a line a client; of another step that it is plain.
 fn push_step(alloc: Global, told: &mut String, step: &RunStep) -> Result<(), Fail> {
     let RunStep::Threads { clients } = step else {
@@ -136,33 +150,33 @@ fn push_step(alloc: Global, told: &mut String, step: &RunStep) -> Result<(), Fai
         return Ok(());
     };
     for client in clients.as_slice() {
-        told.push_str("client")?;
-        for repeated in client.as_slice() {
-            let line = line(alloc, repeated)?;
-            write!(told, " {line}")?;
-        }
-        told.push_str("\n")?;
+        push_client(alloc, told, client)?;
     }
     Ok(())
 }
 
-/// The steps of a script.
-fn steps_told(alloc: Global, steps: &str) -> Result<String, Fail> {
-    let text = with_steps(alloc, steps)?;
-    let script = read_run_script(alloc, text.as_bytes())?;
+/// What is said of these steps.
+fn all_told(alloc: Global, steps: &[RunStep]) -> Result<String, Fail> {
     let mut told = String::new(alloc);
-    for step in script.steps.as_slice() {
+    for step in steps {
         push_step(alloc, &mut told, step)?;
     }
     Ok(told)
+}
+
+/// That this is said of the steps of a script.
+fn check_read(alloc: Global, steps: &str, want: &str) -> Result<(), Fail> {
+    let text = with_steps(alloc, steps)?;
+    let script = read_run_script(alloc, text.as_bytes())?;
+    let told = all_told(alloc, script.steps.as_slice())?;
+    check_told(alloc, told.as_str(), want, steps)
 }
 
 fn check_command(alloc: Global, row: &str) -> Result<(), Fail> {
     let (want, command) = parts(row)?;
     let step = format!(in alloc; "{{\"do\":\"threads\",\"clients\":[[{command}]]}}")?;
     let want = format!(in alloc; "client {want}\n")?;
-    let told = steps_told(alloc, step.as_str())?;
-    check_told(alloc, told.as_str(), want.as_str(), command)
+    check_read(alloc, step.as_str(), want.as_str())
 }
 
 #[test]
@@ -179,10 +193,7 @@ fn reads_clients_among_plain_steps(rt: HostRuntime) -> Result<(), Fail> {
     let steps =
         r#"{"do":"round"},{"do":"threads","clients":[[{"do":"flush","at":0,"times":2},{"do":"tick","at":1}],[{"do":"gossip","at":1,"to":0}]]},{"do":"settle"}"#;
     let want = "plain\nclient flush 0 times 2 tick 1 times 1\nclient gossip 1 0 times 1\nplain\n";
-    let told = steps_told(alloc, steps)?;
-    check_told(alloc, told.as_str(), want, steps)?;
-    let told = fault(alloc, read_run_script(alloc, b"[]"))?;
-    check_told(alloc, told.as_str(), "step 0 rule 1", "[]")?;
-    let told = fault(alloc, read_run_script(alloc, b"["))?;
-    check_told(alloc, told.as_str(), "not json", "[")
+    check_read(alloc, steps, want)?;
+    check_outcome(alloc, read_run_script(alloc, b"[]"), "step 0 rule 1", "[]")?;
+    check_outcome(alloc, read_run_script(alloc, b"["), "not json", "[")
 }

@@ -6,6 +6,7 @@ use rd_counters::{Amount, GCounter, Share};
 use rd_deltalog::{DeltaLog, Grouped};
 use rd_vectors::{Id, Memory, Seq, VersionVector};
 use std::alloc::Global;
+use std::process::Abort;
 use std::test::Fail;
 
 /// What the maker of the records had before one of them: its earlier ones, and of another two more each time.
@@ -70,52 +71,69 @@ fn spelled(grouped: &Grouped<GCounter>, origin: Id, other: Id) -> (&'static str,
     }
 }
 
+/// Who makes the records, and of whom it heard.
+fn makers() -> Option<(Id, Id)> {
+    Some((Id::new(3)?, Id::new(0)?))
+}
+
+/// What a log answers after a number.
+fn answer(
+    alloc: Global,
+    log: &DeltaLog<GCounter>,
+    after: Seq,
+) -> Result<(&'static str, [u64; 5]), Fail> {
+    let (origin, other) = makers().ok_or("identities")?;
+    let grouped = log.group(alloc, after)?;
+    Ok(spelled(&grouped, origin, other))
+}
+
+/// A log answers so after each of these numbers.
+fn check_answers(
+    rt: &impl Abort,
+    alloc: Global,
+    log: &DeltaLog<GCounter>,
+    rows: &[(Seq, &str, [u64; 5])],
+) -> Result<(), Fail> {
+    for (after, wanted, numbers) in rows {
+        let answer = answer(alloc, log, *after)?;
+        assert_eq!(rt; answer, (*wanted, *numbers), "after {after}");
+    }
+    Ok(())
+}
+
+/// A log of so many records, of which one number is a prune, answers so after each of these numbers.
+fn check_groups(
+    rt: &impl Abort,
+    alloc: Global,
+    last: Seq,
+    prune: Seq,
+    rows: &[(Seq, &str, [u64; 5])],
+) -> Result<(), Fail>
+    requires { last ≤ 1000 }
+{
+    let (origin, other) = makers().ok_or("identities")?;
+    let log = filled(alloc, origin, other, last, prune)?;
+    check_answers(rt, alloc, &log, rows)
+}
+
 #[test]
 fn fifty_records_go_as_one_group(rt: HostRuntime) -> Result<(), Fail> {
-    let origin = Id::new(3).ok_or("identity")?;
-    let other = Id::new(0).ok_or("identity")?;
-    let log = filled(rt.alloc(), origin, other, 50, 0)?;
-    let all = log.group(rt.alloc(), 0)?;
-    assert_eq!(rt;
-        spelled(&all, origin, other),
-        ("group", [0, 50, 0, 100, 50])
-    );
-    let last = log.group(rt.alloc(), 49)?;
-    assert_eq!(rt;
-        spelled(&last, origin, other),
-        ("group", [49, 50, 49, 100, 50])
-    );
-    let none = log.group(rt.alloc(), 50)?;
-    assert_eq!(rt; spelled(&none, origin, other), ("nothing", [0; 5]));
-    Ok(())
+    let rows = [
+        (0, "group", [0, 50, 0, 100, 50]),
+        (49, "group", [49, 50, 49, 100, 50]),
+        (50, "nothing", [0; 5]),
+    ];
+    check_groups(&rt, rt.alloc(), 50, 0, &rows)
 }
 
 #[test]
 fn of_fifty_one_records_the_first_is_gone(rt: HostRuntime) -> Result<(), Fail> {
-    let origin = Id::new(3).ok_or("identity")?;
-    let other = Id::new(0).ok_or("identity")?;
-    let log = filled(rt.alloc(), origin, other, 51, 0)?;
-    let all = log.group(rt.alloc(), 0)?;
-    assert_eq!(rt; spelled(&all, origin, other), ("too old", [0; 5]));
-    let kept = log.group(rt.alloc(), 1)?;
-    assert_eq!(rt;
-        spelled(&kept, origin, other),
-        ("group", [1, 51, 1, 102, 51])
-    );
-    Ok(())
+    let rows = [(0, "too old", [0; 5]), (1, "group", [1, 51, 1, 102, 51])];
+    check_groups(&rt, rt.alloc(), 51, 0, &rows)
 }
 
 #[test]
 fn a_prune_goes_in_no_group(rt: HostRuntime) -> Result<(), Fail> {
-    let origin = Id::new(3).ok_or("identity")?;
-    let other = Id::new(0).ok_or("identity")?;
-    let log = filled(rt.alloc(), origin, other, 9, 4)?;
-    let with_prune = log.group(rt.alloc(), 3)?;
-    assert_eq!(rt; spelled(&with_prune, origin, other), ("no delta", [0; 5]));
-    let after_it = log.group(rt.alloc(), 4)?;
-    assert_eq!(rt;
-        spelled(&after_it, origin, other),
-        ("group", [4, 9, 4, 18, 9])
-    );
-    Ok(())
+    let rows = [(3, "no delta", [0; 5]), (4, "group", [4, 9, 4, 18, 9])];
+    check_groups(&rt, rt.alloc(), 9, 4, &rows)
 }

@@ -1,7 +1,7 @@
 //! Generated scripts and their text.
 
 use rd_generate::{generated, generated_text};
-use rd_script::Step;
+use rd_script::{Script, Step};
 use std::test::Fail;
 
 // What the script of one step says.
@@ -36,13 +36,20 @@ fn writes_each_form_of_step(rt: HostRuntime) -> Result<(), Fail> {
     Ok(())
 }
 
+/// How many members, keys and steps a script has, and whether its last step is a settle.
+fn shape(script: &Script) -> (u8, usize, usize, bool) {
+    let settles = matches!(script.steps.as_slice().last(), Some(Step::Settle));
+    (
+        script.members,
+        script.keys.len(),
+        script.steps.len(),
+        settles,
+    )
+}
+
 #[test]
 fn makes_the_steps_that_it_writes(rt: HostRuntime) -> Result<(), Fail> {
     let script = generated(rt.alloc(), 8)?;
-    let steps = script.steps.as_slice();
-    assert_eq!(rt; script.members, 5);
-    assert_eq!(rt; script.keys.len(), 4);
-    assert_eq!(rt; steps.len(), 10);
-    assert!(rt; matches!(&steps[9], Step::Settle));
+    assert_eq!(rt; shape(&script), (5, 4, 10, true));
     Ok(())
 }

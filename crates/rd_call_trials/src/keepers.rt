@@ -6,6 +6,7 @@ use rd_bytes::{Items, Text};
 use rd_keeper::{Keeper, KeeperError, MemoryKeeper, Stored};
 use std::alloc::Global;
 use std::mem;
+use std::process::Abort;
 use std::test::Fail;
 
 fn entry(alloc: Global, key: &str, bytes: &[u8]) -> Result<Stored, Fail> {
@@ -18,14 +19,102 @@ fn entry(alloc: Global, key: &str, bytes: &[u8]) -> Result<Stored, Fail> {
     }
 }
 
-/// Stores `a` with 1, and then `b` with 3 and `a` with 2.
-fn fill<K: Keeper>(alloc: Global, keeper: &mut K) -> Result<(), Fail> {
-    keeper.store(&vec![in alloc; entry(alloc, "a", &[1])?]?)?;
-    keeper.store(&vec![in alloc; entry(alloc, "b", &[3])?, entry(alloc, "a", &[2])?]?)?;
+/// Under each key one byte.
+fn entries(alloc: Global, rows: &[(&str, u8)]) -> Result<Vec<Stored>, Fail> {
+    let mut entries = Vec::new(alloc);
+    for (key, byte) in rows {
+        let entry = entry(alloc, key, &[*byte])?;
+        entries.push(entry)?;
+    }
+    Ok(entries)
+}
+
+/// A call of a keeper, and the entries that it is to store.
+#[derive(Clone, Copy, Debug)]
+enum Call<'a> {
+    Store(&'a [(&'a str, u8)]),
+    Load,
+    Clear,
+}
+
+/// What a keeper answers to a call.
+fn answer<K: Keeper>(
+    alloc: Global,
+    keeper: &mut K,
+    call: Call,
+) -> Result<Result<(), KeeperError>, Fail> {
+    let answer = match call {
+        Call::Store(rows) => {
+            let entries = entries(alloc, rows)?;
+            keeper.store(&entries)
+        }
+        Call::Load => match keeper.load() {
+            Ok(_) => Ok(()),
+            Err(error) => Err(error),
+        },
+        Call::Clear => keeper.clear(),
+    };
+    Ok(answer)
+}
+
+/// A keeper answers these calls so, one after the other.
+fn check_answers<K: Keeper>(
+    rt: &impl Abort,
+    alloc: Global,
+    keeper: &mut K,
+    rows: &[(Call, Result<(), KeeperError>)],
+) -> Result<(), Fail> {
+    for (call, wanted) in rows {
+        let answer = answer(alloc, keeper, *call)?;
+        assert_eq!(rt; answer, *wanted, "to {call:?}");
+    }
     Ok(())
 }
 
+/// An entry has this key, and this one byte.
+fn check_entry(rt: &impl Abort, entry: &Stored, key: &str, byte: u8) {
+    assert_eq!(rt; entry.key.as_str(), key);
+    assert_eq!(rt; entry.bytes.as_slice(), [byte].as_slice());
+}
+
+/// A load gives these bytes under these keys.
+fn check_load<K: Keeper>(
+    rt: &impl Abort,
+    keeper: &mut K,
+    wanted: &[(&str, u8)],
+) -> Result<(), Fail> {
+    let loaded = keeper.load()?;
+    assert_eq!(rt; loaded.len(), wanted.len());
+    for ((key, byte), entry) in wanted.iter().zip(&loaded) {
+        check_entry(rt, entry, key, *byte);
+    }
+    Ok(())
+}
+
+/// Stores under each key one byte.
+fn store<K: Keeper>(alloc: Global, keeper: &mut K, rows: &[(&str, u8)]) -> Result<(), Fail> {
+    let entries = entries(alloc, rows)?;
+    keeper.store(&entries)?;
+    Ok(())
+}
+
+/// After `a` was stored with 1, and then `b` with 3 and `a` with 2, a load gives the first entries, and one after a clear the others.
+fn check_loads<K: Keeper>(
+    rt: &impl Abort,
+    alloc: Global,
+    keeper: &mut K,
+    filled: &[(&str, u8)],
+    cleared: &[(&str, u8)],
+) -> Result<(), Fail> {
+    store(alloc, keeper, &[("a", 1)])?;
+    store(alloc, keeper, &[("b", 3), ("a", 2)])?;
+    check_load(rt, keeper, filled)?;
+    keeper.clear()?;
+    check_load(rt, keeper, cleared)
+}
+
 /// Fails at every call.
+#[derive(Drop)]
 struct Broken {
     faults: u64,
 }
@@ -99,43 +188,41 @@ impl Keeper for Late {
 fn keeps_the_last_bytes_of_each_key(rt: HostRuntime) -> Result<(), Fail> {
     let alloc = rt.alloc();
     let mut keeper = MemoryKeeper::new(alloc, Vec::new(alloc));
-    fill(alloc, &mut keeper)?;
-    let loaded = keeper.load()?;
-    let wanted: [(&str, &[u8]); 2] = [("a", &[2]), ("b", &[3])];
-    assert_eq!(rt; loaded.len(), 2);
-    for ((key, bytes), entry) in wanted.iter().zip(&loaded) {
-        assert_eq!(rt; entry.key.as_str(), *key);
-        assert_eq!(rt; entry.bytes.as_slice(), *bytes);
-    }
-    keeper.clear()?;
-    assert_eq!(rt; keeper.load()?.len(), 0);
-    Ok(())
+    check_loads(&rt, alloc, &mut keeper, &[("a", 2), ("b", 3)], &[])
 }
 
-#[test]
-fn fails_at_the_calls_named(rt: HostRuntime) -> Result<(), Fail> {
-    let alloc = rt.alloc();
-    let mut keeper = MemoryKeeper::new(alloc, vec![in alloc; 3, 2, 5]?);
-    let one = vec![in alloc; entry(alloc, "b", &[1])?]?;
-    let other = vec![in alloc; entry(alloc, "a", &[2])?]?;
-    assert_eq!(rt; keeper.clear(), Ok(()));
-    assert_eq!(rt; keeper.store(&one), Ok(()));
-    assert_eq!(rt; keeper.store(&other), Err(KeeperError::Failed));
-    assert_eq!(rt; keeper.load().err(), Some(KeeperError::Failed));
-    assert_eq!(rt; keeper.store(&other), Ok(()));
-    assert_eq!(rt; keeper.clear(), Err(KeeperError::Failed));
+/// A keeper that fails at three of its first six calls answers so, and keeps what the others stored.
+fn check_named(rt: &impl Abort, alloc: Global, keeper: &mut MemoryKeeper) -> Result<(), Fail> {
+    let rows = [
+        (Call::Clear, Ok(())),
+        (Call::Store(&[("b", 1)]), Ok(())),
+        (Call::Store(&[("a", 2)]), Err(KeeperError::Failed)),
+        (Call::Load, Err(KeeperError::Failed)),
+        (Call::Store(&[("a", 2)]), Ok(())),
+        (Call::Clear, Err(KeeperError::Failed)),
+    ];
+    check_answers(rt, alloc, keeper, &rows)?;
     assert_eq!(rt; keeper.entries().len(), 2);
     Ok(())
 }
 
 #[test]
+fn fails_at_the_calls_named(rt: HostRuntime) -> Result<(), Fail> {
+    let failing = vec![in rt.alloc(); 3, 2, 5]?;
+    let mut keeper = MemoryKeeper::new(rt.alloc(), failing);
+    check_named(&rt, rt.alloc(), &mut keeper)
+}
+
+#[test]
 fn a_broken_keeper_takes_nothing(rt: HostRuntime) -> Result<(), Fail> {
     let mut keeper = Broken { faults: 0 };
-    assert_eq!(rt; keeper.store(&[]), Err(KeeperError::Failed));
-    assert_eq!(rt; keeper.load().err(), Some(KeeperError::Failed));
-    assert_eq!(rt; keeper.clear(), Err(KeeperError::Failed));
-    let Broken { faults } = keeper;
-    assert_eq!(rt; faults, 3);
+    let rows = [
+        (Call::Store(&[]), Err(KeeperError::Failed)),
+        (Call::Load, Err(KeeperError::Failed)),
+        (Call::Clear, Err(KeeperError::Failed)),
+    ];
+    check_answers(&rt, rt.alloc(), &mut keeper, &rows)?;
+    assert_eq!(rt; keeper.faults, 3);
     Ok(())
 }
 
@@ -146,9 +233,5 @@ fn a_late_keeper_gives_what_it_had(rt: HostRuntime) -> Result<(), Fail> {
         taken: MemoryKeeper::new(alloc, Vec::new(alloc)),
         shown: Vec::new(alloc),
     };
-    fill(alloc, &mut keeper)?;
-    assert_eq!(rt; keeper.load()?.len(), 0);
-    keeper.clear()?;
-    assert_eq!(rt; keeper.load()?.len(), 2);
-    Ok(())
+    check_loads(&rt, alloc, &mut keeper, &[], &[("a", 2), ("b", 3)])
 }

@@ -14,14 +14,29 @@ fn id(number: u8) -> Result<Id, Fail> {
     Ok(Id::new(number).ok_or("identity")?)
 }
 
-/// A record, its past given as identities with numbers.
-fn record(
-    alloc: Global,
-    origin: u8,
-    number: u64,
-    action: Action,
-    counts: &[(u8, u64)],
-) -> Result<Record, Fail> {
+/// What a record did, in texts and numbers.
+#[derive(Clone, Copy)]
+enum Act {
+    Add(&'static str),
+    Remove(&'static str),
+    Assign(&'static str, u64),
+    Prune(u8),
+}
+
+/// Identities with numbers.
+type Counts = &'static [(u8, u64)];
+
+const NOTHING: Counts = &[];
+
+const BOTH_ADDS: Counts = &[(1, 1), (2, 1)];
+
+const FIRST_ADD: Counts = &[(2, 1)];
+
+/// A record: its origin, its number, what it did, and its past.
+type Row = (u8, u64, Act, Counts);
+
+/// A past with these numbers, none of them 0.
+fn past(alloc: Global, counts: Counts) -> Result<VersionVector, Fail> {
     let mut past = VersionVector::new(alloc);
     for (other, count) in counts {
         if *count == 0 || *count > GREATEST_NUMBER {
@@ -29,30 +44,54 @@ fn record(
         }
         past.raise(id(*other)?, *count)?;
     }
+    Ok(past)
+}
+
+/// The writing of a text.
+fn assigned(alloc: Global, text: &str, now: u64) -> Result<Op, Fail> {
+    let text = Text::new(alloc, text)?;
+    let now = Moment::new(now).ok_or("moment")?;
+    Ok(Op::Assign { text, now })
+}
+
+/// What a record did, as an action.
+fn action(alloc: Global, act: Act) -> Result<Action, Fail> {
+    let op = match act {
+        Act::Add(element) => Op::Add(Text::new(alloc, element)?),
+        Act::Remove(element) => Op::Remove(Text::new(alloc, element)?),
+        Act::Assign(text, now) => assigned(alloc, text, now)?,
+        Act::Prune(removed) => return Ok(Action::Prune(id(removed)?)),
+    };
+    Ok(Action::Operation(op))
+}
+
+/// The record of a row.
+fn record(alloc: Global, row: &Row) -> Result<Record, Fail> {
+    let (origin, number, act, counts) = row;
+    let origin = id(*origin)?;
+    let past = past(alloc, counts)?;
+    let action = action(alloc, *act)?;
     Ok(Record {
-        origin: id(origin)?,
-        number,
+        origin,
+        number: *number,
         action,
         past,
     })
 }
 
-fn add(alloc: Global, element: &str) -> Result<Action, Fail> {
-    Ok(Action::Operation(Op::Add(Text::new(alloc, element)?)))
-}
-
-fn remove(alloc: Global, element: &str) -> Result<Action, Fail> {
-    Ok(Action::Operation(Op::Remove(Text::new(alloc, element)?)))
-}
-
-fn assign(alloc: Global, text: &str, now: u64) -> Result<Action, Fail> {
-    let text = Text::new(alloc, text)?;
-    let now = Moment::new(now).ok_or("moment")?;
-    Ok(Action::Operation(Op::Assign { text, now }))
+/// The records of the rows.
+fn records(alloc: Global, rows: &[Row]) -> Result<Vec<Record>, Fail> {
+    let mut records = Vec::new(alloc);
+    for row in rows {
+        let record = record(alloc, row)?;
+        records.push(record)?;
+    }
+    Ok(records)
 }
 
 /// How many elements a set with removes shows.
-fn elements(alloc: Global, records: Vec<Record>) -> Result<usize, Fail> {
+fn elements(alloc: Global, rows: &[Row]) -> Result<usize, Fail> {
+    let records = records(alloc, rows)?;
     match meaning(alloc, Kind::OrSet, records)? {
         Shown::Elements(elements) => Ok(elements.as_slice().len()),
         _ => Err("no set".into()),
@@ -60,7 +99,8 @@ fn elements(alloc: Global, records: Vec<Record>) -> Result<usize, Fail> {
 }
 
 /// Whether a register shows a text.
-fn shows(alloc: Global, records: Vec<Record>, text: &str) -> Result<bool, Fail> {
+fn shows(alloc: Global, rows: &[Row], text: &str) -> Result<bool, Fail> {
+    let records = records(alloc, rows)?;
     let shown = meaning(alloc, Kind::LwwRegister, records)?;
     match &shown {
         Shown::Written(written) => Ok(written.as_str() == text),
@@ -68,32 +108,31 @@ fn shows(alloc: Global, records: Vec<Record>, text: &str) -> Result<bool, Fail> 
     }
 }
 
-/// The records of an element that one identity added, another added and removed, and a third prunes the first.
-fn pruned(alloc: Global, seen: &[(u8, u64)]) -> Result<Vec<Record>, Fail> {
-    let records = [
-        record(alloc, 2, 1, add(alloc, "x")?, &[])?,
-        record(alloc, 1, 2, remove(alloc, "x")?, &[(1, 1), (2, 1)])?,
-        record(alloc, 1, 1, add(alloc, "x")?, seen)?,
-        record(alloc, 0, 1, Action::Prune(id(2)?), &[(1, 1), (2, 1)])?,
+/// How many elements are shown of one that an identity added, another added and removed, and of which a third prunes the first.
+fn elements_after_prune(alloc: Global, seen: Counts) -> Result<usize, Fail> {
+    let rows = [
+        (2, 1, Act::Add("x"), NOTHING),
+        (1, 2, Act::Remove("x"), BOTH_ADDS),
+        (1, 1, Act::Add("x"), seen),
+        (0, 1, Act::Prune(2), BOTH_ADDS),
     ];
-    Ok(Vec::from_array(alloc, records)?)
+    elements(alloc, &rows)
 }
 
 #[test]
 fn a_prune_adds_again_what_was_live_and_nothing_else(rt: HostRuntime) -> Result<(), Fail> {
     let alloc = rt.alloc();
-    assert_eq!(rt; elements(alloc, pruned(alloc, &[])?)?, 1);
-    assert_eq!(rt; elements(alloc, pruned(alloc, &[(2, 1)])?)?, 0);
+    assert_eq!(rt; elements_after_prune(alloc, NOTHING)?, 1);
+    assert_eq!(rt; elements_after_prune(alloc, FIRST_ADD)?, 0);
     Ok(())
 }
 
 #[test]
 fn of_two_writes_at_one_timestamp_the_least_origin_wins(rt: HostRuntime) -> Result<(), Fail> {
-    let alloc = rt.alloc();
-    let records = [
-        record(alloc, 3, 1, assign(alloc, "high", 7)?, &[])?,
-        record(alloc, 2, 1, assign(alloc, "low", 7)?, &[])?,
+    let rows = [
+        (3, 1, Act::Assign("high", 7), NOTHING),
+        (2, 1, Act::Assign("low", 7), NOTHING),
     ];
-    assert!(rt; shows(alloc, Vec::from_array(alloc, records)?, "low")?);
+    assert!(rt; shows(rt.alloc(), &rows, "low")?);
     Ok(())
 }

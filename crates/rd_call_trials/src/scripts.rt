@@ -1,10 +1,12 @@
 //! What is read in scripts, and which rule is told first.
 
-use rd_kinds::Op;
+use rd_bytes::Text;
+use rd_kinds::{Moment, Op};
 use rd_quorum::Level;
-use rd_script::{ScriptError, Step, read_script};
+use rd_script::{Script, ScriptError, ScriptKey, Step, read_script};
 use rd_vectors::Id;
 use std::alloc::Global;
+use std::fmt::Display;
 use std::test::Fail;
 
 // What is said of a script, before the script.
@@ -187,39 +189,56 @@ pub fn parts(row: &str) -> Result<(&str, &str), Fail> {
     Ok(row.split_once(": ").ok_or("no row")?)
 }
 
-// What is said of a script: its fault, or how many members, keys and steps it has.
-fn told(alloc: Global, text: &str) -> Result<String, Fail> {
-    let told = match read_script(alloc, text.as_bytes()) {
-        Ok(script) => {
-            let keys = script.keys.len();
-            format!(in alloc; "{} {keys} {}", script.members, script.steps.len())?
-        }
-        Err(ScriptError::NotAScript { step, rule }) => format!(in alloc;
-            "step {step} rule {rule}"
-        )?,
-        Err(ScriptError::NotJson) => String::from_str(alloc, "not json")?,
-        Err(ScriptError::Memory) => String::from_str(alloc, "memory")?,
+/// What is said of a fault.
+pub fn fault_told(alloc: Global, fault: ScriptError) -> Result<String, Fail> {
+    let told = match fault {
+        ScriptError::NotAScript { step, rule } => format!(in alloc; "step {step} rule {rule}")?,
+        ScriptError::NotJson => String::from_str(alloc, "not json")?,
+        ScriptError::Memory => String::from_str(alloc, "memory")?,
     };
     Ok(told)
 }
 
-pub fn operation_line(alloc: Global, op: &Op) -> Result<String, Fail> {
-    let line = match op {
-        Op::Increment(by) => format!(in alloc; "increment {by}")?,
-        Op::Decrement(by) => format!(in alloc; "decrement {by}")?,
-        Op::Add(element) => format!(in alloc; "add {}", element.as_str())?,
-        Op::Remove(element) => format!(in alloc; "remove {}", element.as_str())?,
-        Op::Enable => String::from_str(alloc, "enable")?,
-        Op::Assign { text, now } => {
-            let now = now.number();
-            format!(in alloc; "assign {} now {now}", text.as_str())?
-        }
-    };
+/// How many members, keys and steps a script has.
+fn sizes_told(alloc: Global, script: &Script) -> Result<String, Fail> {
+    let keys = script.keys.len();
+    let told = format!(in alloc; "{} {keys} {}", script.members, script.steps.len())?;
+    Ok(told)
+}
+
+// What is said of a script: its fault, or how many members, keys and steps it has.
+fn told(alloc: Global, text: &str) -> Result<String, Fail> {
+    match read_script(alloc, text.as_bytes()) {
+        Ok(script) => sizes_told(alloc, &script),
+        Err(fault) => fault_told(alloc, fault),
+    }
+}
+
+/// A word, and a text or number after it.
+fn word_with<T: Display>(alloc: Global, word: &str, what: &T) -> Result<String, Fail> {
+    let line = format!(in alloc; "{word} {what}")?;
     Ok(line)
 }
 
+/// What is assigned, and when.
+fn assign_line(alloc: Global, text: &Text, now: Moment) -> Result<String, Fail> {
+    let line = format!(in alloc; "assign {} now {}", text.as_str(), now.number())?;
+    Ok(line)
+}
+
+fn operation_line(alloc: Global, op: &Op) -> Result<String, Fail> {
+    match op {
+        Op::Increment(by) => word_with(alloc, "increment", by),
+        Op::Decrement(by) => word_with(alloc, "decrement", by),
+        Op::Add(element) => word_with(alloc, "add", &element.as_str()),
+        Op::Remove(element) => word_with(alloc, "remove", &element.as_str()),
+        Op::Enable => word(alloc, "enable"),
+        Op::Assign { text, now } => assign_line(alloc, text, *now),
+    }
+}
+
 // A level after a space, and nothing for the local one.
-pub fn level_tail(alloc: Global, level: Level) -> Result<String, Fail> {
+fn level_tail(alloc: Global, level: Level) -> Result<String, Fail> {
     let tail = match level {
         Level::Local => String::new(alloc),
         Level::To(number) => format!(in alloc; " to {number}")?,
@@ -229,45 +248,76 @@ pub fn level_tail(alloc: Global, level: Level) -> Result<String, Fail> {
     Ok(tail)
 }
 
-pub fn link(alloc: Global, from: Id, to: Id) -> Result<String, Fail> {
-    let link = format!(in alloc; "{} {}", from.number(), to.number())?;
-    Ok(link)
+/// A word alone.
+fn word(alloc: Global, word: &str) -> Result<String, Fail> {
+    let line = String::from_str(alloc, word)?;
+    Ok(line)
+}
+
+/// An update, and its level if it is not local.
+pub fn update_line(
+    alloc: Global,
+    at: Id,
+    key: &Text,
+    op: &Op,
+    level: Level,
+) -> Result<String, Fail> {
+    let op = operation_line(alloc, op)?;
+    let level = level_tail(alloc, level)?;
+    let line = format!(in alloc; "update {} {} {op}{level}", at.number(), key.as_str())?;
+    Ok(line)
+}
+
+/// A get, and its level if it is not local.
+pub fn get_line(alloc: Global, at: Id, key: &Text, level: Level) -> Result<String, Fail> {
+    let level = level_tail(alloc, level)?;
+    let line = format!(in alloc; "get {} {}{level}", at.number(), key.as_str())?;
+    Ok(line)
+}
+
+/// A word, and an identity after it.
+pub fn word_at(alloc: Global, word: &str, at: Id) -> Result<String, Fail> {
+    word_with(alloc, word, &at.number())
+}
+
+/// A word, and two identities after it.
+pub fn word_between(alloc: Global, word: &str, from: Id, to: Id) -> Result<String, Fail> {
+    let line = format!(in alloc; "{word} {} {}", from.number(), to.number())?;
+    Ok(line)
+}
+
+/// A word, and after it an identity and a number.
+pub fn word_at_with(alloc: Global, word: &str, at: Id, number: u64) -> Result<String, Fail> {
+    let line = format!(in alloc; "{word} {} {number}", at.number())?;
+    Ok(line)
+}
+
+/// A delivery, and which message if it is said.
+fn deliver_line(alloc: Global, from: Id, to: Id, index: Option<u32>) -> Result<String, Fail> {
+    let mut line = word_between(alloc, "deliver", from, to)?;
+    if let Some(index) = index {
+        write!(line, " index {index}")?;
+    }
+    Ok(line)
 }
 
 fn line(alloc: Global, step: &Step) -> Result<String, Fail> {
-    let line = match step {
-        Step::Update { at, key, op, level } => {
-            let op = operation_line(alloc, op)?;
-            let level = level_tail(alloc, *level)?;
-            format!(in alloc; "update {} {} {op}{level}", at.number(), key.as_str())?
-        }
-        Step::Get { at, key, level } => {
-            let level = level_tail(alloc, *level)?;
-            format!(in alloc; "get {} {}{level}", at.number(), key.as_str())?
-        }
-        Step::Flush { at } => format!(in alloc; "flush {}", at.number())?,
-        Step::Gossip { at, to } => format!(in alloc; "gossip {} {}", at.number(), to.number())?,
-        Step::Deliver { from, to, index } => {
-            let link = link(alloc, *from, *to)?;
-            match index {
-                Some(index) => format!(in alloc; "deliver {link} index {index}")?,
-                None => format!(in alloc; "deliver {link}")?,
-            }
-        }
-        Step::Lose { from, to } => {
-            let link = link(alloc, *from, *to)?;
-            format!(in alloc; "lose {link}")?
-        }
-        Step::Round => String::from_str(alloc, "round")?,
-        Step::Tick { at } => format!(in alloc; "tick {}", at.number())?,
-        Step::Timeout { at, op } => format!(in alloc; "timeout {} {op}", at.number())?,
-        Step::Remove { id } => format!(in alloc; "remove {}", id.number())?,
-        Step::Join { place } => format!(in alloc; "join {place}")?,
-        Step::Restart { id } => format!(in alloc; "restart {}", id.number())?,
-        Step::Install { at, view } => format!(in alloc; "install {} {view}", at.number())?,
-        Step::Settle => format!(in alloc; "settle")?,
-    };
-    Ok(line)
+    match step {
+        Step::Update { at, key, op, level } => update_line(alloc, *at, key, op, *level),
+        Step::Get { at, key, level } => get_line(alloc, *at, key, *level),
+        Step::Flush { at } => word_at(alloc, "flush", *at),
+        Step::Gossip { at, to } => word_between(alloc, "gossip", *at, *to),
+        Step::Deliver { from, to, index } => deliver_line(alloc, *from, *to, *index),
+        Step::Lose { from, to } => word_between(alloc, "lose", *from, *to),
+        Step::Round => word(alloc, "round"),
+        Step::Tick { at } => word_at(alloc, "tick", *at),
+        Step::Timeout { at, op } => word_at_with(alloc, "timeout", *at, *op),
+        Step::Remove { id } => word_at(alloc, "remove", *id),
+        Step::Join { place } => word_with(alloc, "join", place),
+        Step::Restart { id } => word_at(alloc, "restart", *id),
+        Step::Install { at, view } => word_at_with(alloc, "install", *at, u64::from(*view)),
+        Step::Settle => word(alloc, "settle"),
+    }
 }
 
 // A script of eight members and one key with these steps.
@@ -302,14 +352,20 @@ fn tells_the_first_rule_that_a_script_breaks(rt: HostRuntime) -> Result<(), Fail
     Ok(())
 }
 
+/// The line of the only step.
+fn only_line(alloc: Global, steps: &[Step]) -> Result<String, Fail> {
+    match steps {
+        [step] => line(alloc, step),
+        _ => Err("no step".into()),
+    }
+}
+
 fn check_form(alloc: Global, row: &str) -> Result<(), Fail> {
     let (want, step) = parts(row)?;
     let text = with_steps(alloc, step)?;
     let script = read_script(alloc, text.as_bytes())?;
-    match script.steps.as_slice() {
-        [step] => check_told(alloc, line(alloc, step)?.as_str(), want, row),
-        _ => Err("no step".into()),
-    }
+    let line = only_line(alloc, script.steps.as_slice())?;
+    check_told(alloc, line.as_str(), want, row)
 }
 
 #[test]
@@ -320,14 +376,19 @@ fn reads_each_form(rt: HostRuntime) -> Result<(), Fail> {
     Ok(())
 }
 
+/// That one key is declared, durable or not as is wanted.
+fn check_declared(keys: &[ScriptKey], want: &str) -> Result<(), Fail> {
+    match keys {
+        [declared] if declared.durable == (want == "true") => Ok(()),
+        _ => Err("another key".into()),
+    }
+}
+
 fn check_key(alloc: Global, row: &str) -> Result<(), Fail> {
     let (want, key) = parts(row)?;
     let text = format!(in alloc; "{{\"members\":1,\"keys\":[{key}],\"steps\":[]}}")?;
     let script = read_script(alloc, text.as_bytes())?;
-    match script.keys.as_slice() {
-        [declared] if declared.durable == (want == "true") => Ok(()),
-        _ => Err("another key".into()),
-    }
+    check_declared(script.keys.as_slice(), want)
 }
 
 #[test]
