@@ -1,13 +1,14 @@
-ghost use Rattle.std.specs.Prelude.{◌≡◌, ◌≤◌, ◌^◌, ◌∷◌, [], true, not, ◌&&◌, nat_le, length, None, OnOk, OnErr, IfOk, IfErr};
+ghost use Rattle.std.specs.Prelude.{◌≡◌, ◌≤◌, ◌^◌, ◌∷◌, [], true, not, ◌&&◌, nat_le, length, map, None, OnOk, OnErr, IfOk, IfErr};
 ghost use Rattle.std.specs.FinSet as set;
 ghost use Rattle.rd_meanings.specs.Refusal.{full, greatest_set};
 ghost use Rattle.rd_history.specs.Texts.{contains_text};
 ghost use Rattle.rd_kinds.specs.declared.operation.Op.TheVariants as op;
 ghost use Rattle.rd_lattice.specs.Refusals.{IsApplyRefusal};
 ghost use Rattle.rd_vectors.specs.Vectors.{number_at};
-ghost use Rattle.rd_orset.specs.Placing.{key};
+ghost use Rattle.rd_bytes.specs.TextOrder.{IsRising};
+ghost use Rattle.rd_orset.specs.Placing.{key, at_dot};
 ghost use Rattle.rd_orset.specs.Dots.{is_element, set_joined, set_absorbed, set_combined, set_applied, set_delta_of, set_cleaned, set_pruned, set_mentioned, shown_elements};
-ghost use Rattle.rd_orset.specs.Keeping.{set_merged};
+ghost use Rattle.rd_orset.specs.Keeping.{set_of, set_merged, is_other_key};
 
 use crate::dot_list::DotList;
 use crate::dots::{All, Rule, has_origin, merged};
@@ -125,6 +126,17 @@ impl OrSet {
         count_elements(&self.dots) >= MOST_ELEMENTS && !has_element(&self.dots, element)
     }
 
+    /// What giving an element the dot alone adds and sees.
+    fn delta_of_add(&self, alloc: Global, element: &Text, dot: &Dot) -> Result<SetDelta, Memory>
+        requires { (1 ≤ dot.now.seq) × (dot.now.seq ≤ 2 ^ 62) }
+        ensures { IfOk result (λ delta. delta ≡ set_delta_of self.now (op.Add element.now) dot.now) }
+    {
+        let fresh = OrSet::of(alloc, element, dot)?;
+        let mut seen = self.named(alloc, element)?;
+        seen.unite(&fresh)?;
+        Ok(SetDelta { fresh, seen })
+    }
+
     /// Gives an element the dot alone, unless the set is full, and answers what that added and saw.
     pub(crate) fn add(
         &mut self,
@@ -142,11 +154,9 @@ impl OrSet {
         if self.is_full_for(element) {
             return Err(ApplyError::SetFull);
         }
-        let fresh = OrSet::of(alloc, element, dot)?;
-        let mut seen = self.named(alloc, element)?;
-        seen.unite(&fresh)?;
+        let delta = self.delta_of_add(alloc, element, dot)?;
         self.put(element, dot)?;
-        Ok(SetDelta { fresh, seen })
+        Ok(delta)
     }
 
     /// Takes all dots from an element, and answers what that saw.
@@ -198,6 +208,40 @@ impl OrSet {
         self.dots.drop_dots_of(id);
     }
 
+    /// Texts at one dot.
+    fn at(alloc: Global, texts: &[Text], dot: &Dot) -> Result<OrSet, Memory>
+        requires numbered { (1 ≤ dot.now.seq) × (dot.now.seq ≤ 2 ^ 62) }
+        requires rising { IsRising texts.now }
+        ensures { IfOk result (λ all. all ≡ set_of (map (at_dot dot.now) texts.now)) }
+    {
+        let dots = placed_at(alloc, texts, dot)?;
+        Ok(OrSet { alloc, dots })
+    }
+
+    /// The dots of the elements that are none of the texts.
+    fn without(&self, texts: &[Text]) -> Result<OrSet, Memory>
+        requires { IsRising texts.now }
+        ensures { IfOk result (λ left. left ≡ set.retain self.now (is_other_key texts.now)) }
+    {
+        let dots = others(self.alloc, &self.dots, texts)?;
+        Ok(OrSet {
+            alloc: self.alloc,
+            dots,
+        })
+    }
+
+    /// The set in which each of the texts has the dot alone.
+    fn with_all_at(&self, texts: &[Text], dot: &Dot) -> Result<OrSet, Memory>
+        requires numbered { (1 ≤ dot.now.seq) × (dot.now.seq ≤ 2 ^ 62) }
+        requires rising { IsRising texts.now }
+        ensures { IfOk result (λ all. all ≡ set.union (set.retain self.now (is_other_key texts.now)) (set_of (map (at_dot dot.now) texts.now))) }
+    {
+        let moved = OrSet::at(self.alloc, texts, dot)?;
+        let left = self.without(texts)?;
+        let next = left.united(self.alloc, &moved)?;
+        Ok(next)
+    }
+
     /// Gives each element with a dot of an identity the new dot alone.
     pub(crate) fn take_over(&mut self, removed: Id, dot: &Dot) -> Result<(), Memory>
         requires { (1 ≤ dot.now.seq) × (dot.now.seq ≤ 2 ^ 62) }
@@ -205,15 +249,7 @@ impl OrSet {
         ensures err { OnErr result (self.new ≡ self.old) }
     {
         let texts = elements_at(self.alloc, &self.dots, removed)?;
-        let moved = OrSet {
-            alloc: self.alloc,
-            dots: placed_at(self.alloc, &texts, dot)?,
-        };
-        let left = OrSet {
-            alloc: self.alloc,
-            dots: others(self.alloc, &self.dots, &texts)?,
-        };
-        let next = left.united(self.alloc, &moved)?;
+        let next = self.with_all_at(&texts, dot)?;
         *self = next;
         Ok(())
     }

@@ -1,5 +1,6 @@
 -- The laws of values: each is the law of the value's kind.
-use Rattle.std.proofs.Common.{◌≡◌, ℕ, ◌+◌, ◌<◌, ◌≤◌, true, false, None, refl, ap}
+use Rattle.std.proofs.Common.{◌≡◌, ℕ, ◌+◌, ◌<◌, ◌≤◌, Bool, true, false, ◌&&◌, None, refl, sym, ap, subst, ◌∙◌}
+use Rattle.std.proofs.lemmas.Bool.{false≢true}
 use Rattle.rd_history.specs.Table.{with_at}
 use Rattle.rd_history.specs.Vector.{VersionVector, IdentitySet, join, with_member}
 use Rattle.rd_history.specs.History.{History, cut}
@@ -20,7 +21,29 @@ use Rattle.rd_value.specs.declared.value.Data.{Data}
 use Rattle.rd_value.specs.declared.value.Data.TheVariants.{GCounter, PnCounter, GSet, OrSet, Flag, LwwRegister}
 use Rattle.rd_value.specs.declared.value.Delta.{Delta}
 use Rattle.rd_value.specs.declared.value.Delta.TheVariants as changes
-use Rattle.rd_value.specs.Values.{kind_of, fits_kind, IsOfOrigin, AreApart, empty_of, applied, delta_of, apply_refusal, joined, absorbed, combined, cleaned, pruned, prune_refusal, mentioned, shown, IsDataOf, IsDeltaOf, IsWithin}
+use Rattle.rd_value.specs.Values.{kind_of, are_same, fits_kind, IsOfOrigin, AreApart, empty_of, applied, delta_of, apply_refusal, joined, absorbed, combined, cleaned, pruned, prune_refusal, mentioned, shown, IsDataOf, IsDeltaOf, IsWithin}
+
+-- WHERE KINDS DIFFER
+
+same_kind : (kind : Kind) → are_same kind kind ≡ true
+same_kind kinds.GCounter = refl
+same_kind kinds.PnCounter = refl
+same_kind kinds.GSet = refl
+same_kind kinds.OrSet = refl
+same_kind kinds.Flag = refl
+same_kind kinds.LwwRegister = refl
+
+two_kinds : (a b : Kind) → are_same a b ≡ false → a ≡ b → ⊥
+two_kinds a b differ e = false≢true (sym differ ∙ subst (λ (k : Kind). are_same a k ≡ true) e (same_kind a))
+
+not_both : (a b : Bool) → (a && b) ≡ false → a ≡ true → b ≡ true → ⊥
+not_both a b never e f = false≢true (sym never ∙ subst (λ (x : Bool). (x && b) ≡ true) (sym e) f)
+
+three_kinds : (a b c : Kind) → (are_same a b && are_same b c) ≡ false → a ≡ b → b ≡ c → ⊥
+three_kinds a b c differ e f =
+    not_both (are_same a b) (are_same b c) differ (subst (λ (k : Kind). are_same a k ≡ true) e (same_kind a)) (subst (λ (k : Kind). are_same b k ≡ true) f (same_kind b))
+
+-- THE LAWS
 
 pub kind_empty : (kind : Kind) → kind_of (empty_of kind) ≡ kind
 kind_empty kinds.GCounter = refl
@@ -121,7 +144,7 @@ join_comm (GSet a) (GSet b) v w k p q = ap GSet (gset.join_comm-law a b v w refl
 join_comm (OrSet a) (OrSet b) v w k p q = ap OrSet (orset.join_comm-law a b v w refl p q)
 join_comm (Flag a) (Flag b) v w k p q = ap Flag (flag.join_comm-law a b v w refl p q)
 join_comm (LwwRegister a) (LwwRegister b) v w k p q = ap LwwRegister (register.join_comm-law a b v w refl p q)
-join_comm a b v w k p q = absurd (cc k)
+join_comm a b v w k p q = absurd (two_kinds (kind_of a) (kind_of b) refl k)
 
 pub join_assoc : (a b c : Data) (u v w : VersionVector) → kind_of a ≡ kind_of b → kind_of b ≡ kind_of c → IsWithin a u → IsWithin b v → IsWithin c w → joined (joined a u b v) (join u v) c w ≡ joined a u (joined b v c w) (join v w)
 join_assoc (GCounter a) (GCounter b) (GCounter c) u v w k l p q r = ap GCounter (gcounter.join_assoc-law a b c u v w refl refl p q r)
@@ -130,7 +153,7 @@ join_assoc (GSet a) (GSet b) (GSet c) u v w k l p q r = ap GSet (gset.join_assoc
 join_assoc (OrSet a) (OrSet b) (OrSet c) u v w k l p q r = ap OrSet (orset.join_assoc-law a b c u v w refl refl p q r)
 join_assoc (Flag a) (Flag b) (Flag c) u v w k l p q r = ap Flag (flag.join_assoc-law a b c u v w refl refl p q r)
 join_assoc (LwwRegister a) (LwwRegister b) (LwwRegister c) u v w k l p q r = ap LwwRegister (register.join_assoc-law a b c u v w refl refl p q r)
-join_assoc a b c u v w k l p q r = absurd (cc (k, l))
+join_assoc a b c u v w k l p q r = absurd (three_kinds (kind_of a) (kind_of b) (kind_of c) refl k l)
 
 pub join_same : (a : Data) (v : VersionVector) → IsWithin a v → joined a v a v ≡ a
 join_same (GCounter a) v p = ap GCounter (gcounter.join_same-law a v p)
@@ -147,7 +170,7 @@ join_upper (GSet a) (GSet b) v w k p q = ap GSet (gset.join_upper-law a b v w re
 join_upper (OrSet a) (OrSet b) v w k p q = ap OrSet (orset.join_upper-law a b v w refl p q)
 join_upper (Flag a) (Flag b) v w k p q = ap Flag (flag.join_upper-law a b v w refl p q)
 join_upper (LwwRegister a) (LwwRegister b) v w k p q = ap LwwRegister (register.join_upper-law a b v w refl p q)
-join_upper a b v w k p q = absurd (cc k)
+join_upper a b v w k p q = absurd (two_kinds (kind_of a) (kind_of b) refl k)
 
 pub join_within : (a b : Data) (v w : VersionVector) → kind_of a ≡ kind_of b → IsWithin a v → IsWithin b w → IsWithin (joined a v b w) (join v w)
 join_within (GCounter a) (GCounter b) v w k p q = gcounter.join_within-law a b v w refl p q
@@ -156,7 +179,7 @@ join_within (GSet a) (GSet b) v w k p q = gset.join_within-law a b v w refl p q
 join_within (OrSet a) (OrSet b) v w k p q = orset.join_within-law a b v w refl p q
 join_within (Flag a) (Flag b) v w k p q = flag.join_within-law a b v w refl p q
 join_within (LwwRegister a) (LwwRegister b) v w k p q = register.join_within-law a b v w refl p q
-join_within a b v w k p q = absurd (cc k)
+join_within a b v w k p q = absurd (two_kinds (kind_of a) (kind_of b) refl k)
 
 pub absorb_applied : (state : Data) (mine : VersionVector) (op : Op) (dot : Dot) → IsWithin state mine → mine dot.origin < dot.seq → absorbed state mine (delta_of state op dot) ≡ applied state op dot
 absorb_applied (GCounter state) mine op dot p l = ap GCounter (gcounter.absorb_applied-law state mine op dot p l)
@@ -174,7 +197,7 @@ absorb_combined (GSet state) mine (changes.GSet first) (changes.GSet later) orig
 absorb_combined (OrSet state) mine (changes.OrSet first) (changes.OrSet later) origin e f p q apart = ap OrSet (orset.absorb_combined-law state mine first later origin refl refl p q apart)
 absorb_combined (Flag state) mine (changes.Flag first) (changes.Flag later) origin e f p q apart = ap Flag (flag.absorb_combined-law state mine first later origin refl refl p q apart)
 absorb_combined (LwwRegister state) mine (changes.LwwRegister first) (changes.LwwRegister later) origin e f p q apart = ap LwwRegister (register.absorb_combined-law state mine first later origin refl refl p q apart)
-absorb_combined state mine first later origin e f p q apart = absurd (cc (e, f))
+absorb_combined state mine first later origin e f p q apart = absurd (not_both (fits_kind (kind_of state) first) (fits_kind (kind_of state) later) refl e f)
 
 pub data_empty : (kind : Kind) (log : History Op) (held : VersionVector) (gone : IdentitySet) → ((i : ℕ) → held i ≡ 0) → IsDataOf (empty_of kind) log held gone
 data_empty kinds.GCounter log held gone none = gcounter.data_empty-law tt log held gone none
@@ -202,7 +225,7 @@ data_joined (GSet state) (GSet other) log held also gone k h j p d e = gset.data
 data_joined (OrSet state) (OrSet other) log held also gone k h j p d e = orset.data_joined-law state other log held also gone refl h j p d e
 data_joined (Flag state) (Flag other) log held also gone k h j p d e = flag.data_joined-law state other log held also gone refl h j p d e
 data_joined (LwwRegister state) (LwwRegister other) log held also gone k h j p d e = register.data_joined-law state other log held also gone refl h j p d e
-data_joined state other log held also gone k h j p d e = absurd (cc k)
+data_joined state other log held also gone k h j p d e = absurd (two_kinds (kind_of state) (kind_of other) refl k)
 
 pub data_absorbed : (state : Data) (change : Delta) (log : History Op) (held : VersionVector) (gone : IdentitySet) (origin after to : ℕ) → fits_kind (kind_of state) change ≡ true → IsPrunedCut log held gone → IsConsistentCut log (with_at held origin to) → AreOperations log origin after to
     → IsDataOf state log held gone → IsDeltaOf change log origin after to → gone origin ≡ false → after ≤ held origin → held origin < to → IsDataOf (absorbed state (without gone held) change) log (with_at held origin to) gone
@@ -212,7 +235,7 @@ data_absorbed (GSet state) (changes.GSet change) log held gone origin after to f
 data_absorbed (OrSet state) (changes.OrSet change) log held gone origin after to fits p j u is made stays l m = orset.data_absorbed-law state change log held gone origin after to refl p j u is made stays l m
 data_absorbed (Flag state) (changes.Flag change) log held gone origin after to fits p j u is made stays l m = flag.data_absorbed-law state change log held gone origin after to refl p j u is made stays l m
 data_absorbed (LwwRegister state) (changes.LwwRegister change) log held gone origin after to fits p j u is made stays l m = register.data_absorbed-law state change log held gone origin after to refl p j u is made stays l m
-data_absorbed state change log held gone origin after to fits p j u is made stays l m = absurd (cc fits)
+data_absorbed state change log held gone origin after to fits p j u is made stays l m = absurd (false≢true fits)
 
 pub data_cleaned : (state : Data) (log : History Op) (held : VersionVector) (gone : IdentitySet) (removed : ℕ) → IsDataOf state log held gone → IsDataOf (cleaned state removed) log held (with_member gone removed)
 data_cleaned (GCounter state) log held gone removed is = gcounter.data_cleaned-law state log held gone removed is
@@ -239,7 +262,7 @@ delta_combined kinds.GSet (changes.GSet first) (changes.GSet later) log origin a
 delta_combined kinds.OrSet (changes.OrSet first) (changes.OrSet later) log origin after mid to e f d g = orset.delta_combined-law tt first later log origin after mid to refl refl d g
 delta_combined kinds.Flag (changes.Flag first) (changes.Flag later) log origin after mid to e f d g = flag.delta_combined-law tt first later log origin after mid to refl refl d g
 delta_combined kinds.LwwRegister (changes.LwwRegister first) (changes.LwwRegister later) log origin after mid to e f d g = register.delta_combined-law tt first later log origin after mid to refl refl d g
-delta_combined kind first later log origin after mid to e f d g = absurd (cc (e, f))
+delta_combined kind first later log origin after mid to e f d g = absurd (not_both (fits_kind kind first) (fits_kind kind later) refl e f)
 
 pub data_within : (state : Data) (log : History Op) (held : VersionVector) (gone : IdentitySet) → IsDataOf state log held gone → IsWithin state (without gone held)
 data_within (GCounter state) log held gone is = gcounter.data_within-law state log held gone is
@@ -264,7 +287,7 @@ data_once (GSet state) (GSet other) log held gone k p q = ap GSet (gset.data_onc
 data_once (OrSet state) (OrSet other) log held gone k p q = ap OrSet (orset.data_once-law state other log held gone refl p q)
 data_once (Flag state) (Flag other) log held gone k p q = ap Flag (flag.data_once-law state other log held gone refl p q)
 data_once (LwwRegister state) (LwwRegister other) log held gone k p q = ap LwwRegister (register.data_once-law state other log held gone refl p q)
-data_once state other log held gone k p q = absurd (cc k)
+data_once state other log held gone k p q = absurd (two_kinds (kind_of state) (kind_of other) refl k)
 
 -- WHAT ANY VALUE MENTIONS
 

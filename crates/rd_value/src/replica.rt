@@ -100,12 +100,12 @@ impl Replica for Data {
 
     fn apply(&mut self, alloc: Global, op: &Op, dot: Dot) -> Result<Delta, ApplyError> {
         match self {
-            Data::GCounter(state) => Ok(Delta::GCounter(state.apply(alloc, op, dot)?)),
-            Data::PnCounter(state) => Ok(Delta::PnCounter(state.apply(alloc, op, dot)?)),
-            Data::GSet(state) => Ok(Delta::GSet(state.apply(alloc, op, dot)?)),
-            Data::OrSet(state) => Ok(Delta::OrSet(state.apply(alloc, op, dot)?)),
-            Data::Flag(state) => Ok(Delta::Flag(state.apply(alloc, op, dot)?)),
-            Data::LwwRegister(state) => Ok(Delta::LwwRegister(state.apply(alloc, op, dot)?)),
+            Data::GCounter(state) => state.apply(alloc, op, dot).map(Delta::GCounter),
+            Data::PnCounter(state) => state.apply(alloc, op, dot).map(Delta::PnCounter),
+            Data::GSet(state) => state.apply(alloc, op, dot).map(Delta::GSet),
+            Data::OrSet(state) => state.apply(alloc, op, dot).map(Delta::OrSet),
+            Data::Flag(state) => state.apply(alloc, op, dot).map(Delta::Flag),
+            Data::LwwRegister(state) => state.apply(alloc, op, dot).map(Delta::LwwRegister),
         }
     }
 
@@ -203,14 +203,14 @@ impl Replica for Data {
 
     fn copy_delta(alloc: Global, delta: &Delta) -> Result<Delta, Memory> {
         match delta {
-            Delta::GCounter(change) => Ok(Delta::GCounter(GCounter::copy_delta(alloc, change)?)),
-            Delta::PnCounter(change) => Ok(Delta::PnCounter(PnCounter::copy_delta(alloc, change)?)),
-            Delta::GSet(change) => Ok(Delta::GSet(GSet::copy_delta(alloc, change)?)),
-            Delta::OrSet(change) => Ok(Delta::OrSet(OrSet::copy_delta(alloc, change)?)),
-            Delta::Flag(change) => Ok(Delta::Flag(Flag::copy_delta(alloc, change)?)),
-            Delta::LwwRegister(change) => Ok(Delta::LwwRegister(LwwRegister::copy_delta(
-                alloc, change,
-            )?)),
+            Delta::GCounter(change) => GCounter::copy_delta(alloc, change).map(Delta::GCounter),
+            Delta::PnCounter(change) => PnCounter::copy_delta(alloc, change).map(Delta::PnCounter),
+            Delta::GSet(change) => GSet::copy_delta(alloc, change).map(Delta::GSet),
+            Delta::OrSet(change) => OrSet::copy_delta(alloc, change).map(Delta::OrSet),
+            Delta::Flag(change) => Flag::copy_delta(alloc, change).map(Delta::Flag),
+            Delta::LwwRegister(change) => LwwRegister::copy_delta(alloc, change).map(
+                Delta::LwwRegister,
+            ),
         }
     }
 

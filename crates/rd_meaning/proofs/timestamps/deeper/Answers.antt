@@ -1,6 +1,6 @@
-use Rattle.std.proofs.Common.{◌≡◌, ◌≤◌, ◌+◌, ◌++◌, [], ◌∷◌, ℕ, map, take, All, ap, sym, ◌∙◌, subst}
+use Rattle.std.proofs.Common.{◌≤◌, ◌+◌, ◌++◌, [], ◌∷◌, map, take, All, ap, sym, ◌∙◌, subst}
 use Rattle.std.specs.List.{zip}
-use Rattle.std.proofs.lemmas.List.{take_more, map-append}
+use Rattle.std.proofs.lemmas.List.{take_all}
 use Rattle.std.proofs.lemmas.List.Elements.{All-push}
 use Rattle.rd_meaning.specs.declared.record.Record.{Record}
 use Rattle.rd_meaning.specs.Stamping.{timestamp_by}
@@ -15,3 +15,11 @@ loop-record-preserved c = record {
   range = λ limit low all.
       subst (All (λ t. t ≤ limit + 1)) (sym c.in_ok-append.ensures) (All-push (λ t. t ≤ limit + 1) c.loop-record.more.items c.timestamp.result (c.loop-record.invariant.range limit low all) (c.timestamp.ensures.range limit low all));
 }
+
+pub returns-clause-value : goal.returns-clause-value
+returns-clause-value c =
+    c.loop-record.invariant.value
+    ∙ ap (map (λ (r : Record). timestamp_by (zip c.args.records.now c.args.timestamps.now) r.past r.action)) (take_all c.loop-record.record-index c.args.records.now c.loop-record-test.false)
+
+pub returns-clause-range : goal.returns-clause-range
+returns-clause-range c = c.loop-record.invariant.range

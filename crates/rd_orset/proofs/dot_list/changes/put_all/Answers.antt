@@ -1,10 +1,19 @@
-use Rattle.std.proofs.Common.{◌+◌, ◌-◌, ◌≤◌, length, sym, subst, ◌∙◌, arith}
+use Rattle.std.proofs.Common.{◌+◌, ◌-◌, ◌≤◌, List, length, true, sym, subst, ◌∙◌, arith}
+use Rattle.std.proofs.lemmas.List.{take_all}
 use Rattle.rd_vectors.specs.declared.id.Dot.{Dot}
 use Rattle.std.proofs.Common.{◌^◌}
+use Rattle.rd_orset.specs.Placing.{Placed, AreDots}
+use Rattle.rd_orset.specs.Keeping.{AreMerged}
 use Rattle.rd_orset.specs.Spots.{dots_in}
 use Rattle.rd_orset.proofs.Uniting.{unite_start, united_more, united_same, numbered_at}
 use Rattle.rd_orset.proofs.dot_list.changes.put_all.Goals as goal
 use Rattle.rd_orset.proofs.dot_list.changes.put_all.Goals.{then-keeps+in_ok-put, else-keeps}
+
+pub returns-in_err-reserve-clause-fits : goal.returns-in_err-reserve-clause-fits
+returns-in_err-reserve-clause-fits g c = λ room. absurd (omega (arith, room.0, c.in_err-reserve.ensures.full, c.len.ensures))
+
+pub returns-in_err-reserve-2-clause-fits : goal.returns-in_err-reserve-2-clause-fits
+returns-in_err-reserve-2-clause-fits g c = λ room. absurd (omega (arith, room.1, c.in_err-reserve-2.ensures.full, c.len-2.ensures))
 
 pub loop-index-init : goal.loop-index-init
 loop-index-init g c = rw (c.in_ok-reserve.ensures.items, c.in_ok-reserve-2.ensures.items) (record {
@@ -16,6 +25,15 @@ loop-index-init g c = rw (c.in_ok-reserve.ensures.items, c.in_ok-reserve-2.ensur
 pub put-requires-clause-seq : goal.put-requires-clause-seq
 put-requires-clause-seq g c =
     subst (λ (d : Dot). (1 ≤ d.seq) × (d.seq ≤ 2 ^ 62)) (sym c.dot.ensures) (numbered_at c.args.dots.now c.loop-index.index c.requires.theirs (omega (arith, c.loop-index-test.true, c.len-index-end.ensures)))
+
+pub returns-in_err-put-clause-dots : goal.returns-in_err-put-clause-dots
+returns-in_err-put-clause-dots g c = subst AreDots (sym c.in_err-put.ensures.err) c.loop-index.invariant.united.dots
+
+pub returns-in_err-put-clause-err : goal.returns-in_err-put-clause-err
+returns-in_err-put-clause-err g c =
+    let never = (c.in_err-put.ensures.fits (length c.args.dots.now - (c.loop-index.index + 1))
+    (omega (arith, c.loop-index.invariant.room.0, c.loop-index-test.true, c.len-index-end.ensures), omega (arith, c.loop-index.invariant.room.1, c.loop-index-test.true, c.len-index-end.ensures))).0 in
+    absurd (cc never)
 
 pub returns-in_err-put-clause-fits : goal.returns-in_err-put-clause-fits
 returns-in_err-put-clause-fits g c = λ _.
@@ -41,3 +59,11 @@ loop-index-preserved g c = elim c.if-keeps.branch [
     room = (omega (arith, c.loop-index.invariant.room.0), omega (arith, c.loop-index.invariant.room.1));
   })
 ]
+
+pub returns-clause-dots : goal.returns-clause-dots
+returns-clause-dots g c = c.loop-index.invariant.united.dots
+
+pub returns-clause-ok : goal.returns-clause-ok
+returns-clause-ok g c =
+    subst (λ (ps : List Placed). AreMerged true (λ _. true) (g.R.Rule.keeps c.args.rule.now) (dots_in c.args.texts.now.items c.args.spots.now.items) ps (dots_in c.loop-index.texts.items c.loop-index.spots.items))
+    (take_all c.loop-index.index c.args.dots.now (omega (arith, c.loop-index-test.false, c.len-index-end.ensures))) c.loop-index.invariant.united
