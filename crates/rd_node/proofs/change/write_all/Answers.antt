@@ -1,7 +1,16 @@
-use Rattle.std.proofs.Common.{◌≡◌, ◌<◌, ◌+◌, ◌≤◌, length, take, get_or, refl, sym, ap, ◌∙◌, subst, arith, vec_len, length-set}
+use Rattle.std.proofs.Common.{◌≡◌, ◌<◌, ◌+◌, ◌≤◌, length, take, get_or, refl, sym, ap, ◌∙◌, subst, arith, vec_len, length-set, take_all}
 use Rattle.rd_node.proofs.Common.{changed}
 use Rattle.rd_node.proofs.Lists.{still_unwritten, written_more, last_left, rest_left}
 use Rattle.rd_node.proofs.change.write_all.Goals as goal
+
+pub loop-change-init : goal.loop-change-init
+loop-change-init g c = record {
+  same_length = refl;
+  few = omega arith;
+  left = sym (take_all (vec_len c.args.changes) c.args.changes.items (omega (arith, c.args.changes.ok.0)));
+  unwritten = λ k d below. refl;
+  written = λ k d e above inside. absurd (omega arith);
+}
 
 pub loop-change-preserved : goal.loop-change-preserved
 loop-change-preserved g c =

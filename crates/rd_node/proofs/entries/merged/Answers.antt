@@ -1,4 +1,5 @@
-use Rattle.std.proofs.Common.{◌≡◌, refl, sym, ap, ◌∙◌, subst, Option, Some, None, option_copied}
+use Rattle.std.proofs.Common.{◌≡◌, length, refl, sym, ap, ◌∙◌, subst, Option, Some, None, option_copied}
+use Rattle.std.proofs.lemmas.List.{length-map}
 use Rattle.std.specs.Vec.{with_items}
 use Rattle.rd_node.proofs.Common.{take_entry, after_entries, StandsForKeyed, AreMade, IsEntryPassedOver, TellsEntries, IsKept, AreExactAt, IsAtWork}
 use Rattle.rd_node.specs.Inputs.{keyed_envelope}
@@ -9,6 +10,9 @@ use Rattle.rd_node.proofs.entries.merged.Goals as goal
 is_none : {A : Type 0} (o : Option A) → ((x : A) → o ≡ Some x → ⊥) → o ≡ None
 is_none None never = refl
 is_none (Some x) never = absurd (never x refl)
+
+pub take_envelope-requires : goal.take_envelope-requires
+take_envelope-requires g c = ap length (c.as_mut_slice.ensures.value ∙ c.in_ok-changes.ensures) ∙ length-map c.args.keys.now _
 
 pub returns-in_default-clause-kept : goal.returns-in_default-clause-kept
 returns-in_default-clause-kept g c = kept_first g.T.Replica.kind_of c.args.id c.args.keys.now c.in_ok-changes.changes.items c.in_ok-changes.ensures

@@ -2,6 +2,12 @@ use Rattle.std.proofs.Common.{set, sym, ap, ◌∙◌}
 use Rattle.rd_node.proofs.Common.{recorded}
 use Rattle.rd_node.proofs.plan.record_at.Goals as goal
 
+pub bounds-keys-index : goal.bounds-keys-index
+bounds-keys-index g c = c.requires.within
+
+pub record-requires : goal.record-requires
+record-requires g c = c.requires.recordable c.index-keys-index.result
+
 pub returns : goal.returns
 returns g c =
     let at = c.index-keys-index.result in

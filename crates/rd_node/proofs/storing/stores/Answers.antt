@@ -5,6 +5,14 @@ use Rattle.rd_node.proofs.Making.{put_of, put_all_keys, spelled_more, spelled_st
 use Rattle.rd_node.proofs.storing.stores.Goals as goal
 use Rattle.rd_node.proofs.storing.stores.Goals.{in-Some+in_ok-add, in_default}
 
+pub loop-index-init : goal.loop-index-init
+loop-index-init g c = λ kinds logs old next same same' held leads. record { these = c.new-stores.ensures; kept = λ k d none. absurd (omega arith) }
+
+pub add-requires : goal.add-requires
+add-requires g c =
+    c.requires c.loop-index.index c.index-keys-index.result c.in-Some.entry.now c.loop-index-test.true (sym c.in-Some.ensures)
+    ∙ ap (λ (state : KeyState g.row.T.Denot g.row.T-Kind.Denot g.row.T-Op.Denot g.row.T-Delta.Denot). state.kind) (sym c.index-keys-index.is)
+
 pub loop-index-preserved : goal.loop-index-preserved
 loop-index-preserved g c = λ kinds logs old next same same' held leads.
     let R = g.T.Replica in

@@ -2,6 +2,12 @@ use Rattle.std.proofs.Common.{set, sym, ap, ◌∙◌}
 use Rattle.rd_node.proofs.Common.{ticked}
 use Rattle.rd_node.proofs.ticking.write_at.Goals as goal
 
+pub bounds-keys-index : goal.bounds-keys-index
+bounds-keys-index g c = c.requires.within
+
+pub write-requires : goal.write-requires
+write-requires g c = c.requires.follows c.index-keys-index.result
+
 pub returns : goal.returns
 returns g c =
     let at = c.index-keys-index.result in

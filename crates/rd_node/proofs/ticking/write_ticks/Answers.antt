@@ -1,8 +1,17 @@
-use Rattle.std.proofs.Common.{◌≡◌, ◌<◌, ◌+◌, ◌≤◌, length, take, get_or, refl, sym, ap, ◌∙◌, subst, arith, vec_len, length-set}
+use Rattle.std.proofs.Common.{◌≡◌, ◌<◌, ◌+◌, ◌≤◌, length, take, get_or, refl, sym, ap, ◌∙◌, subst, arith, vec_len, length-set, take_all}
 use Rattle.rd_node.proofs.Common.{ticked}
 use Rattle.rd_node.specs.Planning.{CanFollow}
 use Rattle.rd_node.proofs.Lists.{still_unwritten, written_more, last_left, rest_left}
 use Rattle.rd_node.proofs.ticking.write_ticks.Goals as goal
+
+pub loop-tick-init : goal.loop-tick-init
+loop-tick-init g c = record {
+  same_length = refl;
+  few = omega (arith, c.requires.one_each, c.args.ticks.ok.0);
+  left = sym (take_all (vec_len c.args.ticks) c.args.ticks.items (omega (arith, c.args.ticks.ok.0)));
+  unwritten = λ k d below. refl;
+  written = λ k d e above inside. absurd (omega (arith, c.requires.one_each, c.args.ticks.ok.0));
+}
 
 pub loop-tick-preserved : goal.loop-tick-preserved
 loop-tick-preserved g c =

@@ -1,4 +1,4 @@
-use Rattle.std.proofs.Common.{take, [], ◌∷◌, ◌++◌, sym, ap, ◌∙◌, subst, map, All}
+use Rattle.std.proofs.Common.{take, [], ◌∷◌, ◌++◌, sym, ap, ◌∙◌, subst, arith, map, take_all, All}
 use Rattle.std.proofs.lemmas.List.{map_more, map-append}
 use Rattle.std.proofs.lemmas.List.Elements.{All-push}
 use Rattle.rd_node.proofs.Common.{declared_by, IsFresh}
@@ -18,3 +18,13 @@ loop-decl-preserved g c =
           ∙ sym (map_more declared c.args.keys.now c.loop-decl.decl-index c.decl-item.result c.loop-decl-test.true);
       fresh = subst (All fresh) (sym c.in_ok-push.ensures.ok) (All-push fresh states state c.loop-decl.invariant.fresh c.in_ok-new.ensures.fresh);
     }
+
+pub returns-clause-declared : goal.returns-clause-declared
+returns-clause-declared g c =
+    let all = take_all c.loop-decl.decl-index c.args.keys.now (omega arith) in
+    ap (map declared_by) c.into_vec.ensures ∙ c.loop-decl.invariant.declared ∙ ap (map declared) all
+
+pub returns-clause-fresh : goal.returns-clause-fresh
+returns-clause-fresh g c =
+    let fresh = IsFresh g.T.Replica.kind_of g.T.Replica.IsDataOf g.T.Replica.IsDeltaOf c.args.id in
+    subst (All fresh) (sym c.into_vec.ensures) c.loop-decl.invariant.fresh

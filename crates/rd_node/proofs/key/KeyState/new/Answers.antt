@@ -16,3 +16,8 @@ returns-clause-fresh g c =
       image = λ log histories. subst (λ entry. StandsFor R.IsDataOf (parts_of entry) log empty_entry) (sym c.new-2.ensures) (c.new.ensures.image log histories);
       logged = λ log histories. c.new-3.ensures.image log empty_entry histories (c.new.ensures.image log histories).taken refl;
     }
+
+pub returns-clause-declared : goal.returns-clause-declared
+returns-clause-declared g c =
+    let decl = c.args.decl.now in
+    ap (λ name. record { name = name; kind = decl.kind; durable = decl.durable }) c.in_ok-name.ensures

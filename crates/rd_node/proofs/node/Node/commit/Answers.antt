@@ -1,4 +1,4 @@
-use Rattle.std.proofs.Common.{rules, ℕ, ◌+◌, ◌≤◌, List, [], ◌∷◌, length, sym, subst, arith, length-set, length-append, ◌≡◌, ap, ◌∙◌, Vec}
+use Rattle.std.proofs.Common.{rules, refl, ℕ, ◌+◌, ◌≤◌, List, [], ◌∷◌, length, sym, subst, arith, length-set, length-append, ◌≡◌, ap, ◌∙◌, Vec}
 use Rattle.std.specs.Vec.{with_items}
 use Rattle.std.proofs.lemmas.List.{with_items_is}
 use Rattle.rd_node.proofs.Common.{Open, Put, changed_operations, AreOwned, recorded, KeyState, Nothing, At}
@@ -31,6 +31,16 @@ few_changed : (operations : List Operation) (change : OperationChange) (n : ℕ)
 few_changed operations Same n few = omega arith
 few_changed operations (Opened next) n few = let more = length-append operations (Open next.asked ∷ []) in omega arith
 few_changed operations (Put op operation) n few = let same = length-set operations op operation in omega arith
+
+pub returns : goal.returns
+returns g c = record {
+  planned = planned_back c.args.self.now.keys c.as_mut_slice.result.now c.carry_out.new.keys c.args.plan c.as_mut_slice.ensures.value c.carry_out.ensures;
+  operated = c.change.ensures;
+  viewed = c.install.ensures;
+  counted = refl;
+  identity = refl;
+  keeper = refl;
+}
 
 pub invariant_of-self : goal.invariant_of-self
 invariant_of-self g c = record {
