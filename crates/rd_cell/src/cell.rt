@@ -1,3 +1,5 @@
+ghost use Rattle.std.specs.Prelude.{◌≡◌, ◌<◌, IsTrue, vec_len, vec_capacity};
+
 use crate::name::Name;
 use crate::note::Note;
 use crate::receipt::Receipt;
@@ -243,8 +245,7 @@ impl<M: Machine, N: Name, P: Spot> Cell<M, N, P> {
         if index >= MOST {
             return Err(CellError::CellFull);
         }
-        let calls = MOST_CALLS.saturating_sub(session.calls.len()).max(1);
-        if self.history.reserve(MOST - index).is_err() || session.calls.reserve(calls).is_err() {
+        if !make_room(&mut self.history, &mut session.calls) {
             return Err(CellError::Memory);
         }
         let (fate, output, answer) = match self.machine.step(&input) {
@@ -270,4 +271,15 @@ impl<M: Machine, N: Name, P: Spot> Cell<M, N, P> {
             output: answer,
         })
     }
+}
+
+// Takes the memory of a whole history and of all calls of a session, and tells whether it was there.
+fn make_room<E>(history: &mut Vec<E>, calls: &mut Vec<(usize, usize)>) -> bool
+    requires { vec_len history.old < MOST }
+    ensures history { history.new.items ≡ history.old.items }
+    ensures calls { calls.new.items ≡ calls.old.items }
+    ensures room { IsTrue result → (vec_len history.new < vec_capacity history.new) × (vec_len calls.new < vec_capacity calls.new) }
+{
+    let more = MOST_CALLS.saturating_sub(calls.len()).max(1);
+    history.reserve(MOST - history.len()).is_ok() && calls.reserve(more).is_ok()
 }

@@ -3,9 +3,11 @@ ghost use Rattle.std.specs.Prelude.{◌≡◌};
 use crate::clients::by_two;
 use crate::shelf::{Fate, Shelf};
 use crate::tally::Tally;
+use rd_cell::calls::OwnCalls;
 use rd_cell::histories::Histories;
 use rd_cell::name::Name;
 use rd_cell::unnamed::Unnamed;
+use rd_machine::entry::Entry;
 use rd_machine::machines::Machines;
 use std::alloc::Global;
 use std::marker::Brand;
@@ -59,33 +61,65 @@ fn added<N: Name + Send + Sync, R: Threads + Wait + Abort + Sync>(
     let ran = by_two::<N, R>(rt, alloc, unnamed).ok_or("both add")?;
     totals(rt, &ran.closed.machines)?;
     entries(rt, &ran.closed.histories);
-    let calls = &ran.closed.calls;
-    assert_eq!(rt; calls.len(), 2);
-    assert_eq!(rt; (calls[0].calls.len(), calls[1].calls.len()), (2, 2));
-    let (first, second) = ran.stamps;
-    assert!(rt; first != second && first <= 4 && second <= 4);
-    let (first, second) = ran.seen;
-    assert!(rt; (first == 12 || second == 12) && first >= 5 && second >= 7);
+    calls(rt, &ran.closed.calls);
+    stamps(rt, ran.stamps);
+    seen(rt, ran.seen);
     Ok(())
 }
 
 fn totals(rt: &impl Abort, machines: &Machines<Tally>) -> Result<(), Fail> {
-    let one = machines.p0.as_ref().ok_or("the first")?;
-    let two = machines.p1.as_ref().ok_or("the second")?;
-    assert_eq!(rt; one.total, 12);
-    assert!(rt; two.total == 100 + 5 + 12 || two.total == 100 + 7 + 12);
-    assert!(rt; one.shelf.number == 5 || one.shelf.number == 7);
-    assert_eq!(rt; two.shelf.number, two.total);
-    assert_eq!(rt; (one.shelf.faults, two.shelf.faults), (1, 1));
+    first(rt, machines.p0.as_ref().ok_or("the first")?);
+    second(rt, machines.p1.as_ref().ok_or("the second")?);
     Ok(())
 }
 
+// The shelf holds the first total.
+fn first(rt: &impl Abort, one: &Tally) {
+    assert_eq!(rt; (one.total, one.shelf.faults), (12, 1));
+    assert!(rt; one.shelf.number == 5 || one.shelf.number == 7);
+}
+
+// The shelf holds the last total.
+fn second(rt: &impl Abort, two: &Tally) {
+    assert!(rt; two.total == 100 + 5 + 12 || two.total == 100 + 7 + 12);
+    assert_eq!(rt; (two.shelf.number, two.shelf.faults), (two.total, 1));
+}
+
 fn entries(rt: &impl Abort, histories: &Histories<Tally>) {
-    let one = &histories.p0;
-    let two = &histories.p1;
-    assert_eq!(rt; (one.len(), two.len(), histories.p2.len()), (2, 2, 0));
-    assert_eq!(rt; (one[0].fate, one[1].fate), (Fate::Kept, Fate::Lost));
-    assert_eq!(rt; (two[0].fate, two[1].fate), (Fate::Lost, Fate::Kept));
-    assert!(rt; one[0].stamp < one[1].stamp && two[0].stamp < two[1].stamp);
-    assert!(rt; one[0].client != one[1].client && two[0].client != two[1].client);
+    assert_eq!(rt; fates(rt, &histories.p0), (Fate::Kept, Fate::Lost));
+    assert_eq!(rt; fates(rt, &histories.p1), (Fate::Lost, Fate::Kept));
+    assert_eq!(rt; histories.p2.len(), 0);
+}
+
+// The fates of two entries, by one client each, whose stamps rise.
+fn fates(rt: &impl Abort, history: &[Entry<Tally>]) -> (Fate, Fate) {
+    match history {
+        [first, second] => {
+            assert!(rt; first.stamp < second.stamp);
+            assert!(rt; first.client != second.client);
+            (first.fate, second.fate)
+        }
+        _ => panic!(rt; "a history of two entries"),
+    }
+}
+
+// Each client made two calls.
+fn calls(rt: &impl Abort, calls: &[OwnCalls]) {
+    match calls {
+        [first, second] => {
+            assert_eq!(rt; (first.calls.len(), second.calls.len()), (2, 2));
+        }
+        _ => panic!(rt; "the calls of two clients"),
+    }
+}
+
+fn stamps(rt: &impl Abort, stamps: (u64, u64)) {
+    let (first, second) = stamps;
+    assert!(rt; first != second && first <= 4 && second <= 4);
+}
+
+// One client saw both amounts, and each its own.
+fn seen(rt: &impl Abort, seen: (u64, u64)) {
+    let (first, second) = seen;
+    assert!(rt; (first == 12 || second == 12) && first >= 5 && second >= 7);
 }
