@@ -1,4 +1,4 @@
-use Rattle.std.proofs.Common.{sym, subst, bytes_eq}
+use Rattle.std.proofs.Common.{rules, ◌<◌, length, sym, subst, bytes_eq}
 use Rattle.rd_node.proofs.Common.{parts_of}
 use Rattle.rd_node.specs.Restoring.{IsFitFor}
 use Rattle.rd_node.proofs.Lists.{position-found, position-none}
@@ -12,6 +12,12 @@ returns-in_default-clause-unsound g c = λ e.
 
 pub bounds-keys-index : goal.bounds-keys-index
 bounds-keys-index g c = (position-found (λ state. bytes_eq state.name c.args.stored.now.key) c.args.keys.now c.in-Some.index c.in-Some.ensures).within
+
+pub offset_bounds-keys-index : goal.offset_bounds-keys-index
+offset_bounds-keys-index g c =
+    let found = position-found (λ state. bytes_eq state.name c.args.stored.now.key) c.args.keys.now c.in-Some.index c.in-Some.ensures in
+    let inside : c.in-Some.index < length c.args.keys.now = found.within in
+    search rules
 
 pub read_for-requires : goal.read_for-requires
 read_for-requires g c =

@@ -23,6 +23,9 @@ loop-stored-init g c = record {
   sound = sound_none g.T.Replica g.T.SpelledData c.args.keys.now c.args.id c.args.view.now.given;
 }
 
+pub read_kept-requires-clause-distinct : goal.read_kept-requires-clause-distinct
+read_kept-requires-clause-distinct g c = c.requires.distinct
+
 pub take_at-requires : goal.take_at-requires
 take_at-requires g c =
     let l = same_length c.loop-stored.states c.args.keys.now c.loop-stored.invariant.declared in

@@ -1,4 +1,5 @@
 use Rattle.std.proofs.Common.{rules, ◌≤◌, [], ◌++◌, length, ap, sym, ◌∙◌, subst}
+use Rattle.std.proofs.lemmas.List.{length-map}
 use Rattle.std.specs.List.{AllZip}
 use Rattle.std.specs.Vec.{with_items}
 use Rattle.rd_node.proofs.Common.{after_groups, after_entries, named_entries, gossip_to, Shown, StandsForKeyed, StandsForPosts, delta_groups, AreMade, TellsGroups, TellsEntries, IsKept, LeadsTo, AreExactAt, IsAtWork}
@@ -73,7 +74,7 @@ returns g c =
       ends_none = search rules;
     }
 
--- each key has one change
+-- each key has one change, at each step
 pub any_changed-changed-requires : goal.any_changed-changed-requires
 any_changed-changed-requires g c =
     let Kept = IsKept g.T.Replica.kind_of c.args.id in
@@ -86,3 +87,29 @@ any_changed-changed-requires g c =
     let k1' = subst (AreMade Kept keys) (sym (items_back Kept keys first one k0 k1)) k1 in
     let k2 = c.in_ok-take_entries.ensures.kept (subst (AreMade Kept keys) (sym c.as_mut_slice-2.ensures.value) k1') in
     ap length (c.deref-2.ensures.value ∙ items_back Kept keys (with_items first one) two k1' k2) ∙ k2.one_each
+
+pub take_groups-requires : goal.take_groups-requires
+take_groups-requires g c = ap length (c.as_mut_slice.ensures.value ∙ c.in_ok-changes.ensures) ∙ length-map c.args.keys.now _
+
+pub take_entries-requires : goal.take_entries-requires
+take_entries-requires g c =
+    let Kept = IsKept g.T.Replica.kind_of c.args.id in
+    let keys = c.args.keys.now in
+    let first = c.in_ok-changes.changes in
+    let one = c.take_groups.new.changes in
+    let k0 = kept_first g.T.Replica.kind_of c.args.id keys first.items c.in_ok-changes.ensures in
+    let k1 = c.in_ok-gaps.ensures.kept (subst (AreMade Kept keys) (sym c.as_mut_slice.ensures.value) k0) in
+    ap length (c.as_mut_slice-2.ensures.value ∙ items_back Kept keys first one k0 k1) ∙ k1.one_each
+
+pub named-requires : goal.named-requires
+named-requires g c =
+    let Kept = IsKept g.T.Replica.kind_of c.args.id in
+    let keys = c.args.keys.now in
+    let first = c.in_ok-changes.changes in
+    let one = c.take_groups.new.changes in
+    let two = c.take_entries.new.changes in
+    let k0 = kept_first g.T.Replica.kind_of c.args.id keys first.items c.in_ok-changes.ensures in
+    let k1 = c.in_ok-gaps.ensures.kept (subst (AreMade Kept keys) (sym c.as_mut_slice.ensures.value) k0) in
+    let k1' = subst (AreMade Kept keys) (sym (items_back Kept keys first one k0 k1)) k1 in
+    let k2 = c.in_ok-take_entries.ensures.kept (subst (AreMade Kept keys) (sym c.as_mut_slice-2.ensures.value) k1') in
+    ap length (c.deref.ensures.value ∙ items_back Kept keys (with_items first one) two k1' k2) ∙ k2.one_each

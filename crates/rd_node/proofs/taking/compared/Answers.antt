@@ -1,8 +1,11 @@
-use Rattle.std.proofs.Common.{refl}
+use Rattle.std.proofs.Common.{refl, ◌∙◌}
 use Rattle.rd_node.proofs.Takings.{kept_first, leads_first}
 use Rattle.rd_node.proofs.TakingSteps.{holds_held}
 use Rattle.rd_node.specs.Replies.{spelled_groups}
 use Rattle.rd_node.proofs.taking.compared.Goals as goal
+
+pub returns-clause-counted : goal.returns-clause-counted
+returns-clause-counted g c = c.in_ok-changes.changes.ok.0 ∙ (kept_first g.T.Replica.kind_of c.args.id c.args.keys.now c.in_ok-changes.changes.items c.in_ok-changes.ensures).one_each
 
 pub returns-clause-kept : goal.returns-clause-kept
 returns-clause-kept g c = kept_first g.T.Replica.kind_of c.args.id c.args.keys.now c.in_ok-changes.changes.items c.in_ok-changes.ensures

@@ -1,9 +1,18 @@
-use Rattle.std.proofs.Common.{◌++◌, [], ◌∷◌, take, sym, ap, ◌∙◌, subst, arith, flat_map, take_all}
+use Rattle.std.proofs.Common.{◌++◌, [], ◌∷◌, take, sym, ap, ◌∙◌, length, subst, arith, map, flat_map, take_all}
 use Rattle.std.proofs.lemmas.Grind.{flat_map-append}
 use Rattle.rd_node.proofs.Common.{AreMade, delta_groups, IsKeyTick, IsTickedAs, tick_in}
+use Rattle.rd_node.specs.Replies.{meant_at_key}
 use Rattle.rd_node.specs.Ticking.{CanTick, IsDue, TellsMore}
 use Rattle.rd_node.proofs.Lists.{one_more, counted_more, made_more}
 use Rattle.rd_node.proofs.ticking.tick_all.Goals as goal
+
+pub loop-state-init : goal.loop-state-init
+loop-state-init g c = record {
+  counted = ap length c.new-ticks.ensures;
+  own = λ k d e none. absurd (omega arith);
+  image = λ digest kinds logs node ticks due k d e none. absurd (omega arith);
+  told = λ digest kinds logs node ticks due. ap (map meant_at_key) c.new-outcomes.ensures;
+}
 
 pub key_tick-requires : goal.key_tick-requires
 key_tick-requires g c = subst (CanTick g.T.Replica.kind_of c.args.id c.args.removed.now) (sym c.state-item.is) (c.requires c.loop-state.state-index c.state-item.result c.loop-state-test.true)
