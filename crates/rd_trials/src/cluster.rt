@@ -1,9 +1,9 @@
 use crate::member::Member;
-use rd_envelope::{Envelope, Group};
+use rd_envelope::Group;
 use rd_kinds::{Kind, Op};
 use rd_lattice::Replica;
 use rd_trial_parts::{Random, Records};
-use rd_vectors::{Id, VersionVector};
+use rd_vectors::Id;
 use std::alloc::Global;
 use std::test::Fail;
 
@@ -19,6 +19,23 @@ fn members<T: Replica<Kind = Kind, Op = Op>>(
         members.push(Member::new(alloc, kind, id)?)?;
     }
     Ok(members)
+}
+
+/// A member that is to change and another one, where both are there.
+fn two<T: Replica<Kind = Kind, Op = Op>>(
+    members: &mut [Member<T>],
+    at: usize,
+    from: usize,
+) -> Option<(&mut Member<T>, &Member<T>)> {
+    if at.max(from) >= members.len() {
+        return None;
+    }
+    let (low, high) = members.split_at_mut(at.max(from));
+    if at < from {
+        Some((low.get_mut(at)?, high.first()?))
+    } else {
+        Some((high.first_mut()?, low.get(from)?))
+    }
 }
 
 /// Members of one key, and all records that they made.
@@ -64,18 +81,16 @@ impl<T: Replica<Kind = Kind, Op = Op>> Cluster<T> {
         member.update(self.alloc, op, &mut self.records)
     }
 
-    /// What a member has: its entry, and how many records of each identity it has taken.
-    fn had(&self, at: usize) -> Result<(Envelope<T>, VersionVector), Fail> {
-        let member = self.members.get(at).ok_or("member")?;
-        let entry = member.entry.copy(self.alloc)?;
-        Ok((entry, member.taken.copy(self.alloc)?))
-    }
-
-    /// A member takes what another has.
+    /// A member takes what another has, or what it has itself.
     pub(crate) fn merge(&mut self, at: usize, from: usize) -> Result<(), Fail> {
-        let (entry, taken) = self.had(from)?;
-        let member = self.members.get_mut(at).ok_or("member")?;
-        member.merge(&entry, &taken)
+        if at == from {
+            let member = self.members.get_mut(at).ok_or("member")?;
+            return member.merge_own(self.alloc);
+        }
+        match two(&mut self.members, at, from) {
+            Some((member, other)) => member.merge(&other.entry, &other.taken),
+            None => Err("member".into()),
+        }
     }
 
     /// The group of a member's records after a number that another has of them, if there is such a group.
@@ -103,29 +118,33 @@ impl<T: Replica<Kind = Kind, Op = Op>> Cluster<T> {
         Ok(())
     }
 
-    /// The members take what one who leaves has. Who they are.
-    fn take_last(&mut self, removed: &Member<T>) -> Result<Vec<Id>, Fail> {
+    /// A member leaves, and the others take what it has. Who it was.
+    fn leave(&mut self, at: usize) -> Result<Id, Fail> {
+        for other in 0..self.members.len() {
+            if other != at {
+                self.merge(other, at)?;
+            }
+        }
+        if at >= self.members.len() {
+            return Err("member".into());
+        }
+        let removed = self.members.remove(at);
+        Ok(removed.id)
+    }
+
+    /// Who the members are.
+    fn ids(&self) -> Result<Vec<Id>, Fail> {
         let mut ids = Vec::new(self.alloc);
-        for member in self.members.iter_mut() {
-            member.merge(&removed.entry, &removed.taken)?;
+        for member in &self.members {
             ids.push(member.id)?;
         }
         Ok(ids)
     }
 
-    /// A member leaves, and the others take its last entry. Who it was, and who they are.
-    fn leave(&mut self, at: usize) -> Result<(Id, Vec<Id>), Fail> {
-        if at >= self.members.len() {
-            return Err("member".into());
-        }
-        let removed = self.members.remove(at);
-        let ids = self.take_last(&removed)?;
-        Ok((removed.id, ids))
-    }
-
     /// A member leaves: the others take its last entry, and one of them prunes it, if there is anything to prune.
     pub(crate) fn prune(&mut self, at: usize, owner: usize, view: u32) -> Result<(), Fail> {
-        let (removed, ids) = self.leave(at)?;
+        let removed = self.leave(at)?;
+        let ids = self.ids()?;
         let owner = self.members.get_mut(owner).ok_or("member")?;
         if owner.prune(self.alloc, removed, view, &ids, &mut self.records)? {
             self.prunes = self.prunes.saturating_add(1);

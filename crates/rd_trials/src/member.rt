@@ -71,6 +71,12 @@ impl<T: Replica<Kind = Kind, Op = Op>> Member<T> {
         Ok(())
     }
 
+    /// Takes what it has itself.
+    pub(crate) fn merge_own(&mut self, alloc: Global) -> Result<(), Fail> {
+        let entry = self.entry.copy(alloc)?;
+        Ok(self.entry.merge(&entry)?)
+    }
+
     /// Logs a record that the member made, and adds it to the records of all.
     fn note(
         &mut self,

@@ -117,18 +117,28 @@ fn check_raised(alloc: Global, bytes: &[u8], places: &[u8]) -> Result<(), Fail> 
     Ok(())
 }
 
-/// What is read is spelled so, and has this digest.
-fn check_spelling<T: SpelledData>(alloc: Global, bytes: &[u8], sha1: &[u8]) -> Result<(), Fail> {
-    let Ok(envelope) = read::<T>(alloc, bytes) else {
-        return Err("not read".into());
-    };
-    if !is_spelled(alloc, &envelope, bytes)? {
+/// An entry is spelled so, and has this digest.
+fn check_envelope<T: SpelledData>(
+    alloc: Global,
+    envelope: &Envelope<T>,
+    bytes: &[u8],
+    sha1: &[u8],
+) -> Result<(), Fail> {
+    if !is_spelled(alloc, envelope, bytes)? {
         return Err("spelled otherwise".into());
     }
-    if digest(alloc, &envelope)?.as_slice() != sha1 {
+    if digest(alloc, envelope)?.as_slice() != sha1 {
         return Err("another digest".into());
     }
     Ok(())
+}
+
+/// What is read is spelled so, and has this digest.
+fn check_spelling<T: SpelledData>(alloc: Global, bytes: &[u8], sha1: &[u8]) -> Result<(), Fail> {
+    match read::<T>(alloc, bytes) {
+        Ok(envelope) => check_envelope(alloc, &envelope, bytes, sha1),
+        Err(_) => Err("not read".into()),
+    }
 }
 
 fn check(alloc: Global, row: [&str; 4]) -> Result<(), Fail> {

@@ -12,7 +12,49 @@ const MEMBERS: u8 = 4;
 
 const STEPS: u32 = 40;
 
-/// One step at random: an update, a merge, a group, or a prune where more than two members are left.
+/// A member makes an update at random.
+fn update<T: Replica<Kind = Kind, Op = Op>>(
+    alloc: Global,
+    cluster: &mut Cluster<T>,
+    kind: Kind,
+    random: &mut Random,
+    at: usize,
+) -> Result<(), Fail> {
+    let op = operation(alloc, kind, random)?;
+    cluster.update(at, op)
+}
+
+/// A member shows what is meant.
+fn check<T: Replica<Kind = Kind, Op = Op>>(cluster: &Cluster<T>, at: usize) -> Result<(), Fail> {
+    if cluster.shows_what_is_meant(at)? {
+        Ok(())
+    } else {
+        Err("another value is meant".into())
+    }
+}
+
+/// An update, a merge, a group, or a prune where more than two members are left.
+fn act<T: Replica<Kind = Kind, Op = Op>>(
+    alloc: Global,
+    cluster: &mut Cluster<T>,
+    kind: Kind,
+    random: &mut Random,
+    view: u32,
+    at: usize,
+    other: usize,
+) -> Result<(), Fail> {
+    match random.below(16) {
+        0..=5 => update(alloc, cluster, kind, random, at),
+        6..=8 => cluster.merge(at, other),
+        9..=14 => cluster.take_group(at, other, random),
+        _ if cluster.len() > 2 && other < cluster.len().saturating_sub(1) => cluster.prune(
+            at, other, view,
+        ),
+        _ => Ok(()),
+    }
+}
+
+/// One step at random, after which a member shows what is meant.
 fn step<T: Replica<Kind = Kind, Op = Op>>(
     alloc: Global,
     cluster: &mut Cluster<T>,
@@ -24,39 +66,36 @@ fn step<T: Replica<Kind = Kind, Op = Op>>(
     if count == 0 {
         return Err("no member".into());
     }
-    let at = random.below(count);
-    let other = random.below(count);
-    match random.below(16) {
-        0..=5 => cluster.update(at as usize, operation(alloc, kind, random)?)?,
-        6..=8 => cluster.merge(at as usize, other as usize)?,
-        9..=14 => cluster.take_group(at as usize, other as usize, random)?,
-        _ if count > 2 && other < count - 1 => {
-            return cluster.prune(at as usize, other as usize, view);
-        }
-        _ => {}
+    let at = random.below(count) as usize;
+    let other = random.below(count) as usize;
+    act(alloc, cluster, kind, random, view, at, other)?;
+    check(cluster, at.min(cluster.len().saturating_sub(1)))
+}
+
+/// Plays the steps of one history. In the end all members show what is meant.
+fn play_steps<T: Replica<Kind = Kind, Op = Op>>(
+    alloc: Global,
+    cluster: &mut Cluster<T>,
+    kind: Kind,
+    random: &mut Random,
+) -> Result<(), Fail> {
+    for view in 1..=STEPS {
+        step(alloc, cluster, kind, random, view)?;
     }
-    if !cluster.shows_what_is_meant(at as usize)? {
-        return Err("another value is meant".into());
+    for at in 0..cluster.len() {
+        check(cluster, at)?;
     }
     Ok(())
 }
 
-/// Plays the steps of one history, and answers how many groups were taken and how many identities were pruned.
+/// Plays one history, and answers how many groups were taken and how many identities were pruned.
 fn play<T: Replica<Kind = Kind, Op = Op>>(
     alloc: Global,
     kind: Kind,
     seed: u64,
 ) -> Result<(u64, u64), Fail> {
-    let mut random = Random::new(seed);
     let mut cluster: Cluster<T> = Cluster::new(alloc, kind, MEMBERS)?;
-    for view in 1..=STEPS {
-        step(alloc, &mut cluster, kind, &mut random, view)?;
-    }
-    for at in 0..cluster.len() {
-        if !cluster.shows_what_is_meant(at)? {
-            return Err("another value is meant".into());
-        }
-    }
+    play_steps(alloc, &mut cluster, kind, &mut Random::new(seed))?;
     Ok((cluster.groups(), cluster.prunes()))
 }
 
