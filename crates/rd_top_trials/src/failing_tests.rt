@@ -1,9 +1,10 @@
 //! Each call of a source, of a sink and of a keeper fails.
 
 use crate::prune_tests::{A_PRUNE, A_PRUNE_REPORT};
-use crate::rows::{keepers, printed, sink, source, status};
+use crate::rows::{Answer, answered, check, keepers, printed, streams};
 use crate::settle_tests::{A_RESTART, CARTS};
 use rd_top::Status;
+use std::alloc::Global;
 use std::test::Fail;
 
 // The keeper of place 1 is called six times: a clear at the start, stores at steps 1 and 2, a load at 3, a store at 5, a load at 6.
@@ -116,11 +117,16 @@ fn each_call_of_a_keeper_fails(rt: HostRuntime) -> Result<(), Fail> {
         (6, Status::Done, NONE_FAILS),
     ];
     for (call, status, report) in rows {
-        let (code, sink) = printed(alloc, SCRIPT, keepers(alloc, 1, &[call])?)?;
-        assert_eq!(rt; code, u8::from(status), "call {call}");
-        assert_eq!(rt; sink.bytes(), report.as_bytes(), "call {call}");
+        let answer = printed(alloc, SCRIPT, keepers(alloc, 1, &[call])?)?;
+        check(&rt, &answer, status, report.as_bytes(), call);
     }
     Ok(())
+}
+
+/// What a script answers, where the source and the sink fail at the calls named.
+fn answer(alloc: Global, script: &str, reads: &[u64], writes: &[u64]) -> Result<Answer, Fail> {
+    let streams = streams(alloc, script.as_bytes(), reads, writes)?;
+    answered(alloc, "plain", streams, keepers(alloc, 0, &[])?)
 }
 
 // The source gives seven bytes a call, and its last call gives none.
@@ -130,17 +136,8 @@ fn each_call_of_the_source_fails(rt: HostRuntime) -> Result<(), Fail> {
     let calls = CARTS.len().div_ceil(7) as u64 + 1;
     for part in 0..200u64 {
         let call = part * calls / 200;
-        let mut source = source(alloc, CARTS.as_bytes(), &[call])?;
-        let mut sink = sink(alloc, &[])?;
-        let code = status(
-            alloc,
-            "plain",
-            &mut source,
-            &mut sink,
-            keepers(alloc, 0, &[])?,
-        )?;
-        assert_eq!(rt; code, u8::from(Status::ReadFailed), "call {call}");
-        assert!(rt; sink.bytes().is_empty(), "call {call}");
+        let answer = answer(alloc, CARTS, &[call], &[])?;
+        check(&rt, &answer, Status::ReadFailed, b"", call);
     }
     Ok(())
 }
@@ -148,24 +145,18 @@ fn each_call_of_the_source_fails(rt: HostRuntime) -> Result<(), Fail> {
 // The sink takes sixteen bytes a call.
 #[test]
 fn each_call_of_the_sink_fails(rt: HostRuntime) -> Result<(), Fail> {
-    let alloc = rt.alloc();
     let report = A_PRUNE_REPORT.as_bytes();
-    let mut written = Vec::new(alloc);
-    let mut call: u64 = 0;
-    for piece in report.chunks(16) {
-        let mut source = source(alloc, A_PRUNE.as_bytes(), &[])?;
-        let mut sink = sink(alloc, &[call])?;
-        let code = status(
-            alloc,
-            "plain",
-            &mut source,
-            &mut sink,
-            keepers(alloc, 0, &[])?,
-        )?;
-        assert_eq!(rt; code, u8::from(Status::WriteFailed), "call {call}");
-        assert_eq!(rt; sink.bytes(), written.as_slice(), "call {call}");
-        written.extend_from_slice(piece)?;
-        call = call.saturating_add(1);
+    let mut written: usize = 0;
+    for call in 0..report.len().div_ceil(16) as u64 {
+        let answer = answer(rt.alloc(), A_PRUNE, &[], &[call])?;
+        check(
+            &rt,
+            &answer,
+            Status::WriteFailed,
+            &report[..written.min(report.len())],
+            call,
+        );
+        written = written.saturating_add(16);
     }
     Ok(())
 }
@@ -174,16 +165,15 @@ fn each_call_of_the_sink_fails(rt: HostRuntime) -> Result<(), Fail> {
 fn a_failing_keeper_ends_no_settle(rt: HostRuntime) -> Result<(), Fail> {
     let alloc = rt.alloc();
     for call in 0..10u64 {
-        let (code, sink) = printed(alloc, A_RESTART, keepers(alloc, 1, &[call])?)?;
-        let (again, other) = printed(alloc, A_RESTART, keepers(alloc, 1, &[call])?)?;
+        let answer = printed(alloc, A_RESTART, keepers(alloc, 1, &[call])?)?;
+        let again = printed(alloc, A_RESTART, keepers(alloc, 1, &[call])?)?;
         let status = if call == 0 {
             Status::ClearFailed
         } else {
             Status::Done
         };
-        assert_eq!(rt; code, u8::from(status), "call {call}");
-        assert_eq!(rt; again, code, "call {call}");
-        assert_eq!(rt; sink.bytes(), other.bytes(), "call {call}");
+        check(&rt, &answer, status, again.1.bytes(), call);
+        check(&rt, &again, status, answer.1.bytes(), call);
     }
     Ok(())
 }

@@ -1,6 +1,6 @@
 ghost use Rattle.std.specs.Prelude.{◌≡◌, length, IfOk};
 
-use crate::rows::{MANY, Section, compare, compare_built, keepers, printed};
+use crate::rows::{MANY, Section, check, compare, compare_built, keepers, printed};
 use rd_bytes::{Items, Text};
 use rd_keeper::{Keeper, KeeperError, Stored};
 use rd_top::Status;
@@ -278,9 +278,8 @@ fn members_leave_join_and_restart(rt: HostRuntime) -> Result<(), Fail> {
 #[test]
 fn what_is_loaded_may_be_damaged(rt: HostRuntime) -> Result<(), Fail> {
     let alloc = rt.alloc();
-    let (code, sink) = printed(alloc, FAILING_STORE, lying_keepers(alloc)?)?;
-    assert_eq!(rt; code, u8::from(Status::Done));
-    assert_eq!(rt; sink.bytes(), DAMAGED_REPORT.as_bytes());
+    let answer = printed(alloc, FAILING_STORE, lying_keepers(alloc)?)?;
+    check(&rt, &answer, Status::Done, DAMAGED_REPORT.as_bytes(), 1);
     Ok(())
 }
 
@@ -288,9 +287,8 @@ fn what_is_loaded_may_be_damaged(rt: HostRuntime) -> Result<(), Fail> {
 fn a_place_that_is_not_cleared_ends_the_run(rt: HostRuntime) -> Result<(), Fail> {
     let alloc = rt.alloc();
     for (place, text) in [(0, "store failed at 0\n"), (7, "store failed at 7\n")] {
-        let (code, sink) = printed(alloc, RESTART, keepers(alloc, place, &[0])?)?;
-        assert_eq!(rt; code, u8::from(Status::ClearFailed));
-        assert_eq!(rt; sink.bytes(), text.as_bytes());
+        let answer = printed(alloc, RESTART, keepers(alloc, place, &[0])?)?;
+        check(&rt, &answer, Status::ClearFailed, text.as_bytes(), place);
     }
     Ok(())
 }

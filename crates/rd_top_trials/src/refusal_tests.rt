@@ -1,7 +1,7 @@
 //! What is refused: texts that are no script, and sources, sinks and keepers that fail.
 
 use crate::kinds_tests::EMPTY;
-use crate::rows::{MANY, build, compare, keepers, printed, sink, source, status};
+use crate::rows::{MANY, Streams, answered, build, check, compare, keepers, printed, streams};
 use rd_outside::{MemorySink, MemorySource};
 use rd_top::Status;
 use std::alloc::Global;
@@ -205,9 +205,8 @@ const RAISED: &[u8; 80] =
 fn tells_the_first_broken_rule(rt: HostRuntime) -> Result<(), Fail> {
     let alloc = rt.alloc();
     for (script, text) in BROKEN {
-        let (code, sink) = printed(alloc, script, keepers(alloc, 0, &[])?)?;
-        assert_eq!(rt; code, u8::from(Status::NotAScript), "at {script}");
-        assert_eq!(rt; sink.bytes(), text.as_bytes(), "at {script}");
+        let answer = printed(alloc, script, keepers(alloc, 0, &[])?)?;
+        check(&rt, &answer, Status::NotAScript, text.as_bytes(), script);
     }
     Ok(())
 }
@@ -223,6 +222,24 @@ fn takes_what_is_at_the_limits(rt: HostRuntime) -> Result<(), Fail> {
     )
 }
 
+/// A script of so many flags and so many rounds.
+fn flags_and_rounds(alloc: Global, keys: u64, steps: u64) -> Result<String, Fail> {
+    build(
+        alloc,
+        &[
+            (1, r#"{"members":1,"keys":["#, &[]),
+            (
+                keys.saturating_sub(1),
+                r#"{"key":"k#","kind":"flag"},"#,
+                &[(1, 1, 1, MANY)],
+            ),
+            (1, r#"{"key":"k","kind":"flag"}],"steps":["#, &[]),
+            (steps.saturating_sub(1), r#"{"do":"round"},"#, &[]),
+            (1, r#"{"do":"round"}]}"#, &[]),
+        ],
+    )
+}
+
 #[test]
 fn bounds_keys_and_steps(rt: HostRuntime) -> Result<(), Fail> {
     let alloc = rt.alloc();
@@ -232,47 +249,40 @@ fn bounds_keys_and_steps(rt: HostRuntime) -> Result<(), Fail> {
         (16, 4097, Status::NotAScript),
     ];
     for (keys, steps, status) in rows {
-        let script = build(
-            alloc,
-            &[
-                (1, r#"{"members":1,"keys":["#, &[]),
-                (
-                    keys - 1,
-                    r#"{"key":"k#","kind":"flag"},"#,
-                    &[(1, 1, 1, MANY)],
-                ),
-                (1, r#"{"key":"k","kind":"flag"}],"steps":["#, &[]),
-                (steps - 1, r#"{"do":"round"},"#, &[]),
-                (1, r#"{"do":"round"}]}"#, &[]),
-            ],
-        )?;
+        let script = flags_and_rounds(alloc, keys, steps)?;
         let (code, _) = printed(alloc, script.as_str(), keepers(alloc, 0, &[])?)?;
         assert_eq!(rt; code, u8::from(status), "at {keys} {steps}");
     }
     Ok(())
 }
 
-// What a text prints, a number for the rule.
-fn told(alloc: Global, bytes: &[u8]) -> Result<u8, Fail> {
-    let mut source = source(alloc, bytes, &[])?;
-    let mut sink = sink(alloc, &[])?;
-    let code = status(
-        alloc,
-        "plain",
-        &mut source,
-        &mut sink,
-        keepers(alloc, 0, &[])?,
-    )?;
-    let rule = match sink.bytes() {
-        [.., rule, b'\n'] => *rule,
-        _ => b'-',
-    };
+// A letter for the status, and for a script that breaks a rule the rule's last digit.
+fn letter(code: u8, text: &[u8]) -> u8 {
     match code {
-        0 => Ok(b'd'),
-        2 if sink.bytes() == b"not json\n".as_slice() => Ok(b'j'),
-        3 => Ok(rule),
-        _ => Ok(b'-'),
+        0 => b'd',
+        2 if text == b"not json\n".as_slice() => b'j',
+        3 => match text {
+            [.., rule, b'\n'] => *rule,
+            _ => b'-',
+        },
+        _ => b'-',
     }
+}
+
+// What a text prints, as a letter.
+fn told(alloc: Global, bytes: &[u8]) -> Result<u8, Fail> {
+    let streams = streams(alloc, bytes, &[], &[])?;
+    let (code, sink) = answered(alloc, "plain", streams, keepers(alloc, 0, &[])?)?;
+    Ok(letter(code, sink.bytes()))
+}
+
+// What a text prints of which a byte was raised by one.
+fn told_of_raised(alloc: Global, script: &[u8], at: usize) -> Result<u8, Fail> {
+    let mut raised = Vec::from_slice(alloc, script)?;
+    if let Some(byte) = raised.get_mut(at) {
+        *byte = byte.saturating_add(1);
+    }
+    told(alloc, &raised)
 }
 
 #[test]
@@ -281,15 +291,25 @@ fn reads_cut_and_raised_texts(rt: HostRuntime) -> Result<(), Fail> {
     let script = SCRIPT.as_bytes();
     assert_eq!(rt; told(alloc, script)?, b'd');
     for (at, outcome) in RAISED.iter().enumerate() {
-        let mut raised = Vec::from_slice(alloc, script)?;
-        if let Some(byte) = raised.get_mut(at) {
-            *byte = byte.saturating_add(1);
-        }
-        assert_eq!(rt; told(alloc, &raised)?, *outcome, "raised at {at}");
+        assert_eq!(rt;
+            told_of_raised(alloc, script, at)?,
+            *outcome,
+            "raised at {at}"
+        );
         let cut = &script[..at.min(script.len())];
         assert_eq!(rt; told(alloc, cut)?, b'j', "cut at {at}");
     }
     Ok(())
+}
+
+/// A source of so many spaces, in pieces of 4,096, and a sink.
+fn spaces(alloc: Global, length: usize) -> Result<Streams, Fail> {
+    let (_, sink) = streams(alloc, b"", &[], &[])?;
+    let spaces = vec![in alloc; b' '; length]?;
+    Ok((
+        MemorySource::new(alloc, spaces, 4096, Vec::new(alloc)),
+        sink,
+    ))
 }
 
 #[test]
@@ -300,20 +320,23 @@ fn bounds_the_script(rt: HostRuntime) -> Result<(), Fail> {
         (8_388_609, Status::TooLong, "too long\n"),
     ];
     for (length, outcome, text) in rows {
-        let spaces = vec![in alloc; b' '; length]?;
-        let mut source = MemorySource::new(alloc, spaces, 4096, Vec::new(alloc));
-        let mut sink = sink(alloc, &[])?;
-        let code = status(
-            alloc,
-            "plain",
-            &mut source,
-            &mut sink,
-            keepers(alloc, 0, &[])?,
-        )?;
-        assert_eq!(rt; code, u8::from(outcome), "at {length}");
-        assert_eq!(rt; sink.bytes(), text.as_bytes(), "at {length}");
+        let streams = spaces(alloc, length)?;
+        let answer = answered(alloc, "plain", streams, keepers(alloc, 0, &[])?)?;
+        check(&rt, &answer, outcome, text.as_bytes(), length);
     }
     Ok(())
+}
+
+/// A source of a script, and a sink that takes pieces of eight bytes, whose calls of these numbers fail.
+fn streams_of_eight(
+    alloc: Global,
+    script: &str,
+    reads: &[u64],
+    writes: &[u64],
+) -> Result<Streams, Fail> {
+    let (source, _) = streams(alloc, script.as_bytes(), reads, &[])?;
+    let writes = Vec::from_slice(alloc, writes)?;
+    Ok((source, MemorySink::new(alloc, 8, writes)))
 }
 
 #[test]
@@ -390,17 +413,9 @@ fn answers_by_cause(rt: HostRuntime) -> Result<(), Fail> {
         ),
     ];
     for (line, script, reads, writes, clears, outcome, text) in rows {
-        let mut source = source(alloc, script.as_bytes(), reads)?;
-        let mut sink = MemorySink::new(alloc, 8, Vec::from_slice(alloc, writes)?);
-        let code = status(
-            alloc,
-            line,
-            &mut source,
-            &mut sink,
-            keepers(alloc, 0, clears)?,
-        )?;
-        assert_eq!(rt; code, u8::from(outcome), "at {line} {script}");
-        assert_eq!(rt; sink.bytes(), text.as_bytes(), "at {line} {script}");
+        let streams = streams_of_eight(alloc, script, reads, writes)?;
+        let answer = answered(alloc, line, streams, keepers(alloc, 0, clears)?)?;
+        check(&rt, &answer, outcome, text.as_bytes(), line);
     }
     Ok(())
 }

@@ -6,6 +6,7 @@ use rd_keeper::{Keeper, MemoryKeeper};
 use rd_outside::{MemorySink, MemorySource};
 use rd_top::{Status, replicate_plain};
 use std::alloc::Global;
+use std::fmt::Display;
 use std::process::Abort;
 use std::test::Fail;
 
@@ -38,35 +39,71 @@ pub(crate) fn keepers(
 }
 
 /// A source of these bytes, in pieces of seven, whose calls of these numbers fail.
-pub(crate) fn source(alloc: Global, bytes: &[u8], failing: &[u64]) -> Result<MemorySource, Fail> {
+fn source(alloc: Global, bytes: &[u8], failing: &[u64]) -> Result<MemorySource, Fail> {
     let bytes = Vec::from_slice(alloc, bytes)?;
     let failing = Vec::from_slice(alloc, failing)?;
     Ok(MemorySource::new(alloc, bytes, 7, failing))
 }
 
 /// A sink that takes pieces of sixteen bytes, and whose calls of these numbers fail.
-pub(crate) fn sink(alloc: Global, failing: &[u64]) -> Result<MemorySink, Fail> {
+fn sink(alloc: Global, failing: &[u64]) -> Result<MemorySink, Fail> {
     let failing = Vec::from_slice(alloc, failing)?;
     Ok(MemorySink::new(alloc, 16, failing))
 }
 
-/// The status for the words of a line.
-pub(crate) fn status<D: Keeper + Drop>(
+/// A source and a sink.
+pub(crate) type Streams = (MemorySource, MemorySink);
+
+/// A source of these bytes and a sink, whose calls of these numbers fail.
+pub(crate) fn streams(
     alloc: Global,
-    line: &str,
-    source: &mut MemorySource,
-    sink: &mut MemorySink,
-    keepers: Vec<D>,
-) -> Result<u8, Fail>
-    requires { length keepers.items ≡ 8 }
-{
+    bytes: &[u8],
+    reads: &[u64],
+    writes: &[u64],
+) -> Result<Streams, Fail> {
+    let sink = sink(alloc, writes)?;
+    Ok((source(alloc, bytes, reads)?, sink))
+}
+
+/// The words of a line.
+fn words(alloc: Global, line: &str) -> Result<Vec<String>, Fail> {
     let mut words = Vec::new(alloc);
     if !line.is_empty() {
         for word in line.split(' ') {
             words.push(String::from_str(alloc, word)?)?;
         }
     }
-    Ok(replicate_plain(alloc, &words, source, sink, keepers).status)
+    Ok(words)
+}
+
+/// What is answered: the status, and a sink that has what was written.
+pub(crate) type Answer = (u8, MemorySink);
+
+/// What words answer over these streams and keepers.
+fn answer<D: Keeper + Drop>(
+    alloc: Global,
+    words: &[String],
+    streams: Streams,
+    keepers: Vec<D>,
+) -> Answer
+    requires { length keepers.items ≡ 8 }
+{
+    let (mut source, mut sink) = streams;
+    let outcome = replicate_plain(alloc, words, &mut source, &mut sink, keepers);
+    (outcome.status, sink)
+}
+
+/// What the words of a line answer over these streams and keepers.
+pub(crate) fn answered<D: Keeper + Drop>(
+    alloc: Global,
+    line: &str,
+    streams: Streams,
+    keepers: Vec<D>,
+) -> Result<Answer, Fail>
+    requires { length keepers.items ≡ 8 }
+{
+    let words = words(alloc, line)?;
+    Ok(answer(alloc, &words, streams, keepers))
 }
 
 /// What a script prints over these keepers.
@@ -74,13 +111,24 @@ pub(crate) fn printed<D: Keeper + Drop>(
     alloc: Global,
     script: &str,
     keepers: Vec<D>,
-) -> Result<(u8, MemorySink), Fail>
+) -> Result<Answer, Fail>
     requires { length keepers.items ≡ 8 }
 {
-    let mut source = source(alloc, script.as_bytes(), &[])?;
-    let mut sink = sink(alloc, &[])?;
-    let status = status(alloc, "plain", &mut source, &mut sink, keepers)?;
-    Ok((status, sink))
+    let streams = streams(alloc, script.as_bytes(), &[], &[])?;
+    answered(alloc, "plain", streams, keepers)
+}
+
+/// What is answered has this status, and this text was written.
+pub(crate) fn check<R: Abort, P: Display + Drop>(
+    rt: &R,
+    answer: &Answer,
+    status: Status,
+    text: &[u8],
+    place: P,
+) {
+    let (code, sink) = answer;
+    assert_eq!(rt; *code, u8::from(status), "at {place}");
+    assert_eq!(rt; sink.bytes(), text, "at {place}");
 }
 
 fn number_at((first, factor, every, modulus): &Number, round: u64) -> u64 {
@@ -118,6 +166,12 @@ pub(crate) fn build(alloc: Global, sections: &[Section]) -> Result<String, Fail>
     Ok(text)
 }
 
+/// What the script of these sections prints.
+fn printed_of(alloc: Global, script: &[Section]) -> Result<Answer, Fail> {
+    let script = build(alloc, script)?;
+    printed(alloc, script.as_str(), keepers(alloc, 0, &[])?)
+}
+
 /// Builds a script and its report, runs it and compares.
 pub(crate) fn compare_built<R: Abort>(
     rt: &R,
@@ -125,9 +179,8 @@ pub(crate) fn compare_built<R: Abort>(
     script: &[Section],
     report: &[Section],
 ) -> Result<(), Fail> {
-    let script = build(alloc, script)?;
+    let (status, sink) = printed_of(alloc, script)?;
     let report = build(alloc, report)?;
-    let (status, sink) = printed(alloc, script.as_str(), keepers(alloc, 0, &[])?)?;
     assert_eq!(rt; status, u8::from(Status::Done));
     assert!(rt; sink.bytes() == report.as_bytes());
     Ok(())
@@ -141,9 +194,8 @@ pub(crate) fn compare<R: Abort>(
     rows: &[Row],
 ) -> Result<(), Fail> {
     for (script, failing, report) in rows {
-        let (status, sink) = printed(alloc, script, keepers(alloc, place, failing)?)?;
-        assert_eq!(rt; status, u8::from(Status::Done), "at {script}");
-        assert_eq!(rt; sink.bytes(), report.as_bytes(), "at {script}");
+        let answer = printed(alloc, script, keepers(alloc, place, failing)?)?;
+        check(rt, &answer, Status::Done, report.as_bytes(), *script);
     }
     Ok(())
 }

@@ -1,6 +1,6 @@
 //! The words, and what `gen` and `sum` write.
 
-use crate::rows::{MANY, build, keepers, sink, source, status};
+use crate::rows::{Answer, MANY, answered, build, check, keepers, streams};
 use rd_top::Status;
 use std::alloc::Global;
 use std::test::Fail;
@@ -89,26 +89,21 @@ note "n8" known 3:1 marks -
 fn refuses_other_words(rt: HostRuntime) -> Result<(), Fail> {
     let alloc = rt.alloc();
     for line in BAD_WORDS {
-        let mut source = source(alloc, b"{}", &[0])?;
-        let mut sink = sink(alloc, &[])?;
-        let code = status(
-            alloc,
-            line,
-            &mut source,
-            &mut sink,
-            keepers(alloc, 0, &[0])?,
-        )?;
-        assert_eq!(rt; code, u8::from(Status::Usage), "at {line}");
-        assert_eq!(rt; sink.bytes(), b"bad words\n".as_slice(), "at {line}");
+        let answer = answer(alloc, line, &[0])?;
+        check(&rt, &answer, Status::Usage, b"bad words\n", line);
     }
     Ok(())
 }
 
+// What words answer, where the source fails at its first call, and a keeper at the calls named.
+fn answer(alloc: Global, line: &str, failing: &[u64]) -> Result<Answer, Fail> {
+    let streams = streams(alloc, b"{}", &[0], &[])?;
+    answered(alloc, line, streams, keepers(alloc, 0, failing)?)
+}
+
 // What words write that read nothing.
 fn written(alloc: Global, line: &str) -> Result<String, Fail> {
-    let mut source = source(alloc, b"", &[0])?;
-    let mut sink = sink(alloc, &[])?;
-    let code = status(alloc, line, &mut source, &mut sink, keepers(alloc, 0, &[])?)?;
+    let (code, sink) = answer(alloc, line, &[])?;
     if code == u8::from(Status::Done) {
         Ok(String::from_utf8(Vec::from_slice(alloc, sink.bytes())?)?)
     } else {
@@ -130,6 +125,16 @@ fn generates_and_sums(rt: HostRuntime) -> Result<(), Fail> {
     Ok(())
 }
 
+/// What four members have, each of them the same lines.
+fn four_times(alloc: Global, keys: &str) -> Result<String, Fail> {
+    let member = format!(in alloc; "member # place # view 1\n{keys}")?;
+    let numbers = [(0, 1, 1, MANY), (0, 1, 1, MANY)];
+    build(
+        alloc,
+        &[(1, "final view 1\n", &[]), (4, member.as_str(), &numbers)],
+    )
+}
+
 // The largest generated script: two runs write the same, and all members have the same of each key.
 #[test]
 fn sums_the_largest(rt: HostRuntime) -> Result<(), Fail> {
@@ -140,12 +145,7 @@ fn sums_the_largest(rt: HostRuntime) -> Result<(), Fail> {
     let first = text.as_str().split("member ").nth(1).unwrap_or("");
     let keys = first.strip_prefix("0 place 0 view 1\n").unwrap_or("");
     assert_eq!(rt; keys.lines().count(), 4);
-    let member = format!(in alloc; "member # place # view 1\n{keys}")?;
-    let numbers = [(0, 1, 1, MANY), (0, 1, 1, MANY)];
-    let same = build(
-        alloc,
-        &[(1, "final view 1\n", &[]), (4, member.as_str(), &numbers)],
-    )?;
+    let same = four_times(alloc, keys)?;
     assert!(rt; text.as_str() == same.as_str());
     Ok(())
 }
