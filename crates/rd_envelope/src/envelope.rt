@@ -18,7 +18,7 @@ ghost use Rattle.rd_envelope.specs.Pruning.{init_as, init_of, IsPruned};
 ghost use Rattle.rd_envelope.specs.declared.outcomes.Perform.TheVariants as outcome;
 ghost use Rattle.rd_envelope.specs.declared.outcomes.Init.TheVariants as initial;
 
-use crate::cleaning::drop_performed;
+use crate::cleaning::cleaned_copy;
 use crate::group::Group;
 use crate::outcomes::{Init, Judgement, Perform};
 use rd_lattice::{ApplyError, PruneError, Replica, Shown};
@@ -372,14 +372,15 @@ impl<T: Replica> Envelope<T> {
         ensures kind { T.kind_of self.new.value ≡ T.kind_of self.old.value }
         ensures err { OnErr result (self.new ≡ self.old) }
     {
-        let mut value = self.value.copy(self.alloc)?;
-        let mut versions = self.versions.copy(self.alloc)?;
-        drop_performed(&mut value, &mut versions, &markers);
-        let mut their_value = other.value.copy(self.alloc)?;
-        let mut their_versions = other.versions.copy(self.alloc)?;
-        drop_performed(&mut their_value, &mut their_versions, &markers);
-        value.join(&versions, &their_value, &their_versions)?;
-        versions.join(&their_versions)?;
+        let (mut value, mut versions) = cleaned_copy(
+            self.alloc,
+            &self.value,
+            &self.versions,
+            &markers,
+        )?;
+        let (theirs, numbers) = cleaned_copy(self.alloc, &other.value, &other.versions, &markers)?;
+        value.join(&versions, &theirs, &numbers)?;
+        versions.join(&numbers)?;
         self.value = value;
         self.versions = versions;
         self.markers = markers;

@@ -42,8 +42,8 @@ fn get(alloc: Global, step: u32, value: &Value, more: &[&str]) -> Result<Step, F
 }
 
 #[tactic(auto, unfolding(crate::specs::Forms::flush_of))]
-fn flush(step: u32, value: &Value, more: &[&str]) -> Result<Step, Rule>
-    ensures value { result ≡ flush_of (map (λ name. name.now) more.now) step (view value.now) }
+fn flush(step: u32, value: &Value, more: &[&str]) -> Result<Step, Fault>
+    ensures value { Gives (λ s. s) result (flush_of (map (λ name. name.now) more.now) step (view value.now)) }
     ensures bounds { IfOk result IsStep }
 {
     step_names(value, &["at", "do"], &[], more, step)?;
@@ -52,8 +52,8 @@ fn flush(step: u32, value: &Value, more: &[&str]) -> Result<Step, Rule>
 }
 
 #[tactic(auto, unfolding(crate::specs::Forms::gossip_of))]
-fn gossip(step: u32, value: &Value, more: &[&str]) -> Result<Step, Rule>
-    ensures value { result ≡ gossip_of (map (λ name. name.now) more.now) step (view value.now) }
+fn gossip(step: u32, value: &Value, more: &[&str]) -> Result<Step, Fault>
+    ensures value { Gives (λ s. s) result (gossip_of (map (λ name. name.now) more.now) step (view value.now)) }
     ensures bounds { IfOk result IsStep }
 {
     step_names(value, &["at", "do", "to"], &[], more, step)?;
@@ -63,8 +63,8 @@ fn gossip(step: u32, value: &Value, more: &[&str]) -> Result<Step, Rule>
 }
 
 #[tactic(auto, unfolding(crate::specs::Forms::deliver_of))]
-fn deliver(step: u32, value: &Value) -> Result<Step, Rule>
-    ensures value { result ≡ deliver_of step (view value.now) }
+fn deliver(step: u32, value: &Value) -> Result<Step, Fault>
+    ensures value { Gives (λ s. s) result (deliver_of step (view value.now)) }
     ensures bounds { IfOk result IsStep }
 {
     step_names(value, &["do", "from", "to"], &["index"], &[], step)?;
@@ -75,8 +75,8 @@ fn deliver(step: u32, value: &Value) -> Result<Step, Rule>
 }
 
 #[tactic(auto, unfolding(crate::specs::Forms::lose_of))]
-fn lose(step: u32, value: &Value) -> Result<Step, Rule>
-    ensures value { result ≡ lose_of step (view value.now) }
+fn lose(step: u32, value: &Value) -> Result<Step, Fault>
+    ensures value { Gives (λ s. s) result (lose_of step (view value.now)) }
     ensures bounds { IfOk result IsStep }
 {
     step_names(value, &["do", "from", "to"], &[], &[], step)?;
@@ -86,8 +86,8 @@ fn lose(step: u32, value: &Value) -> Result<Step, Rule>
 }
 
 #[tactic(auto, unfolding(crate::specs::Forms::round_of))]
-fn round(step: u32, value: &Value) -> Result<Step, Rule>
-    ensures value { result ≡ round_of step (view value.now) }
+fn round(step: u32, value: &Value) -> Result<Step, Fault>
+    ensures value { Gives (λ s. s) result (round_of step (view value.now)) }
     ensures bounds { IfOk result IsStep }
 {
     step_names(value, &["do"], &[], &[], step)?;
@@ -95,8 +95,8 @@ fn round(step: u32, value: &Value) -> Result<Step, Rule>
 }
 
 #[tactic(auto, unfolding(crate::specs::Forms::tick_of))]
-fn tick(step: u32, value: &Value, more: &[&str]) -> Result<Step, Rule>
-    ensures value { result ≡ tick_of (map (λ name. name.now) more.now) step (view value.now) }
+fn tick(step: u32, value: &Value, more: &[&str]) -> Result<Step, Fault>
+    ensures value { Gives (λ s. s) result (tick_of (map (λ name. name.now) more.now) step (view value.now)) }
     ensures bounds { IfOk result IsStep }
 {
     step_names(value, &["at", "do"], &[], more, step)?;
@@ -105,8 +105,8 @@ fn tick(step: u32, value: &Value, more: &[&str]) -> Result<Step, Rule>
 }
 
 #[tactic(auto, unfolding(crate::specs::Forms::timeout_of))]
-fn timeout(step: u32, value: &Value) -> Result<Step, Rule>
-    ensures value { result ≡ timeout_of step (view value.now) }
+fn timeout(step: u32, value: &Value) -> Result<Step, Fault>
+    ensures value { Gives (λ s. s) result (timeout_of step (view value.now)) }
     ensures bounds { IfOk result IsStep }
 {
     step_names(value, &["at", "do", "op"], &[], &[], step)?;
@@ -116,8 +116,8 @@ fn timeout(step: u32, value: &Value) -> Result<Step, Rule>
 }
 
 #[tactic(auto, unfolding(crate::specs::Forms::remove_of))]
-fn remove(step: u32, value: &Value) -> Result<Step, Rule>
-    ensures value { result ≡ remove_of step (view value.now) }
+fn remove(step: u32, value: &Value) -> Result<Step, Fault>
+    ensures value { Gives (λ s. s) result (remove_of step (view value.now)) }
     ensures bounds { IfOk result IsStep }
 {
     step_names(value, &["do", "id"], &[], &[], step)?;
@@ -126,8 +126,8 @@ fn remove(step: u32, value: &Value) -> Result<Step, Rule>
 }
 
 #[tactic(auto, unfolding(crate::specs::Forms::join_of))]
-fn join(step: u32, value: &Value) -> Result<Step, Rule>
-    ensures value { result ≡ join_of step (view value.now) }
+fn join(step: u32, value: &Value) -> Result<Step, Fault>
+    ensures value { Gives (λ s. s) result (join_of step (view value.now)) }
     ensures bounds { IfOk result IsStep }
 {
     step_names(value, &["do", "place"], &[], &[], step)?;
@@ -136,8 +136,8 @@ fn join(step: u32, value: &Value) -> Result<Step, Rule>
 }
 
 #[tactic(auto, unfolding(crate::specs::Forms::restart_of))]
-fn restart(step: u32, value: &Value) -> Result<Step, Rule>
-    ensures value { result ≡ restart_of step (view value.now) }
+fn restart(step: u32, value: &Value) -> Result<Step, Fault>
+    ensures value { Gives (λ s. s) result (restart_of step (view value.now)) }
     ensures bounds { IfOk result IsStep }
 {
     step_names(value, &["do", "id"], &[], &[], step)?;
@@ -146,8 +146,8 @@ fn restart(step: u32, value: &Value) -> Result<Step, Rule>
 }
 
 #[tactic(auto, unfolding(crate::specs::Forms::install_of))]
-fn install(step: u32, value: &Value, more: &[&str]) -> Result<Step, Rule>
-    ensures value { result ≡ install_of (map (λ name. name.now) more.now) step (view value.now) }
+fn install(step: u32, value: &Value, more: &[&str]) -> Result<Step, Fault>
+    ensures value { Gives (λ s. s) result (install_of (map (λ name. name.now) more.now) step (view value.now)) }
     ensures bounds { IfOk result IsStep }
 {
     step_names(value, &["at", "do", "view"], &[], more, step)?;
@@ -157,8 +157,8 @@ fn install(step: u32, value: &Value, more: &[&str]) -> Result<Step, Rule>
 }
 
 #[tactic(auto, unfolding(crate::specs::Forms::settle_of))]
-fn settle(step: u32, value: &Value) -> Result<Step, Rule>
-    ensures value { result ≡ settle_of step (view value.now) }
+fn settle(step: u32, value: &Value) -> Result<Step, Fault>
+    ensures value { Gives (λ s. s) result (settle_of step (view value.now)) }
     ensures bounds { IfOk result IsStep }
 {
     step_names(value, &["do"], &[], &[], step)?;
@@ -174,18 +174,18 @@ pub fn plain(alloc: Global, step: u32, value: &Value, more: &[&str]) -> Result<S
     match text(value, "do", Rule { step, number: 5 })? {
         "update" => update(alloc, step, value, more),
         "get" => get(alloc, step, value, more),
-        "flush" => Ok(flush(step, value, more)?),
-        "gossip" => Ok(gossip(step, value, more)?),
-        "deliver" => Ok(deliver(step, value)?),
-        "lose" => Ok(lose(step, value)?),
-        "round" => Ok(round(step, value)?),
-        "tick" => Ok(tick(step, value, more)?),
-        "timeout" => Ok(timeout(step, value)?),
-        "remove" => Ok(remove(step, value)?),
-        "join" => Ok(join(step, value)?),
-        "restart" => Ok(restart(step, value)?),
-        "install" => Ok(install(step, value, more)?),
-        "settle" => Ok(settle(step, value)?),
+        "flush" => flush(step, value, more),
+        "gossip" => gossip(step, value, more),
+        "deliver" => deliver(step, value),
+        "lose" => lose(step, value),
+        "round" => round(step, value),
+        "tick" => tick(step, value, more),
+        "timeout" => timeout(step, value),
+        "remove" => remove(step, value),
+        "join" => join(step, value),
+        "restart" => restart(step, value),
+        "install" => install(step, value, more),
+        "settle" => settle(step, value),
         _ => Err(Fault::Breaks(Rule { step, number: 5 })),
     }
 }

@@ -25,19 +25,19 @@ returns-clause-image g c =
     let marks = c.args.markers in
     let merges : MergesTo one.markers two.markers marks = merging in
     let is : (i : ℕ) → performed_in marks i ≡ united (performed_in one.markers) (performed_in two.markers) i = performed_merge one.markers two.markers marks merges in
-    let a = c.drop_performed.new.value in
-    let b = c.drop_performed-2.new.value in
-    let v = c.drop_performed.new.versions in
-    let w = c.drop_performed-2.new.versions in
+    let a = c.in_ok-value.value in
+    let b = c.in_ok-theirs.theirs in
+    let v = c.in_ok-value.versions in
+    let w = c.in_ok-theirs.numbers in
     let da : D a log v' (performed_in marks) = subst (D a log v') (λ j i. either_again (performed_in one.markers i) (performed_in two.markers i) (performed_in marks i) (is i) j)
-    (c.drop_performed.ensures.state log v' (performed_in one.markers) (subst (λ x. D x log v' (performed_in one.markers)) (sym c.in_ok-value.ensures) s.holds.state)) in
+    (c.in_ok-value.ensures.state log v' (performed_in one.markers) s.holds.state) in
     let db : D b log w' (performed_in marks) = subst (D b log w') (λ j i. either_again' (performed_in one.markers i) (performed_in two.markers i) (performed_in marks i) (is i) j)
-    (c.drop_performed-2.ensures.state log w' (performed_in two.markers) (subst (λ x. D x log w' (performed_in two.markers)) (sym c.in_ok-their_value.ensures) t.holds.state)) in
-    let nv : (i : ℕ) → number_at v i ≡ without (performed_in marks) v' i = λ i. c.drop_performed.ensures.numbers i
-    ∙ ap (λ x. cond (performed_in marks i) 0 (number_at x i)) c.in_ok-versions.ensures.same ∙ ap (cond (performed_in marks i) 0) (s.holds.numbers i) ∙ cond_again (performed_in one.markers i) (performed_in two.markers i) (performed_in marks i) (v' i) (is i) in
-    let nw : (i : ℕ) → number_at w i ≡ without (performed_in marks) w' i = λ i. c.drop_performed-2.ensures.numbers i
-    ∙ ap (λ x. cond (performed_in marks i) 0 (number_at x i)) c.in_ok-their_versions.ensures.same ∙ ap (cond (performed_in marks i) 0) (t.holds.numbers i) ∙ cond_again' (performed_in one.markers i) (performed_in two.markers i) (performed_in marks i) (w' i) (is i) in
-    let kinds = c.drop_performed.ensures.kind ∙ ap g.T.Replica.kind_of c.in_ok-value.ensures ∙ alike ∙ sym (c.drop_performed-2.ensures.kind ∙ ap g.T.Replica.kind_of c.in_ok-their_value.ensures) in
+    (c.in_ok-theirs.ensures.state log w' (performed_in two.markers) t.holds.state) in
+    let nv : (i : ℕ) → number_at v i ≡ without (performed_in marks) v' i = λ i. c.in_ok-value.ensures.numbers i
+    ∙ ap (cond (performed_in marks i) 0) (s.holds.numbers i) ∙ cond_again (performed_in one.markers i) (performed_in two.markers i) (performed_in marks i) (v' i) (is i) in
+    let nw : (i : ℕ) → number_at w i ≡ without (performed_in marks) w' i = λ i. c.in_ok-theirs.ensures.numbers i
+    ∙ ap (cond (performed_in marks i) 0) (t.holds.numbers i) ∙ cond_again' (performed_in one.markers i) (performed_in two.markers i) (performed_in marks i) (w' i) (is i) in
+    let kinds = c.in_ok-value.ensures.kind ∙ alike ∙ sym c.in_ok-theirs.ensures.kind in
     let fv : number_at v ≡ without (performed_in marks) v' = λ j i. nv i j in
     let fw : number_at w ≡ without (performed_in marks) w' = λ j i. nw i j in
     let e = c.in_ok-join.ensures.ok ∙ ap (λ f. g.T.Replica.joined a f b (number_at w)) fv ∙ ap (λ f. g.T.Replica.joined a (without (performed_in marks) v') b f) fw in
@@ -50,29 +50,24 @@ returns-clause-image g c =
 pub returns-clause-versions : goal.returns-clause-versions
 returns-clause-versions g c =
     rw (← c.self.view_is, ← c.other.view_is) (
-    joined_most c.self.inside.versions c.other.inside.versions c.drop_performed.new.versions c.drop_performed-2.new.versions c.join-2.new.self (performed_in c.args.markers)
-    (λ i. c.drop_performed.ensures.numbers i ∙ ap (λ m. without (performed_in c.args.markers) (number_at m) i) c.in_ok-versions.ensures.same)
-    (λ i. c.drop_performed-2.ensures.numbers i ∙ ap (λ m. without (performed_in c.args.markers) (number_at m) i) c.in_ok-their_versions.ensures.same)
-    c.in_ok-join-2.ensures.ok)
+    joined_most c.self.inside.versions c.other.inside.versions c.in_ok-value.versions c.in_ok-theirs.numbers c.join-2.new.self (performed_in c.args.markers)
+    c.in_ok-value.ensures.numbers c.in_ok-theirs.ensures.numbers c.in_ok-join-2.ensures.ok)
 
 pub returns-clause-greatest : goal.returns-clause-greatest
 returns-clause-greatest g c =
     rw (← c.self.view_is, ← c.other.view_is) (
     λ i stays.
-    joined_greatest c.self.inside.versions c.other.inside.versions c.drop_performed.new.versions c.drop_performed-2.new.versions c.join-2.new.self (performed_in c.args.markers)
-    c.in_ok-versions.ensures.normal c.in_ok-their_versions.ensures.normal
-    (λ i. c.drop_performed.ensures.numbers i ∙ ap (λ m. without (performed_in c.args.markers) (number_at m) i) c.in_ok-versions.ensures.same)
-    (λ i. c.drop_performed-2.ensures.numbers i ∙ ap (λ m. without (performed_in c.args.markers) (number_at m) i) c.in_ok-their_versions.ensures.same)
-    c.in_ok-join-2.ensures.ok i stays)
+    joined_greatest c.self.inside.versions c.other.inside.versions c.in_ok-value.versions c.in_ok-theirs.numbers c.join-2.new.self (performed_in c.args.markers)
+    c.in_ok-value.ensures.normal c.in_ok-theirs.ensures.normal c.in_ok-value.ensures.numbers c.in_ok-theirs.ensures.numbers c.in_ok-join-2.ensures.ok i stays)
 
 pub invariant_of-self : goal.invariant_of-self
 invariant_of-self g c = λ id pruned.
     let R = g.T.Replica in
     let gone = performed_in c.args.markers in
-    let v = c.drop_performed.new.versions in
-    let w = c.drop_performed-2.new.versions in
-    let none : number_at v id ≡ 0 = c.drop_performed.ensures.numbers id ∙ ap (λ m. without gone (number_at m) id) c.in_ok-versions.ensures.same ∙ dropped_nothing gone (number_at c.self.inside.versions) id pruned in
-    let none' : number_at w id ≡ 0 = c.drop_performed-2.ensures.numbers id ∙ ap (λ m. without gone (number_at m) id) c.in_ok-their_versions.ensures.same ∙ dropped_nothing gone (number_at c.other.inside.versions) id pruned in (
+    let v = c.in_ok-value.versions in
+    let w = c.in_ok-theirs.numbers in
+    let none : number_at v id ≡ 0 = c.in_ok-value.ensures.numbers id ∙ dropped_nothing gone (number_at c.self.inside.versions) id pruned in
+    let none' : number_at w id ≡ 0 = c.in_ok-theirs.ensures.numbers id ∙ dropped_nothing gone (number_at c.other.inside.versions) id pruned in (
       joined_nothing v w c.join-2.new.self id none none' c.in_ok-join-2.ensures.ok,
-      ap (λ x. R.mentioned x id) c.in_ok-join.ensures.ok ∙ g.met.T.Replica.joined_mentions c.drop_performed.new.value (number_at v) c.drop_performed-2.new.value (number_at w) id (c.drop_performed.ensures.forgotten id pruned) (c.drop_performed-2.ensures.forgotten id pruned),
+      ap (λ x. R.mentioned x id) c.in_ok-join.ensures.ok ∙ g.met.T.Replica.joined_mentions c.in_ok-value.value (number_at v) c.in_ok-theirs.theirs (number_at w) id (c.in_ok-value.ensures.forgotten id pruned) (c.in_ok-theirs.ensures.forgotten id pruned),
     )
