@@ -1,7 +1,7 @@
 //! Two members in a service that has a transport of its own: here a loop that hands each message to its receiver.
 #![tactic(auto)]
 
-use rd_embedding::{
+use member_embedding::{
     Data, Id, Input, Items, KeyDecl, Kind, Level, Memory, MemoryKeeper, Node, Op, Output, Post,
     Posts, Reply, StepError, Text, TextError, View, ViewList, are_distinct, push_shown,
 };

@@ -4,5 +4,5 @@
 use std::process::ExitCode;
 
 fn main(rt: HostRuntime) -> ExitCode {
-    rd_program::run(&rt)
+    top_program::run(&rt)
 }

@@ -1,0 +1,195 @@
+use crate::combining::combined;
+use crate::grouped::Grouped;
+use crate::recent::{Recent, Room};
+use base_vectors::{Id, Memory, Seq, VersionVector};
+use data_envelope::Group;
+use data_lattice::Replica;
+use std::alloc::Global;
+use std::marker::Model;
+
+/// What is kept of an own record: the records that its origin had before, and its delta, which a prune has not.
+#[derive(Drop)]
+pub struct OwnRecord<D> {
+    pub before: VersionVector,
+    pub delta: Option<D>,
+}
+
+impl<D> OwnRecord<D> {
+    ghost use Rattle.std.specs.Prelude.{◌≡◌, ◌≤◌, ◌^◌, ℕ, IfOk};
+    ghost use Rattle.model_history.specs.Table.{with_at};
+    ghost use Rattle.base_vectors.specs.Vectors.{number_at};
+
+    /// What a taker of a group needs that ends in this record: all that its origin had before it, but of the origin no
+    /// more than the group's first record comes after.
+    fn needs(&self, alloc: Global, origin: Id, after: Seq) -> Result<VersionVector, Memory>
+        requires { after ≤ 2 ^ 62 }
+        ensures { IfOk result (λ needs. (i : ℕ) → number_at needs i ≡ with_at (number_at self.now.before) origin after i) }
+    {
+        let _below_limit = origin.number();
+        let mut needs = self.before.copy(alloc)?;
+        needs.without(origin);
+        if after > 0 {
+            needs.raise(origin, after)?;
+        }
+        Ok(needs)
+    }
+}
+
+/// An own record on its way into a log, with the room that it needs.
+#[derive(Drop)]
+pub struct NextRecord<D> {
+    record: OwnRecord<D>,
+    room: Room<OwnRecord<D>>,
+}
+
+impl<D> NextRecord<D> {
+    ghost use Rattle.std.specs.Prelude.{◌≡◌, Some};
+
+    /// The same record with this delta, and the room that it brings, which takes no memory.
+    pub fn with_delta(mut self, delta: D) -> NextRecord<D>
+    where
+        D: Drop,
+        ensures made { result.record ≡ record self.record { delta = Some delta } }
+        ensures room { result.room ≡ self.room }
+    {
+        self.record.delta = Some(delta);
+        self
+    }
+}
+
+/// The last 50 of a member's own records of one key. Contracts see its parts.
+#[derive(Drop)]
+pub struct DeltaLog<T: Replica> {
+    origin: Id,
+    kind: T::Kind,
+    last: Seq,
+    records: Recent<OwnRecord<T::Delta>>,
+}
+
+impl<T: Replica> Model for DeltaLog<T> {
+    ghost use Rattle.std.specs.Coded.{coded_ℕ, codes};
+    ghost use Rattle.std.specs.FinMap as map;
+    ghost use Rattle.std.specs.Ordering.{nat_cmp};
+    ghost use Rattle.data_deltalog.specs.Contents.{LogParts, IsLog};
+
+    ghost Value = { LogParts T.Kind T.Delta };
+
+    ghost coded = { Prim.hlevel (codes, map.code {R = nat_cmp} coded_ℕ coded_ℕ) };
+
+    ghost view = { λ log. record { origin = log.origin; kind = log.kind; last = log.last; records = log.records } };
+
+    ghost invariant = { λ log. IsLog T.IsOfOrigin T.delta_fits_kind (record { origin = log.origin; kind = log.kind; last = log.last; records = log.records }) };
+}
+
+impl<T: Replica> DeltaLog<T> {
+    ghost use Rattle.std.specs.Prelude.{◌≡◌, ◌<◌, ◌≤◌, ◌^◌, ℕ, ◌+◌, ◌↔◌, [], true, Some, None, IfOk};
+    ghost use Rattle.model_history.specs.History.{History, IsHistory, at};
+    ghost use Rattle.model_history.specs.History.Action.{Operation};
+    ghost use Rattle.model_history.specs.Log.{IsTakenFrom};
+    ghost use Rattle.model_members.specs.DataType.{Replication};
+    ghost use Rattle.model_members.specs.Entry.{Entry, with_action, with_prune, group_after};
+    ghost use Rattle.model_members.specs.Node.{Node as Member, KeyState};
+    ghost use Rattle.model_members.specs.Step.{is_behind, goes_as_group};
+    ghost use Rattle.model_kinds.specs.declared.shown.Shown.{Shown};
+    ghost use Rattle.base_vectors.specs.Vectors.{number_at};
+    ghost use Rattle.data_envelope.specs.Images.{StandsForGroup};
+    ghost use Rattle.data_envelope.specs.Words.{group_parts};
+    ghost use Rattle.data_deltalog.specs.Contents.{appended, answer_by, IsMadeOf, IsDeltaFor};
+    ghost use Rattle.data_deltalog.specs.Answers.{answer_for};
+    ghost use Rattle.data_deltalog.specs.Answers.Answer.{AsGroup};
+    ghost use Rattle.data_deltalog.specs.Words.{answer_in, IfGroup, HasRoom, all_appended, AreNext};
+    ghost use Rattle.data_deltalog.specs.Images.{StandsForLog};
+
+    /// A log without records of an origin, for a key of this kind. Its last number is 0.
+    pub fn new(alloc: Global, origin: Id, kind: T::Kind) -> DeltaLog<T>
+        ensures value { result ≡ record { origin = origin; kind = kind; last = 0; records = [] } }
+        ensures image { (log : History T.Op) (entry : Entry T.Op) → IsHistory log → IsTakenFrom log entry.history → at entry.history origin ≡ 0 → StandsForLog T.IsDeltaOf result log entry }
+    {
+        DeltaLog {
+            origin,
+            kind,
+            last: 0,
+            records: Recent::new(alloc),
+        }
+    }
+
+    /// The origin's next record: the records that the member had before it, and its delta, or nothing for a prune.
+    pub fn prepare(
+        &self,
+        before: VersionVector,
+        delta: Option<T::Delta>,
+    ) -> Result<NextRecord<T::Delta>, Memory>
+        ensures record { IfOk result (λ next. next.record ≡ record { before = before; delta = delta }) }
+        ensures room { IfOk result (HasRoom self.now) }
+    {
+        let room = self.records.room()?;
+        let record = OwnRecord { before, delta };
+        Ok(NextRecord { record, room })
+    }
+
+    /// Adds the origin's next record, which takes no memory. The oldest goes where more than 50 would be kept.
+    pub fn add(&mut self, next: NextRecord<T::Delta>)
+        requires small { self.old.last < 2 ^ 62 }
+        requires fits { IsDeltaFor T.IsOfOrigin T.delta_fits_kind self.old.kind self.old.origin next.record.delta }
+        requires room { HasRoom self.old next }
+        ensures value { self.new ≡ appended self.old next.record.before next.record.delta }
+        ensures operation { (log : History T.Op) (entry : Entry T.Op) (op : T.Op) (made : T.Delta) → StandsForLog T.IsDeltaOf self.old log entry
+            → IsTakenFrom log (with_action entry self.old.origin (Operation op)).history → ((i : ℕ) → number_at next.record.before i ≡ at entry.history i)
+            → next.record.delta ≡ Some made → T.IsDeltaOf made log self.old.origin (at entry.history self.old.origin) (at entry.history self.old.origin + 1)
+            → StandsForLog T.IsDeltaOf self.new log (with_action entry self.old.origin (Operation op)) }
+        ensures prune { (log : History T.Op) (entry : Entry T.Op) (removed : ℕ) → StandsForLog T.IsDeltaOf self.old log entry
+            → IsTakenFrom log (with_prune entry self.old.origin removed).history → ((i : ℕ) → number_at next.record.before i ≡ at entry.history i) → next.record.delta ≡ None
+            → StandsForLog T.IsDeltaOf self.new log (with_prune entry self.old.origin removed) }
+    {
+        self.records.push(next.record, next.room);
+        self.last += 1;
+    }
+
+    /// Adds records that were prepared from the log as it is, in their order, which takes no memory.
+    pub fn add_all(&mut self, records: Vec<NextRecord<T::Delta>>)
+        requires { AreNext T.IsOfOrigin T.delta_fits_kind self.old records.items }
+        ensures { self.new ≡ all_appended self.old records.items }
+    {
+        for next in records {
+            self.add(next);
+        }
+    }
+
+    /// The records after a number, up to the last, as one group.
+    pub fn group(&self, alloc: Global, after: Seq) -> Result<Grouped<T>, Memory>
+        ensures answer { IfOk result (λ grouped. answer_in grouped ≡ answer_by self.now after) }
+        ensures group { IfOk result (λ grouped. IfGroup grouped (λ made. IsMadeOf T.combined self.now after (group_parts made))) }
+        ensures fits { IfOk result (λ grouped. IfGroup grouped (λ made. T.delta_fits_kind self.now.kind made.delta ≡ true)) }
+        ensures origin { IfOk result (λ grouped. IfGroup grouped (λ made. T.IsOfOrigin made.delta made.origin)) }
+        ensures means { (log : History T.Op) (entry : Entry T.Op) → StandsForLog T.IsDeltaOf self.now log entry
+            → IfOk result (λ grouped. answer_in grouped ≡ answer_for entry self.now.origin after) }
+        ensures image { (log : History T.Op) (entry : Entry T.Op) → StandsForLog T.IsDeltaOf self.now log entry
+            → IfOk result (λ grouped. IfGroup grouped (λ made. StandsForGroup T.IsDeltaOf (group_parts made) log (group_after entry self.now.origin after))) }
+        ensures flush { (D : Replication T.Kind T.Op Shown) (node : Member T.Kind T.Op Shown) (peer : ℕ) (key : KeyState T.Kind T.Op) (log : History T.Op) → StandsForLog T.IsDeltaOf self.now log key.entry
+            → D.log_length ≡ 50 → node.identity ≡ self.now.origin → node.flushed key.name peer ≡ after → is_behind D node peer key ≡ true
+            → IfOk result (λ grouped. (answer_in grouped ≡ AsGroup) ↔ (goes_as_group D node peer key ≡ true)) }
+    {
+        if after >= self.last {
+            return Ok(Grouped::Nothing);
+        }
+        let wanted = self.last - after;
+        let kept = self.records.len();
+        if wanted > kept as u64 {
+            return Ok(Grouped::TooOld);
+        }
+        let first = kept - wanted as usize;
+        match combined::<T>(alloc, &self.records, first)? {
+            None => Ok(Grouped::NoDelta),
+            Some(delta) => {
+                let last = self.records.at(kept - 1);
+                Ok(Grouped::Group(Group {
+                    origin: self.origin,
+                    after,
+                    upto: self.last,
+                    needs: last.needs(alloc, self.origin, after)?,
+                    delta,
+                }))
+            }
+        }
+    }
+}

@@ -1,0 +1,13 @@
+use Rattle.std.proofs.Common.{sym, subst}
+use Rattle.member_node.proofs.Common.{IsStepOf}
+use Rattle.member_node.proofs.Making.{makes_step}
+use Rattle.member_node.proofs.node.Node.make.Goals as goal
+
+pub returns-clause-made : goal.returns-clause-made
+returns-clause-made g c = λ input prepares.
+    let old = c.args.self.now in
+    let prepared = c.args.prepared in
+    let fate = c.in_ok-fate.fate in
+    let new = c.carry.new.self in
+    let step = makes_step g.T.SpelledData old prepared c.requires.sound fate new c.in_ok-fate.ensures.carried c.requires.room input prepares in
+    record { fate = fate; makes = subst (λ output. IsStepOf g.T.SpelledData old input fate output new) (sym c.after.ensures) step }

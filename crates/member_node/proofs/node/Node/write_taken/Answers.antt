@@ -1,0 +1,64 @@
+use Rattle.std.proofs.Common.{◌≡◌, [], ◌∷◌, None, false, not, length, get_or, refl, sym, ap, ◌∙◌, subst, subst₂}
+use Rattle.std.specs.List.{list_any}
+use Rattle.member_node.proofs.Common.{is_unchanged, one_step_later, NoStore, step_of_take, after_entries, answer_to, StandsForPosts, Each, Prepared, AreMade, TellsEntries, IsPrepared, replication, IsKept, LeadsTo, AreExactAt}
+use Rattle.model_members.specs.Message.{Message as Sent}
+use Rattle.model_members.specs.Step.{took}
+use Rattle.model_members.proofs.Taking.{after_entries-only}
+use Rattle.member_node.specs.declared.operations.OperationChange.TheVariants.{Same}
+use Rattle.member_node.proofs.TakingSteps.{written_taken, member_is, step_taken, held_later, sound_taken, prepared_taken}
+use Rattle.member_node.proofs.Operating.{operates_same}
+use Rattle.member_node.proofs.Sendings.{took_reply, not_opened, changed_is}
+use Rattle.member_node.proofs.node.Node.write_taken.Goals as goal
+
+pub any_changed-requires : goal.any_changed-requires
+any_changed-requires g c =
+    subst₂ (λ changes keys. length changes ≡ length keys) (sym c.deref-3.ensures.value) (c.deref.ensures.value ∙ sym c.deref-2.ensures.value) c.in_ok-changes.ensures.kept.one_each
+
+pub returns : goal.returns
+returns g c =
+    let R = g.T.Replica in
+    let code = c.args.self.now in
+    let changes = c.in_ok-changes.changes in
+    record {
+      sound =
+          let kept = subst (λ keys. AreMade (IsKept R.kind_of code.id) keys changes.items) c.deref.ensures.value c.in_ok-changes.ensures.kept in
+          record {
+            plan = sound_taken code changes kept;
+            operations = tt;
+            pending = not_opened c.of_take-reply.result false c.any_changed.result [] c.of_take-reply.ensures;
+          };
+      image = λ kinds logs node sent s i safe.
+          let D = replication R g.T.SpelledData in
+          let from = c.args.from in
+          let op = c.args.op in
+          let key = c.args.key.now in
+          let envelope = c.args.envelope.now in
+          let later = one_step_later node in
+          let w = i.message_stands in
+          let after = after_entries later w.told_entries in
+          let only = after_entries-only w.told_entries later in
+          let keys_are = c.deref.ensures.value in
+          let member = member_is R.kind_of R.IsDataOf kinds logs code node s from ∙ c.requires in
+          let next = took D later after NoStore [] (answer_to D from (Sent.WriteAck op)) in
+          let same = step_taken D node from sent i.told i.is member ∙ ap (step_of_take D later from NoStore) w.is
+          ∙ ap (λ n. took D later n NoStore [] (answer_to D from (Sent.WriteAck op))) (written_taken R kinds logs code.keys.items later s.keys op key envelope i.told w) in
+          let exact = subst (λ st. AreExactAt code.keys.items st.node.entries) same (λ k d within. safe.exact (get_or code.keys.items k d).name) in
+          let kept = subst (λ keys. AreMade (IsKept R.kind_of code.id) keys changes.items) keys_are c.in_ok-changes.ensures.kept in
+          let work = c.in_ok-changes.ensures.image kinds logs later w.told_entries (subst (λ keys. AreExactAt keys after.entries) (sym keys_are) exact)
+          (held_later kinds logs code node s c.deref.result.now c.number-view.result keys_are c.number-view.ensures.number)
+          (subst (λ keys. TellsEntries R kinds logs keys (record { key = key; item = envelope } ∷ []) w.told_entries) (sym keys_are) w.entries_stand) in
+          let leads = subst (λ keys. AreMade (LeadsTo R.IsDataOf logs node.entries after.entries) keys changes.items) keys_are work.leads in
+          let test = c.any_changed.ensures logs node.entries after.entries (subst₂ (AreMade (LeadsTo R.IsDataOf logs node.entries after.entries)) (sym c.deref-2.ensures.value) (sym c.deref-3.ensures.value) leads)
+          ∙ ap (list_any (λ state. not (is_unchanged (node.entries state.name) (after.entries state.name)))) c.deref-2.ensures.value
+          ∙ sym (changed_is later after code.keys.items (ap (λ n. n.keys) only ∙ s.keys)) in
+          let prepared : Prepared g.row.T.Denot g.row.T-Kind.Denot g.row.T-Op.Denot g.row.T-Delta.Denot R =
+          record { view = None; plan = Each changes; operations = Same; output = record { reply = c.of_take-reply.result; posts = c.in_ok-posts.posts; finished = None } } in
+          subst (λ st. IsPrepared {ghosts = R} kinds logs code.keys.items code.operations node st prepared) (sym same)
+          (prepared_taken code changes kept kinds logs node s after only leads next refl prepared refl refl
+          (operates_same code.operations node after s.operations (ap (λ n. n.open_operations) only) (ap (λ n. n.finished) only) (ap (λ n. n.next_op) only))
+          (record {
+            reply = took_reply D c.of_take-reply.result c.any_changed.result later after c.of_take-reply.ensures test;
+            posts = subst (λ posts. StandsForPosts {ghosts = R} R.kind_of R.IsDataOf kinds logs posts (answer_to D from (Sent.WriteAck op))) (sym c.in_ok-posts.ensures) (record { to = refl; message = refl }, tt);
+            ended = refl;
+          }));
+    }

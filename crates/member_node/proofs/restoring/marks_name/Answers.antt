@@ -1,0 +1,24 @@
+use Rattle.std.proofs.Common.{◌≡◌, ◌<◌, ap, sym, ◌∙◌, arith}
+use Rattle.member_node.proofs.Common.{identity_limit, mark_of}
+use Rattle.base_vectors.proofs.Walks.{any_identity, none_more, any_at_end}
+use Rattle.member_node.specs.Restoring.{names_at}
+use Rattle.member_node.proofs.restoring.marks_name.Goals as goal
+use Rattle.member_node.proofs.restoring.marks_name.Goals.{in-Some+else-names_at, in_default}
+
+pub returns-then-names_at : goal.returns-then-names_at
+returns-then-names_at c =
+    let few : c.in-Some.removed < identity_limit = omega (arith, c.in-Some.ensures.value) in
+    sym (any_identity (λ r. names_at r (mark_of c.args.markers.now r) c.args.id) c.in-Some.removed few (sym c.names_at.ensures ∙ c.if-names_at.true))
+
+pub loop-number-preserved : goal.loop-number-preserved
+loop-number-preserved c = elim c.match-new.branch [
+  | in-Some+else-names_at w ↦
+      none_more (λ r. names_at r (mark_of c.args.markers.now r) c.args.id) c.loop-number.number c.loop-number.invariant
+      (ap (λ r. names_at r (mark_of c.args.markers.now r) c.args.id) (sym w.in-Some.ensures.value) ∙ sym w.names_at.ensures ∙ w.if-names_at.false)
+  | in_default w ↦ absurd (let no = w.in_default.ensures.variant.1 c.loop-number-test.true in cc)
+]
+
+pub returns : goal.returns
+returns c =
+    let all : c.loop-number.number ≡ identity_limit = omega arith in
+    sym c.loop-number.invariant ∙ any_at_end (λ r. names_at r (mark_of c.args.markers.now r) c.args.id) c.loop-number.number all

@@ -1,0 +1,10 @@
+use Rattle.std.proofs.Common.{◌≡◌, ℕ, ◌<◌, length, slice_index_or}
+use Rattle.member_node.proofs.Common.{KeyState, Change, IsFlush}
+use Rattle.member_node.proofs.sending.flushes.Given as goal
+
+abbrev pub invariant-loop-state : goal.invariant-loop-state
+invariant-loop-state g l = record {
+  counted : length l.changes ≡ l.state-index;
+  made : (k : ℕ) (d : KeyState g.row.T.Denot g.row.T-Kind.Denot g.row.T-Op.Denot g.row.T-Delta.Denot) (e : Change g.row.T.Denot g.row.T-Kind.Denot g.row.T-Op.Denot g.row.T-Delta.Denot) → k < l.state-index
+      → IsFlush l.id l.members (slice_index_or l.keys k d) (slice_index_or l.changes k e);
+}

@@ -1,0 +1,39 @@
+ghost use Rattle.std.specs.Prelude.{◌≡◌, ℕ, ◌<◌, sum_by, map, if◌then◌else◌, Bool, ◌&&◌, not, Option, Some, slice_get};
+ghost use Rattle.std.specs.List.{list_any};
+ghost use Rattle.model_history.specs.Table.{identity_limit, identities};
+ghost use Rattle.model_history.specs.Texts.{Text};
+ghost use Rattle.model_history.specs.History.{History, Stamped, cut, all_records, precedes, IsHistory, IsExactlyPruned, is_pruned};
+ghost use Rattle.model_meanings.specs.Counter.{brought, share, total};
+ghost use Rattle.model_meanings.specs.Growing.{Assignment, greatest, timestamp_after, found, added_elements, is_on, timestamp, winning_text};
+ghost use Rattle.model_meanings.specs.ObservedRemove.{SetOperations, is_adding_by, touches_by, touches, is_live, live_elements};
+ghost use Rattle.model_meanings.specs.Prunes.{after_prune};
+
+/// Nothing is lost or doubled by a prune: the shares of the identities without a prune add up to the total.
+pub fn shares_add_up<Operation>()
+    ensures { (amount : Operation → ℕ) (H : History Operation) → IsHistory H → IsExactlyPruned H
+        → sum_by (λ i. if is_pruned H i then 0 else share amount H i) identities ≡ total amount H }
+{}
+
+/// What meanings by recursion on pasts say: each is what its definition says of a history, with itself in the pasts of the history's records. So nobody has to believe how deep the recursion goes.
+/// A share is what the identity's records bring, and a prune brings the share in its own past.
+/// A timestamp is the one after the greatest in the record's past.
+/// A record touches an element by its operation, and a prune by a live adding record of the pruned identity in the prune's past.
+pub fn meanings_by_pasts<Operation>()
+    ensures share { (amount : Operation → ℕ) (H : History Operation) → IsHistory H → (i : ℕ) → share amount H i ≡ sum_by (brought amount (share amount) H) (H i) }
+    ensures timestamp { (assigned : Operation → Option Assignment) (H : History Operation) → IsHistory H → (k : ℕ) (x : Stamped Operation) → slice_get (all_records H) k ≡ Some x
+        → timestamp assigned H x ≡ timestamp_after (greatest (map (timestamp assigned (cut H x.past)) (all_records (cut H x.past)))) (found assigned x.action) }
+    ensures touches { (operations : SetOperations Operation) (e : Text) (H : History Operation) → IsHistory H → (k : ℕ) (x : Stamped Operation) → slice_get (all_records H) k ≡ Some x
+        → touches operations e H x ≡ touches_by operations (touches operations e) e H x.past x.action }
+    ensures live { (operations : SetOperations Operation) (e : Text) (H : History Operation) (x : Stamped Operation)
+        → is_live operations e H x ≡ (is_adding_by operations (touches operations e) e H x x.action && not (list_any (λ y. precedes x y && touches operations e H y) (all_records H))) }
+{}
+
+/// A prune changes nothing at its moment: whoever prunes whom, the history means what it meant before.
+/// It adds nothing, writes nothing, and what was live of the pruned identity is live of the owner.
+pub fn prunes_mean_nothing_new<Operation>()
+    ensures total { (amount : Operation → ℕ) (H : History Operation) (owner removed : ℕ) → owner < identity_limit → total amount (after_prune H owner removed) ≡ total amount H }
+    ensures elements { (added : Operation → Option Text) (H : History Operation) (owner removed : ℕ) → owner < identity_limit → added_elements added (after_prune H owner removed) ≡ added_elements added H }
+    ensures switch { (on : Operation → Bool) (H : History Operation) (owner removed : ℕ) → owner < identity_limit → is_on on (after_prune H owner removed) ≡ is_on on H }
+    ensures text { (assigned : Operation → Option Assignment) (H : History Operation) (owner removed : ℕ) → owner < identity_limit → IsHistory H → winning_text assigned (after_prune H owner removed) ≡ winning_text assigned H }
+    ensures live { (operations : SetOperations Operation) (H : History Operation) (owner removed : ℕ) → owner < identity_limit → IsHistory H → live_elements operations (after_prune H owner removed) ≡ live_elements operations H }
+{}

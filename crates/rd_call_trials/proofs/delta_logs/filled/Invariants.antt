@@ -1,5 +1,0 @@
-use Rattle.std.proofs.Common.{◌≡◌}
-use Rattle.rd_call_trials.proofs.delta_logs.filled.Given as goal
-
-abbrev pub invariant-loop-number : goal.invariant-loop-number
-invariant-loop-number l = (l.log.last ≡ l.number) × (l.log.origin ≡ l.origin)

@@ -1,9 +1,0 @@
-use rd_machine::machine::Machine;
-use rd_machine::machines::Machines;
-
-/// What a table begins with: the machines, and how many clients there are.
-#[derive(Drop)]
-pub struct Opening<M: Machine> {
-    pub machines: Machines<M>,
-    pub clients: u32,
-}

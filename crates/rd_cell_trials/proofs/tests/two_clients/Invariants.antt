@@ -1,5 +1,0 @@
-use Rattle.rd_cell_trials.proofs.tests.two_clients.Given as goal
-
--- the table that was just made
-abbrev pub ghosts-added : goal.ghosts-added
-ghosts-added g a = record { table = a.unnamed.table }

@@ -1,6 +1,0 @@
-use Rattle.std.proofs.Common.{◌≡◌, map, take}
-use Rattle.rd_world.specs.Sending.{told_of}
-use Rattle.rd_clients.proofs.telling.sketches.Given as goal
-
-abbrev pub invariant-loop-post : goal.invariant-loop-post
-invariant-loop-post g l = l.sent ≡ map told_of (take l.post-index l.posts)

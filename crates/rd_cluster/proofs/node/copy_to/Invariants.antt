@@ -1,9 +1,0 @@
-use Rattle.std.proofs.Common.{◌≡◌, ◌-◌, ◌++◌, take, drop, length}
-use Rattle.rd_cluster.specs.Messages.{messages_to}
-use Rattle.rd_cluster.proofs.node.copy_to.Given as goal
-
-abbrev pub invariant-loop-post : goal.invariant-loop-post
-invariant-loop-post g l = record {
-  left : l.left ≡ l.skip - length (messages_to l.to (take l.post-index l.posts));
-  copies : l.copies.items ≡ l.initial.copies.items ++ drop l.skip (messages_to l.to (take l.post-index l.posts));
-}

@@ -1,5 +1,0 @@
-use Rattle.rd_counters.proofs.Limits.{amounts_empty}
-use Rattle.rd_counters.proofs.amounts.Amounts.new.Goals as goal
-
-pub invariant_of-result : goal.invariant_of-result
-invariant_of-result c = amounts_empty c.new.result c.new.ensures

@@ -1,6 +1,0 @@
-use Rattle.rd_vectors.specs.Vectors.{number_at}
-use Rattle.rd_counters.proofs.Sums.{IsSumBelow}
-use Rattle.rd_counters.proofs.counter.GCounter.sum.Given as goal
-
-abbrev pub invariant-loop-number : goal.invariant-loop-number
-invariant-loop-number l = IsSumBelow (number_at l.self.shares) l.number l.total

@@ -1,5 +1,0 @@
-use Rattle.rd_embedding.specs.Names.{AreDistinctBelow}
-use Rattle.rd_embedding.proofs.distinct.are_distinct.Given as goal
-
-abbrev pub invariant-loop-index : goal.invariant-loop-index
-invariant-loop-index g l = AreDistinctBelow (λ decl. decl.key) l.index l.keys

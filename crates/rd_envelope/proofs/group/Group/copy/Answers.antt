@@ -1,6 +1,0 @@
-use Rattle.std.proofs.Common.{refl}
-use Rattle.rd_envelope.proofs.Groups.{same_group}
-use Rattle.rd_envelope.proofs.group.Group.copy.Goals as goal
-
-pub returns : goal.returns
-returns g c = same_group _ _ refl refl refl c.in_ok-needs.ensures.same c.in_ok-delta.ensures

@@ -1,8 +1,0 @@
-use Rattle.rd_history.proofs.Bridge.{consistent_cut, exact_pruned_cut}
-use Rattle.rd_history.proofs.laws.cuts_by_histories.Goals as goal
-
-pub returns-clause-consistent : goal.returns-clause-consistent
-returns-clause-consistent g c = consistent_cut
-
-pub returns-clause-pruned : goal.returns-clause-pruned
-returns-clause-pruned g c = exact_pruned_cut

@@ -1,5 +1,0 @@
-use Rattle.rd_markers.proofs.Seen.{IsSeenBelow}
-use Rattle.rd_markers.proofs.markers.Markers.add_seen.Given as goal
-
-abbrev pub invariant-loop-number : goal.invariant-loop-number
-invariant-loop-number l = IsSeenBelow l.id l.view l.initial.self l.self l.changed l.number

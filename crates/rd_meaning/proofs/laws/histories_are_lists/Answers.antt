@@ -1,5 +1,0 @@
-use Rattle.rd_meaning.proofs.Spelled.{spelled}
-use Rattle.rd_meaning.proofs.laws.histories_are_lists.Goals as goal
-
-pub returns : goal.returns
-returns c = λ H history. spelled H history

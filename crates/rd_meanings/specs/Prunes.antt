@@ -1,8 +1,0 @@
--- A history at the moment after a prune.
-use Rattle.std.specs.Prelude.{ℕ}
-use Rattle.rd_history.specs.History.{History, versions, with_record}
-use Rattle.rd_history.specs.History.Action.{Prune}
-
--- the history after its owner pruned an identity: one record more, whose past is the whole history
-abbrev pub after_prune : {Op : Type 0} → History Op → (owner removed : ℕ) → History Op
-after_prune H owner removed = with_record H owner (record { action = Prune removed; past = versions H })

@@ -1,8 +1,0 @@
-use Rattle.rd_model.proofs.Levels.{all_needed, majority_needed}
-use Rattle.rd_model.proofs.laws.levels_need.Goals as goal
-
-pub returns-clause-all : goal.returns-clause-all
-returns-clause-all c = all_needed
-
-pub returns-clause-majority : goal.returns-clause-majority
-returns-clause-majority c = majority_needed

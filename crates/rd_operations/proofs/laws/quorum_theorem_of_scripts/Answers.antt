@@ -1,5 +1,0 @@
-use Rattle.rd_operations.proofs.QuorumOfScripts.{gets_include}
-use Rattle.rd_operations.proofs.laws.quorum_theorem_of_scripts.Goals as goal
-
-pub returns : goal.returns
-returns g c = λ D answers members keys steps some few ok. gets_include D answers members keys steps some few ok

@@ -1,7 +1,0 @@
-use Rattle.std.proofs.Common.{◌≡◌, ◌≤◌, take, length}
-use Rattle.rd_history.specs.Texts.{text_set}
-use Rattle.rd_orset.specs.Keeping.{texts_of}
-use Rattle.rd_orset.proofs.elements.count_elements.Given as goal
-
-abbrev pub invariant-loop-index : goal.invariant-loop-index
-invariant-loop-index l = (l.count ≡ length (text_set (texts_of (take l.index l.dots)))) × (l.count ≤ l.index)

@@ -1,7 +1,0 @@
-use Rattle.std.proofs.Common.{◌≡◌, take}
-use Rattle.rd_history.specs.Texts.{text_set}
-use Rattle.rd_orset.specs.Keeping.{texts_of}
-use Rattle.rd_orset.proofs.elements.elements_of.Given as goal
-
-abbrev pub invariant-loop-index : goal.invariant-loop-index
-invariant-loop-index l = l.all.items ≡ text_set (texts_of (take l.index l.dots))

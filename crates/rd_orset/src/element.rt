@@ -1,9 +1,0 @@
-use rd_bytes::{Items, Text};
-use rd_vectors::Dot;
-
-/// An element with its dots, which rise by origin, then by number.
-#[derive(Drop)]
-pub struct Element {
-    pub text: Text,
-    pub dots: Items<Dot>,
-}

@@ -1,6 +1,0 @@
-use Rattle.std.proofs.Common.{◌++◌, string_bytes, ap, sym, ◌∙◌}
-use Rattle.rd_report.specs.Lines.{answer_text}
-use Rattle.rd_report.proofs.lines.push_answer.Goals as goal
-
-pub returns-in_ok-write-in-Settled : goal.returns-in_ok-write-in-Settled
-returns-in_ok-write-in-Settled c = c.in_ok-write-in-Settled.ensures.bytes ∙ ap (λ a. string_bytes c.args.text.now ++ answer_text a) (sym c.in-Settled.is)

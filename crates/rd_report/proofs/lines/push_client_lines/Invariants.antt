@@ -1,6 +1,0 @@
-use Rattle.std.proofs.Common.{◌≡◌, ◌++◌, flat_map, take, string_bytes}
-use Rattle.rd_report.specs.Lines.{client_line_text}
-use Rattle.rd_report.proofs.lines.push_client_lines.Given as goal
-
-abbrev pub invariant-loop-line : goal.invariant-loop-line
-invariant-loop-line l = string_bytes l.text ≡ string_bytes l.initial.text ++ flat_map (client_line_text l.number) (take l.line-index l.lines)

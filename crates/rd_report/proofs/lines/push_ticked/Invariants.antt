@@ -1,6 +1,0 @@
-use Rattle.std.proofs.Common.{◌≡◌, ◌++◌, flat_map, take, string_bytes}
-use Rattle.rd_report.specs.Lines.{outcome_text}
-use Rattle.rd_report.proofs.lines.push_ticked.Given as goal
-
-abbrev pub invariant-loop-told : goal.invariant-loop-told
-invariant-loop-told l = string_bytes l.text ≡ string_bytes l.initial.text ++ flat_map outcome_text (take l.told-index l.outcomes)

@@ -1,6 +1,0 @@
-use Rattle.std.proofs.Common.{◌≡◌, ◌+◌, map, drop}
-use Rattle.rd_report.specs.Run.{place_in}
-use Rattle.rd_report.proofs.order.place_of.Given as goal
-
-abbrev pub invariant-loop-i : goal.invariant-loop-i
-invariant-loop-i g l = l.i + place_in (map (λ decl. decl.key) (drop l.i l.decls)) l.name ≡ place_in (map (λ decl. decl.key) l.decls) l.name

@@ -1,5 +1,0 @@
-use Rattle.rd_report.proofs.SectionStages.{back_further}
-use Rattle.rd_report.proofs.sections.plain_told.Goals as goal
-
-pub returns-in-Err : goal.returns-in-Err
-returns-in-Err g c = back_further c.args.first c.plain_step.new.world c.given_back.result.items c.in-Err.ensures c.given_back.ensures

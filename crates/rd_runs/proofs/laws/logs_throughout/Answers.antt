@@ -1,5 +1,0 @@
-use Rattle.rd_runs.proofs.AgreementOverRuns.{logs_throughout}
-use Rattle.rd_runs.proofs.laws.logs_throughout.Goals as goal
-
-pub returns : goal.returns
-returns g c = λ D members keys events world is_run. logs_throughout D members keys events world is_run

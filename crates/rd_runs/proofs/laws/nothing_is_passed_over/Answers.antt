@@ -1,6 +1,0 @@
-use Rattle.rd_runs.proofs.Safety.{runs_are_safe}
-use Rattle.rd_runs.proofs.PassedOver.{nothing_is_passed_over}
-use Rattle.rd_runs.proofs.laws.nothing_is_passed_over.Goals as goal
-
-pub returns : goal.returns
-returns g c = λ D members keys events world is_run. nothing_is_passed_over D _ world (runs_are_safe D members keys events world is_run)

@@ -1,6 +1,0 @@
-use Rattle.rd_runs.proofs.Safety.{runs_are_safe}
-use Rattle.rd_runs.proofs.RunViews.{sound_views}
-use Rattle.rd_runs.proofs.laws.sound_views.Goals as goal
-
-pub returns : goal.returns
-returns g c = λ D members keys events world is_run. sound_views D _ world (runs_are_safe D members keys events world is_run).views

@@ -1,8 +1,0 @@
-use Rattle.std.proofs.Common.{◌≡◌, ◌*◌, ◌≤◌, take}
-use Rattle.rd_script.specs.Clients.{count_of}
-use Rattle.rd_script.proofs.commands.count.Given as goal
-
-abbrev pub invariant-loop-command : goal.invariant-loop-command
-invariant-loop-command l =
-    (l.count ≡ count_of (take l.command-index l.commands))
-    × (l.count ≤ 1024 * l.command-index)

@@ -1,8 +1,0 @@
-use Rattle.rd_model.specs.Script.{opening}
-use Rattle.rd_runs.proofs.Playing.{no_events}
-use Rattle.rd_sections.proofs.Sectioned.{all_run}
-use Rattle.rd_sections.proofs.laws.sections_are_runs.Goals as goal
-
-pub returns : goal.returns
-returns g c = λ D members keys answers steps some few ok lines last plays.
-    all_run D members keys (opening answers members keys) last steps lines ok plays (no_events D members keys answers some few)

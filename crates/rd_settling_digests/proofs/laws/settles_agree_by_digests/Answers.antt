@@ -1,5 +1,0 @@
-use Rattle.rd_settling_digests.proofs.ByDigests.{agree_by_digests}
-use Rattle.rd_settling_digests.proofs.laws.settles_agree_by_digests.Goals as goal
-
-pub returns : goal.returns
-returns g c = λ D byte_of history_spelled same stays answers members keys steps some few ok. agree_by_digests D byte_of history_spelled same stays answers members keys steps some few ok

@@ -1,5 +1,0 @@
-use Rattle.rd_settling_digests.proofs.Telling.{spelled_alike}
-use Rattle.rd_settling_digests.proofs.laws.spellings_tell.Goals as goal
-
-pub returns : goal.returns
-returns g c = λ D byte_of history_spelled members keys events world is_run i j a b decl ra rb e. spelled_alike D byte_of history_spelled members keys events world is_run i j a b decl ra rb e

@@ -1,7 +1,0 @@
-use Rattle.std.proofs.Common.{◌≡◌, map, string_bytes}
-use Rattle.rd_vectors.specs.IdSets.{members_in}
-use Rattle.rd_texts.proofs.Ranges.{member_words}
-use Rattle.rd_texts.proofs.marks.members.Given as goal
-
-abbrev pub invariant-loop-number : goal.invariant-loop-number
-invariant-loop-number l = map string_bytes l.texts ≡ member_words (members_in l.set) l.number

@@ -1,6 +1,0 @@
-use Rattle.std.proofs.Common.{refl}
-use Rattle.rd_texts.proofs.Ranges.{some_words}
-use Rattle.rd_texts.proofs.words.push_words_or_dash.Goals as goal
-
-pub returns : goal.returns
-returns c = rw (some_words c.args.words.now c.if-is_empty.ensures) (c.push_joined.ensures 32 refl)

@@ -1,6 +1,0 @@
-use Rattle.std.proofs.Common.{◌≡◌}
-use Rattle.rd_threads.specs.Lines.{all_lines}
-use Rattle.rd_threads.proofs.lines.joined.Given as goal
-
-abbrev pub invariant-loop-one : goal.invariant-loop-one
-invariant-loop-one l = l.all ≡ all_lines l.yielded

@@ -1,6 +1,0 @@
-use Rattle.std.proofs.Common.{◌≡◌}
-use Rattle.rd_views.specs.Views.{first_view}
-use Rattle.rd_views.proofs.view.first_members.Given as goal
-
-abbrev pub invariant-loop-number : goal.invariant-loop-number
-invariant-loop-number l = l.members.items ≡ (first_view l.number).members

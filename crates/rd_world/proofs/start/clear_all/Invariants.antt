@@ -1,5 +1,0 @@
-use Rattle.rd_world.proofs.Starting.{AreClearedBelow}
-use Rattle.rd_world.proofs.start.clear_all.Given as goal
-
-abbrev pub invariant-loop-place : goal.invariant-loop-place
-invariant-loop-place g l = AreClearedBelow g.K.Keeper l.place l.initial.keepers.items l.keepers.items

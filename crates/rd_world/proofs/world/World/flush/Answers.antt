@@ -1,5 +1,0 @@
-use Rattle.rd_world.proofs.Steps.{flushes}
-use Rattle.rd_world.proofs.world.World.flush.Goals as goal
-
-pub returns : goal.returns
-returns g c = flushes g.T.SpelledData c.args.self.now c.give.new.self g.met.K.Keeper.tells_alike c.give.result c.args.at c.give.ensures

@@ -1,8 +1,0 @@
-use Rattle.rd_model.specs.Script.{install_last}
-use Rattle.rd_node.specs.Steps.{replication}
-use Rattle.rd_world.specs.Settling.{Settles}
-use Rattle.rd_world.proofs.SettleParts.{called_for}
-use Rattle.rd_world.proofs.world.World.install_all.Given as goal
-
-abbrev pub invariant-loop-id : goal.invariant-loop-id
-invariant-loop-id g l = Settles g.T.SpelledData (called_for (install_last (replication g.T.Replica g.T.SpelledData)) l.id-items l.id-index) l.initial.self l.self l.initial.events l.events

@@ -1,0 +1,301 @@
+ghost use Rattle.std.specs.Prelude.{◌≡◌, ◌∷◌, ◌++◌, map, flat_map, string_bytes, OnOk, Some};
+ghost use Rattle.model_members.specs.Report.{words, reply_text, key_outcome_text};
+ghost use Rattle.model_kinds.specs.ShownText.{shown_text};
+ghost use Rattle.member_node.specs.Members.{meant};
+ghost use Rattle.member_node.specs.Replies.{meant_at_key};
+ghost use Rattle.report_lines.specs.Lines.{sketch_text, outcome_text, head_words, answer_text, sent_text, finished_text, tails_text, event_text, ending_text, client_tails_text, client_line_text};
+
+use base_bytes::Memory;
+use member_node::{Finished, KeyOutcome, MessageKind, OperationResult, Outcome, Reply, Sketch};
+use report_texts::push_shown;
+use std::alloc::Global;
+use world_members::{Answer, ClientLine, Ended, Event, Head, SentTo};
+
+/// Adds what is printed of a message.
+fn push_sketch(text: &mut String, sketch: Sketch) -> Result<(), Memory>
+    ensures { OnOk result (string_bytes text.new ≡ string_bytes text.old ++ sketch_text sketch) }
+{
+    let first = sketch.first;
+    let second = sketch.second;
+    match sketch.kind {
+        MessageKind::Deltas => write!(text, "deltas/{first}/{second}")?,
+        MessageKind::Nack => write!(text, "nack/{first}")?,
+        MessageKind::Status => write!(text, "status/{first}")?,
+        MessageKind::Gossip => write!(text, "gossip/{first}/{second}")?,
+        MessageKind::Write => text.push_str("write")?,
+        MessageKind::WriteAck => text.push_str("write-ack")?,
+        MessageKind::WriteNack => text.push_str("write-nack")?,
+        MessageKind::Read => text.push_str("read")?,
+        MessageKind::ReadAnswer => text.push_str("read-answer")?,
+    }
+    Ok(())
+}
+
+/// Adds what was done.
+fn push_head(text: &mut String, head: &Head) -> Result<(), Memory>
+    ensures { OnOk result (string_bytes text.new ≡ string_bytes text.old ++ words (head_words head.now)) }
+{
+    match head {
+        Head::Update { at, key } => write!(text, "update {} {}", at.number(), key.as_str())?,
+        Head::Get { at, key } => write!(text, "get {} {}", at.number(), key.as_str())?,
+        Head::Flush { at } => write!(text, "flush {}", at.number())?,
+        Head::Tick { at } => write!(text, "tick {}", at.number())?,
+        Head::Gossip { at, to } => write!(text, "gossip {} {}", at.number(), to.number())?,
+        Head::Deliver {
+            from,
+            to,
+            index,
+            sketch,
+        } => {
+            write!(text, "deliver {}>{} {index}", from.number(), to.number())?;
+            if let Some(sketch) = sketch {
+                text.push_str(" ")?;
+                push_sketch(text, *sketch)?;
+            }
+        }
+        Head::Lose { from, to, index } => {
+            write!(text, "lose {}>{} {index}", from.number(), to.number())?;
+        }
+        Head::Round => text.push_str("round")?,
+        Head::Timeout { at, op } => write!(text, "timeout {} {op}", at.number())?,
+        Head::Remove { id } => write!(text, "remove {}", id.number())?,
+        Head::Join { place } => write!(text, "join {place}")?,
+        Head::Restart { id } => write!(text, "restart {}", id.number())?,
+        Head::Install { at, view } => write!(text, "install {} view {view}", at.number())?,
+        Head::Settle => text.push_str("settle")?,
+    }
+    Ok(())
+}
+
+/// Adds what a tick made of the records of one identity that left, after a space.
+fn push_outcome(text: &mut String, told: &KeyOutcome) -> Result<(), Memory>
+    ensures { OnOk result (string_bytes text.new ≡ string_bytes text.old ++ outcome_text told.now) }
+{
+    write!(text, " {}/{}:", told.key.as_str(), told.removed.number())?;
+    match told.outcome {
+        Outcome::Marked => text.push_str("marked")?,
+        Outcome::Performed => text.push_str("performed")?,
+        Outcome::Waiting(unseen) => write!(text, "waiting-{}", unseen.number())?,
+        Outcome::Blocked {
+            owner_share,
+            removed_share,
+        } => write!(text, "blocked-{owner_share}-{removed_share}")?,
+        Outcome::Newer => text.push_str("newer")?,
+    }
+    Ok(())
+}
+
+/// Adds how a tick ended, and then its outcomes.
+fn push_ticked(text: &mut String, end: &str, outcomes: &[KeyOutcome]) -> Result<(), Memory>
+    ensures { OnOk result (string_bytes text.new ≡ string_bytes text.old ++ words (end.now ∷ map key_outcome_text (map meant_at_key outcomes.now))) }
+{
+    text.push_str(end)?;
+    for told in outcomes {
+        push_outcome(text, told)?;
+    }
+    Ok(())
+}
+
+/// Adds a member's reply.
+fn push_reply(alloc: Global, text: &mut String, reply: &Reply) -> Result<(), Memory>
+    ensures { OnOk result (string_bytes text.new ≡ string_bytes text.old ++ reply_text shown_text (meant reply.now)) }
+{
+    match reply {
+        Reply::Done => text.push_str("done")?,
+        Reply::Pending(op) => write!(text, "pending {op}")?,
+        Reply::Value(shown) => {
+            text.push_str("value ")?;
+            push_shown(alloc, text, shown)?;
+        }
+        Reply::NotFound => text.push_str("not found")?,
+        Reply::UnknownKey => text.push_str("unknown key")?,
+        Reply::WrongKind => text.push_str("wrong kind")?,
+        Reply::TooFew => text.push_str("too few")?,
+        Reply::Overflow { share, amount } => write!(text, "overflow {share} {amount}")?,
+        Reply::ClockSpent => text.push_str("clock spent")?,
+        Reply::SetFull => text.push_str("set full")?,
+        Reply::StoreFailed => text.push_str("store failed")?,
+        Reply::Taken => text.push_str("taken")?,
+        Reply::Already => text.push_str("already")?,
+        Reply::Gap(lacking) => {
+            let lacking = lacking.number();
+            write!(text, "gap {lacking}")?;
+        }
+        Reply::NotFromMember => text.push_str("not from member")?,
+        Reply::Installed => text.push_str("installed")?,
+        Reply::OldView => text.push_str("old view")?,
+        Reply::NotAPeer => text.push_str("not a peer")?,
+        Reply::Ticked(outcomes) => push_ticked(text, "done", outcomes.as_slice())?,
+        Reply::TickedStoreFailed(outcomes) => {
+            push_ticked(text, "store failed", outcomes.as_slice())?;
+        }
+        Reply::NotLeader(leader) => write!(text, "not leader {}", leader.number())?,
+        Reply::TimedOut => text.push_str("timed out")?,
+        Reply::NoSuchOp => text.push_str("no such op")?,
+    }
+    Ok(())
+}
+
+/// Adds what came of an event.
+fn push_answer(alloc: Global, text: &mut String, answer: &Answer) -> Result<(), Memory>
+    ensures { OnOk result (string_bytes text.new ≡ string_bytes text.old ++ answer_text answer.now) }
+{
+    match answer {
+        Answer::Reply(reply) => push_reply(alloc, text, reply)?,
+        Answer::Gone => text.push_str("gone")?,
+        Answer::HistoryFull => text.push_str("history full")?,
+        Answer::NoSuchView => text.push_str("no such view")?,
+        Answer::NoSuchMessage => text.push_str("no such message")?,
+        Answer::Lost => text.push_str("lost")?,
+        Answer::Nothing => text.push_str("nothing")?,
+        Answer::View(number) => write!(text, "view {number}")?,
+        Answer::NewId { id, view } => write!(text, "id {} view {view}", id.number())?,
+        Answer::LastMember => text.push_str("last member")?,
+        Answer::PlaceTaken => text.push_str("place taken")?,
+        Answer::TooManyIdentities => text.push_str("too many identities")?,
+        Answer::ClearFailed => text.push_str("clear failed")?,
+        Answer::LoadFailed => text.push_str("load failed")?,
+        Answer::Damaged(key) => write!(text, "damaged {}", key.as_str())?,
+        Answer::Settled { messages, blocked } => {
+            write!(text, "done messages {messages} blocked {blocked}")?;
+        }
+        Answer::Stopped => text.push_str("stopped")?,
+    }
+    Ok(())
+}
+
+/// Adds the messages that were sent, each with its receiver.
+fn push_sent(text: &mut String, sent: &[SentTo]) -> Result<(), Memory>
+    ensures { OnOk result (string_bytes text.new ≡ string_bytes text.old ++ sent_text sent.now) }
+{
+    if sent.is_empty() {
+        return Ok(());
+    }
+    text.push_str(" sent")?;
+    for post in sent {
+        let to = post.to.number();
+        write!(text, " {to}:")?;
+        push_sketch(text, post.sketch)?;
+    }
+    Ok(())
+}
+
+/// Adds an operation that ended, with its result.
+fn push_result(alloc: Global, text: &mut String, finished: &Finished) -> Result<(), Memory>
+    ensures { OnOk result (string_bytes text.new ≡ string_bytes text.old ++ finished_text (Some finished.now)) }
+{
+    write!(text, " finished {} ", finished.op)?;
+    match &finished.result {
+        OperationResult::Wrote => text.push_str("done")?,
+        OperationResult::Read(shown) => {
+            text.push_str("value ")?;
+            push_shown(alloc, text, shown)?;
+        }
+        OperationResult::ReadNothing => text.push_str("not found")?,
+    }
+    Ok(())
+}
+
+/// Adds the operation that ended, if one did, with its result.
+fn push_finished(
+    alloc: Global,
+    text: &mut String,
+    finished: &Option<Finished>,
+) -> Result<(), Memory>
+    ensures { OnOk result (string_bytes text.new ≡ string_bytes text.old ++ finished_text finished.now) }
+{
+    match finished {
+        Some(finished) => push_result(alloc, text, finished),
+        None => Ok(()),
+    }
+}
+
+/// Adds the messages that an event sent, and the operation that it ended.
+fn push_tails(alloc: Global, text: &mut String, event: &Event) -> Result<(), Memory>
+    ensures { OnOk result (string_bytes text.new ≡ string_bytes text.old ++ tails_text event.now) }
+{
+    push_sent(text, event.sent.as_slice())?;
+    push_finished(alloc, text, &event.finished)
+}
+
+/// Adds the line of an event of the step with this number.
+fn push_event(alloc: Global, text: &mut String, number: usize, event: &Event) -> Result<(), Memory>
+    ensures { OnOk result (string_bytes text.new ≡ string_bytes text.old ++ event_text number event.now) }
+{
+    write!(text, "{number} ")?;
+    push_head(text, &event.head)?;
+    text.push_str(" ")?;
+    push_answer(alloc, text, &event.answer)?;
+    push_tails(alloc, text, event)?;
+    text.push_str("\n")?;
+    Ok(())
+}
+
+/// Adds the lines of the step with this number.
+pub(crate) fn push_lines(
+    alloc: Global,
+    text: &mut String,
+    number: usize,
+    events: &[Event],
+) -> Result<(), Memory>
+    ensures { OnOk result (string_bytes text.new ≡ string_bytes text.old ++ flat_map (event_text number) events.now) }
+{
+    for event in events {
+        push_event(alloc, text, number, event)?;
+    }
+    Ok(())
+}
+
+/// Adds how the operation ended that a client's command opened, if it opened one.
+fn push_ending(alloc: Global, text: &mut String, ended: &Option<Ended>) -> Result<(), Memory>
+    ensures { OnOk result (string_bytes text.new ≡ string_bytes text.old ++ ending_text ended.now) }
+{
+    match ended {
+        Some(Ended::Finished(finished)) => push_result(alloc, text, finished)?,
+        Some(Ended::TimedOut { op }) => write!(text, " finished {op} timed out")?,
+        Some(Ended::LeftOpen { op }) => write!(text, " open {op}")?,
+        None => {}
+    }
+    Ok(())
+}
+
+/// Adds the messages that a client's command sent, and how its operation ended.
+fn push_client_tails(alloc: Global, text: &mut String, line: &ClientLine) -> Result<(), Memory>
+    ensures { OnOk result (string_bytes text.new ≡ string_bytes text.old ++ client_tails_text line.now) }
+{
+    push_sent(text, line.sent.as_slice())?;
+    push_ending(alloc, text, &line.ended)
+}
+
+/// Adds the line of a client's command in the step with this number.
+fn push_client_line(
+    alloc: Global,
+    text: &mut String,
+    number: usize,
+    line: &ClientLine,
+) -> Result<(), Memory>
+    ensures { OnOk result (string_bytes text.new ≡ string_bytes text.old ++ client_line_text number line.now) }
+{
+    write!(text, "{number} client {} ", line.client)?;
+    push_head(text, &line.head)?;
+    text.push_str(" ")?;
+    push_answer(alloc, text, &line.answer)?;
+    push_client_tails(alloc, text, line)?;
+    text.push_str("\n")?;
+    Ok(())
+}
+
+/// Adds the lines of the clients of the step with this number.
+pub(crate) fn push_client_lines(
+    alloc: Global,
+    text: &mut String,
+    number: usize,
+    lines: &[ClientLine],
+) -> Result<(), Memory>
+    ensures { OnOk result (string_bytes text.new ≡ string_bytes text.old ++ flat_map (client_line_text number) lines.now) }
+{
+    for line in lines {
+        push_client_line(alloc, text, number, line)?;
+    }
+    Ok(())
+}

@@ -1,0 +1,24 @@
+use Rattle.std.proofs.Common.{◌≡◌, ap, ◌∙◌, map, string_bytes, arith}
+use Rattle.model_history.specs.Table.{identity_limit}
+use Rattle.model_history.specs.History.{at}
+use Rattle.report_texts.specs.Pairs.{pair_words}
+use Rattle.report_texts.proofs.Ranges.{pushed_pair, no_pair, range_end}
+use Rattle.report_texts.proofs.vector.pairs.Goals as goal
+use Rattle.report_texts.proofs.vector.pairs.Goals.{in-Some+then-seq-gt0+in_ok-pair+in_ok-push, in-Some+else-seq-gt0, in_default}
+
+pub loop-number-preserved : goal.loop-number-preserved
+loop-number-preserved g c = λ log entry stands.
+    let n = c.loop-number.number in
+    let before = c.loop-number.invariant log entry stands in
+    elim c.match-new.branch [
+      | in-Some+then-seq-gt0+in_ok-pair+in_ok-push w ↦
+          pushed_pair (at entry.history) n w.at-seq.result c.loop-number.pairs c.match-new.pairs w.in_ok-pair.field-0 before
+          (w.at-seq.ensures.image log entry stands ∙ ap (at entry.history) w.in-Some.ensures.value) w.if-seq-gt0.true w.in_ok-pair.ensures (w.pairs-is ∙ w.in_ok-push.ensures.ok)
+      | in-Some+else-seq-gt0 w ↦ ap (map string_bytes) w.pairs-is ∙ before ∙ no_pair (at entry.history) n w.at-seq.result (w.at-seq.ensures.image log entry stands ∙ ap (at entry.history) w.in-Some.ensures.value) w.if-seq-gt0.false
+      | in_default w ↦ absurd (let no = w.in_default.ensures.variant.1 c.loop-number-test.true in cc)
+    ]
+
+pub returns : goal.returns
+returns g c = λ log entry stands.
+    let done : c.loop-number.number ≡ identity_limit = omega arith in
+    c.loop-number.invariant log entry stands ∙ ap (pair_words (at entry.history)) (range_end c.loop-number.number done)

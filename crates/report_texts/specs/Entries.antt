@@ -1,0 +1,24 @@
+-- What a report tells of an entry: its value, its records by identity, and its marks.
+use Rattle.std.specs.Prelude.{Bool, codes, if◌then◌else◌}
+use Rattle.model_history.specs.Texts.{Text}
+use Rattle.model_history.specs.History.{History, versions}
+use Rattle.model_members.specs.Entry as model
+use Rattle.model_members.specs.Entry.{Entry}
+use Rattle.model_members.specs.Report as report
+use Rattle.model_members.specs.Report.{vector_text}
+use Rattle.model_kinds.specs.declared.shown.Shown.{Shown}
+use Rattle.model_kinds.specs.ShownText.{shown_text}
+
+module _ {Op : Type 0} where
+  unfoldable pub has_records : Entry Op → Bool
+  has_records entry = model.has_records entry
+
+  -- the value that a history shows, or a dash where there is no record
+  abbrev pub value_text : (History Op → Shown) → Entry Op → Text
+  value_text shown entry = if has_records entry then shown_text (shown entry.history) else codes "-"
+
+  unfoldable pub known_text : Entry Op → Text
+  known_text entry = vector_text (versions entry.history)
+
+  unfoldable pub marks_text : Entry Op → Text
+  marks_text entry = report.marks_text entry

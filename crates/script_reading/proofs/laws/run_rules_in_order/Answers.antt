@@ -1,0 +1,11 @@
+use Rattle.script_reading.proofs.RuleOrder.{least_of_run}
+use Rattle.script_reading.proofs.laws.run_rules_in_order.Goals as goal
+
+pub returns-clause-whole : goal.returns-clause-whole
+returns-clause-whole g d broken h zeroth = (least_of_run d broken h).whole zeroth
+
+pub returns-clause-holds : goal.returns-clause-holds
+returns-clause-holds g d broken h later = (least_of_run d broken h).holds later
+
+pub returns-clause-step : goal.returns-clause-step
+returns-clause-step g d broken h later = (least_of_run d broken h).step later

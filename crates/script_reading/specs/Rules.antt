@@ -1,0 +1,29 @@
+-- In which order the rules of a script are told: none before another that is broken.
+use Rattle.std.specs.Prelude.{◌≡◌, ℕ, zero, suc, ◌<◌, [], ◌∷◌, codes, true, Result, Ok, Err}
+use Rattle.serde_json.specs.Data.{Data, Items, no_items, item}
+use Rattle.serde_json.specs.Find.{get}
+use Rattle.script_reading.specs.declared.fault.Rule.{Rule}
+use Rattle.script_reading.specs.Fields.{rule, has_names, whole_of, list_of}
+use Rattle.script_reading.specs.Reading.{keys_after, step_list_of, step_of, run_step_of}
+
+abbrev pub IsRead : {X : Type 0} → Result X Rule → Type 0
+IsRead {X} read = (x : X) × (read ≡ Ok x)
+
+-- the rules of a script as a whole that have a number below this one hold
+pub record HoldBelow (n : ℕ) (d : Data) : Type 0 where
+  pub names : 1 < n → has_names (codes "keys" ∷ codes "members" ∷ codes "steps" ∷ []) [] d ≡ true
+  pub members : 2 < n → IsRead (whole_of (rule 0 2) 1 8 (get (codes "members") d))
+  pub keys : 3 < n → (items : Items) × (list_of (rule 0 3) 1 16 (get (codes "keys") d) ≡ Ok items) × IsRead (keys_after [] items)
+  pub steps : 4 < n → IsRead (step_list_of d)
+
+-- of these steps, the first of which has a number, so many are read, and the next one breaks the rule
+unfoldable pub IsFirstBroken : ℕ → ℕ → Rule → Items → Type 0
+IsFirstBroken first k broken no_items = ⊥
+IsFirstBroken first zero broken (item d ds) = step_of first d ≡ Err broken
+IsFirstBroken first (suc k) broken (item d ds) = IsRead (step_of first d) × IsFirstBroken (suc first) k broken ds
+
+-- the same of the steps of a script that may have clients
+unfoldable pub IsFirstRunBroken : ℕ → ℕ → Rule → Items → Type 0
+IsFirstRunBroken first k broken no_items = ⊥
+IsFirstRunBroken first zero broken (item d ds) = run_step_of first d ≡ Err broken
+IsFirstRunBroken first (suc k) broken (item d ds) = IsRead (run_step_of first d) × IsFirstRunBroken (suc first) k broken ds

@@ -1,0 +1,191 @@
+ghost use Rattle.std.specs.Prelude.{◌≡◌, map, IfOk};
+ghost use Rattle.serde_json.specs.View.{view};
+ghost use Rattle.script_reading.specs.Fields.{Gives};
+ghost use Rattle.script_reading.specs.Forms.{update_of, get_of, flush_of, gossip_of, deliver_of, lose_of, round_of, tick_of, timeout_of, remove_of, join_of, restart_of, install_of, settle_of, plain_of};
+ghost use Rattle.script_reading.specs.WellFormed.{IsStep};
+
+use crate::fault::{Fault, Rule};
+use crate::fields::{identity, index, key, number, place, step_names, text};
+use crate::levels::level;
+use crate::operations::{op_named, operation, update_names};
+use crate::script::Step;
+use serde_json::Value;
+use std::alloc::Global;
+
+#[tactic(auto, unfolding(crate::specs::Forms::update_of))]
+fn update(alloc: Global, step: u32, value: &Value, more: &[&str]) -> Result<Step, Fault>
+    ensures value { Gives (λ s. s) result (update_of (map (λ name. name.now) more.now) step (view value.now)) }
+    ensures bounds { IfOk result IsStep }
+{
+    let name = text(value, "op", Rule { step, number: 5 })?;
+    let Some(form) = op_named(name) else {
+        return Err(Fault::Breaks(Rule { step, number: 5 }));
+    };
+    update_names(value, form, more, step)?;
+    let at = identity(value, "at", step)?;
+    let key = key(alloc, value, "key", Rule { step, number: 8 })?;
+    let op = operation(alloc, step, form, value)?;
+    let level = level(value, step)?;
+    Ok(Step::Update { at, key, op, level })
+}
+
+#[tactic(auto, unfolding(crate::specs::Forms::get_of))]
+fn get(alloc: Global, step: u32, value: &Value, more: &[&str]) -> Result<Step, Fault>
+    ensures value { Gives (λ s. s) result (get_of (map (λ name. name.now) more.now) step (view value.now)) }
+    ensures bounds { IfOk result IsStep }
+{
+    step_names(value, &["at", "do", "key"], &["level"], more, step)?;
+    let at = identity(value, "at", step)?;
+    let key = key(alloc, value, "key", Rule { step, number: 8 })?;
+    let level = level(value, step)?;
+    Ok(Step::Get { at, key, level })
+}
+
+#[tactic(auto, unfolding(crate::specs::Forms::flush_of))]
+fn flush(step: u32, value: &Value, more: &[&str]) -> Result<Step, Fault>
+    ensures value { Gives (λ s. s) result (flush_of (map (λ name. name.now) more.now) step (view value.now)) }
+    ensures bounds { IfOk result IsStep }
+{
+    step_names(value, &["at", "do"], &[], more, step)?;
+    let at = identity(value, "at", step)?;
+    Ok(Step::Flush { at })
+}
+
+#[tactic(auto, unfolding(crate::specs::Forms::gossip_of))]
+fn gossip(step: u32, value: &Value, more: &[&str]) -> Result<Step, Fault>
+    ensures value { Gives (λ s. s) result (gossip_of (map (λ name. name.now) more.now) step (view value.now)) }
+    ensures bounds { IfOk result IsStep }
+{
+    step_names(value, &["at", "do", "to"], &[], more, step)?;
+    let at = identity(value, "at", step)?;
+    let to = identity(value, "to", step)?;
+    Ok(Step::Gossip { at, to })
+}
+
+#[tactic(auto, unfolding(crate::specs::Forms::deliver_of))]
+fn deliver(step: u32, value: &Value) -> Result<Step, Fault>
+    ensures value { Gives (λ s. s) result (deliver_of step (view value.now)) }
+    ensures bounds { IfOk result IsStep }
+{
+    step_names(value, &["do", "from", "to"], &["index"], &[], step)?;
+    let from = identity(value, "from", step)?;
+    let to = identity(value, "to", step)?;
+    let index = index(value, step)?;
+    Ok(Step::Deliver { from, to, index })
+}
+
+#[tactic(auto, unfolding(crate::specs::Forms::lose_of))]
+fn lose(step: u32, value: &Value) -> Result<Step, Fault>
+    ensures value { Gives (λ s. s) result (lose_of step (view value.now)) }
+    ensures bounds { IfOk result IsStep }
+{
+    step_names(value, &["do", "from", "to"], &[], &[], step)?;
+    let from = identity(value, "from", step)?;
+    let to = identity(value, "to", step)?;
+    Ok(Step::Lose { from, to })
+}
+
+#[tactic(auto, unfolding(crate::specs::Forms::round_of))]
+fn round(step: u32, value: &Value) -> Result<Step, Fault>
+    ensures value { Gives (λ s. s) result (round_of step (view value.now)) }
+    ensures bounds { IfOk result IsStep }
+{
+    step_names(value, &["do"], &[], &[], step)?;
+    Ok(Step::Round)
+}
+
+#[tactic(auto, unfolding(crate::specs::Forms::tick_of))]
+fn tick(step: u32, value: &Value, more: &[&str]) -> Result<Step, Fault>
+    ensures value { Gives (λ s. s) result (tick_of (map (λ name. name.now) more.now) step (view value.now)) }
+    ensures bounds { IfOk result IsStep }
+{
+    step_names(value, &["at", "do"], &[], more, step)?;
+    let at = identity(value, "at", step)?;
+    Ok(Step::Tick { at })
+}
+
+#[tactic(auto, unfolding(crate::specs::Forms::timeout_of))]
+fn timeout(step: u32, value: &Value) -> Result<Step, Fault>
+    ensures value { Gives (λ s. s) result (timeout_of step (view value.now)) }
+    ensures bounds { IfOk result IsStep }
+{
+    step_names(value, &["at", "do", "op"], &[], &[], step)?;
+    let at = identity(value, "at", step)?;
+    let op = u64::from(number(value, "op", step)?);
+    Ok(Step::Timeout { at, op })
+}
+
+#[tactic(auto, unfolding(crate::specs::Forms::remove_of))]
+fn remove(step: u32, value: &Value) -> Result<Step, Fault>
+    ensures value { Gives (λ s. s) result (remove_of step (view value.now)) }
+    ensures bounds { IfOk result IsStep }
+{
+    step_names(value, &["do", "id"], &[], &[], step)?;
+    let id = identity(value, "id", step)?;
+    Ok(Step::Remove { id })
+}
+
+#[tactic(auto, unfolding(crate::specs::Forms::join_of))]
+fn join(step: u32, value: &Value) -> Result<Step, Fault>
+    ensures value { Gives (λ s. s) result (join_of step (view value.now)) }
+    ensures bounds { IfOk result IsStep }
+{
+    step_names(value, &["do", "place"], &[], &[], step)?;
+    let place = place(value, step)?;
+    Ok(Step::Join { place })
+}
+
+#[tactic(auto, unfolding(crate::specs::Forms::restart_of))]
+fn restart(step: u32, value: &Value) -> Result<Step, Fault>
+    ensures value { Gives (λ s. s) result (restart_of step (view value.now)) }
+    ensures bounds { IfOk result IsStep }
+{
+    step_names(value, &["do", "id"], &[], &[], step)?;
+    let id = identity(value, "id", step)?;
+    Ok(Step::Restart { id })
+}
+
+#[tactic(auto, unfolding(crate::specs::Forms::install_of))]
+fn install(step: u32, value: &Value, more: &[&str]) -> Result<Step, Fault>
+    ensures value { Gives (λ s. s) result (install_of (map (λ name. name.now) more.now) step (view value.now)) }
+    ensures bounds { IfOk result IsStep }
+{
+    step_names(value, &["at", "do", "view"], &[], more, step)?;
+    let at = identity(value, "at", step)?;
+    let view = number(value, "view", step)?;
+    Ok(Step::Install { at, view })
+}
+
+#[tactic(auto, unfolding(crate::specs::Forms::settle_of))]
+fn settle(step: u32, value: &Value) -> Result<Step, Fault>
+    ensures value { Gives (λ s. s) result (settle_of step (view value.now)) }
+    ensures bounds { IfOk result IsStep }
+{
+    step_names(value, &["do"], &[], &[], step)?;
+    Ok(Step::Settle)
+}
+
+/// A step that a script makes by itself. One that clients may be given too may have more names.
+#[tactic(auto, unfolding(crate::specs::Forms::plain_of))]
+pub fn plain(alloc: Global, step: u32, value: &Value, more: &[&str]) -> Result<Step, Fault>
+    ensures value { Gives (λ s. s) result (plain_of (map (λ name. name.now) more.now) step (view value.now)) }
+    ensures bounds { IfOk result IsStep }
+{
+    match text(value, "do", Rule { step, number: 5 })? {
+        "update" => update(alloc, step, value, more),
+        "get" => get(alloc, step, value, more),
+        "flush" => flush(step, value, more),
+        "gossip" => gossip(step, value, more),
+        "deliver" => deliver(step, value),
+        "lose" => lose(step, value),
+        "round" => round(step, value),
+        "tick" => tick(step, value, more),
+        "timeout" => timeout(step, value),
+        "remove" => remove(step, value),
+        "join" => join(step, value),
+        "restart" => restart(step, value),
+        "install" => install(step, value, more),
+        "settle" => settle(step, value),
+        _ => Err(Fault::Breaks(Rule { step, number: 5 })),
+    }
+}

@@ -1,0 +1,38 @@
+-- Entries whose digests are the SHA-1 of their spellings: what a run has to be for these to tell them apart.
+--     DistinctDigests        in no world of a run two running members have different spellings of one key with one SHA-1
+--     SettlesAgreeByDigests        what the settles of a script tell is so, and where this holds they leave settled worlds
+use Rattle.std.specs.Prelude.{◌≡◌, ℕ, suc, List, ◌++◌, Some}
+use Rattle.model_history.specs.History.{History}
+use Rattle.model_members.specs.DataType.{Replication}
+use Rattle.model_members.specs.Node.{KeyDecl, Node}
+use Rattle.model_members.specs.World.{World, Event, start, run}
+use Rattle.model_members.specs.Script.{ScriptStep, KeeperAnswers}
+use Rattle.theorem_operations.specs.Scripts.{before_step}
+use Rattle.theorem_settling.specs.Settling.{IsDeclared}
+use Rattle.theorem_settling.specs.Scripts.{SettlesAgree}
+use Rattle.data_codec.specs.Entries.{entry_spelled}
+use Rattle.sha1.specs.Sha1.{sha1}
+
+module _ {Kind Op Shown : Type 0} (D : Replication Kind Op Shown) (byte_of : Kind → ℕ) (history_spelled : Kind → History Op → List ℕ) where
+  -- what a member spells of a key
+  abbrev pub spelling_of : Node Kind Op Shown → KeyDecl Kind → List ℕ
+  spelling_of node decl = entry_spelled byte_of history_spelled decl.kind (node.entries decl.name)
+
+  -- what running members spell of one key is the same, if it has one SHA-1
+  abbrev pub AreDistinct : World Kind Op Shown → Type 0
+  AreDistinct world =
+      (i j : ℕ) (a b : Node Kind Op Shown) (decl : KeyDecl Kind) → world.nodes i ≡ Some a → world.nodes j ≡ Some b → IsDeclared world decl
+      → sha1 (spelling_of a decl) ≡ sha1 (spelling_of b decl) → spelling_of a decl ≡ spelling_of b decl
+
+  -- DISTINCT DIGESTS: in no world on the way do two running members have entries of one key whose spellings differ and have one SHA-1
+  pub record DistinctDigests (first : World Kind Op Shown) (events : List (Event Op)) : Type 0 where
+    pub throughout : (before rest : List (Event Op)) → events ≡ before ++ rest → AreDistinct (run D first before)
+
+  module _ (answers : KeeperAnswers) (members : ℕ) (keys : List (KeyDecl Kind)) (steps : List (ScriptStep Op)) where
+    -- so it is until the step of this number is done
+    abbrev pub DistinctUntil : ℕ → Type 0
+    DistinctUntil n = DistinctDigests (start members keys) (before_step D answers members keys steps (suc n)).events
+
+    -- what the settles of a script tell is so, and those that are done leave settled worlds, where digests are distinct until then
+    abbrev pub SettlesAgreeByDigests : Type 0
+    SettlesAgreeByDigests = SettlesAgree D answers members keys steps DistinctUntil

@@ -1,0 +1,11 @@
+use Rattle.std.proofs.Common.{◌≡◌, ◌+◌, ◌≤◌, map, vec_len}
+use Rattle.std.specs.Prelude.{vec_capacity}
+use Rattle.std.specs.Vec.Iter.{into_iter_len}
+use Rattle.thread_clients.specs.Playing.{played_of}
+use Rattle.thread_clients.proofs.clients.played_of.Given as goal
+
+abbrev pub invariant-loop-job : goal.invariant-loop-job
+invariant-loop-job g l = record {
+  items : l.played.items ≡ map played_of l.yielded;
+  room : vec_len l.played + into_iter_len l.job-iterator ≤ vec_capacity l.played;
+}

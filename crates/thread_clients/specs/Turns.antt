@@ -1,0 +1,71 @@
+-- What a client's turns leave.
+--     TakesOn        the session made takes alone
+--     HasHeard, WasFull, IsHeardOrFull        a turn among them; or one that found a history full
+--     HasFound        a look found an operation finished
+--     IsUnfinished, HasHeardAnswers, MayGiveUp        what a client knows of an operation when it calls its timeout
+use Rattle.std.specs.Prelude.{ℕ, ◌⊎◌, Option, None, Some}
+use Rattle.model_kinds.specs.declared.operation.Op.{Op}
+use Rattle.data_lattice.specs.declared.replica.Replica.{Ghosts as Data}
+use Rattle.member_keeper.specs.declared.keeper.Keeper.{Ghosts as Keeping}
+use Rattle.thread_cell.specs.Stamps.{IsTimed}
+use Rattle.member_node.specs.declared.operation.Look.{Look}
+use Rattle.member_node.specs.declared.operation.Look.TheVariants as look
+use Rattle.member_node.specs.declared.operation.OperationResult.{OperationResult}
+use Rattle.member_node.specs.declared.reply.Output.{Output}
+use Rattle.thread_cluster.specs.Knowing.{IsShownBy}
+use Rattle.thread_cluster.specs.Turning.{HasBegun, HasTurnedAll}
+use Rattle.thread_cluster.specs.Messages.{messages_to, messages_of, Looks}
+use Rattle.thread_cluster.specs.Refusals.{IsFullSomewhere}
+use Rattle.thread_clients.specs.Sessions.{Session, Meaning}
+
+-- the look did not find the operation finished
+abbrev pub IsUnfinished : Look → Type 0
+IsUnfinished (look.Finished result) = ⊥
+IsUnfinished _ = Unit {0}
+
+module _ {T K Kind Delta : Type 0} {data_of : Data T Kind Op Delta} {keeping : Keeping K} (ids : ℕ → Option ℕ) where
+  -- the session's calls grew by takes alone
+  abbrev pub TakesOn : Session data_of keeping → Session data_of keeping → Type 0
+  TakesOn old new = HasBegun messages_of ids old new
+
+  -- and there was a turn among them: each message that the session knew of one member to another is taken, in what it knows then
+  pub record HasHeard (old new : Session data_of keeping) : Type 0 where
+    pub n : ℕ
+    pub turned : HasTurnedAll messages_of (λ id (output : Output T Kind Op Delta data_of). messages_to id output.posts) ids n old new
+
+module _ {T K Kind Delta : Type 0} {data_of : Data T Kind Op Delta} {keeping : Keeping K} (meaning : Meaning data_of keeping) (ids : ℕ → Option ℕ) where
+  -- meanwhile a turn was answered that a history is full
+  pub record WasFull (old new : Session data_of keeping) : Type 0 where
+    pub between : Session data_of keeping
+    pub before : TakesOn ids old between
+    pub full : IsFullSomewhere meaning between
+    pub after : TakesOn ids between new
+
+  abbrev pub IsHeardOrFull : Session data_of keeping → Session data_of keeping → Type 0
+  IsHeardOrFull old new = HasHeard ids old new ⊎ WasFull old new
+
+  -- what the session knew of posts is taken, by a turn; what the session then knew of answers to them is taken, by a later turn; and a look after that did not find the operation finished
+  pub record HasHeardAnswers (id op : ℕ) (old new : Session data_of keeping) : Type 0 where
+    pub asked : Session data_of keeping
+    pub heard : Session data_of keeping
+    pub posts : HasHeard ids old asked
+    pub answers : HasHeard ids asked heard
+    pub seen : Look
+    pub shown : IsShownBy meaning ids id Looks op heard new seen
+    pub unfinished : IsUnfinished seen
+
+  -- a look found the operation finished, after what was sent for it was heard
+  pub record HasFound (id op : ℕ) (old new : Session data_of keeping) (result : OperationResult) : Type 0 where
+    pub before : Session data_of keeping
+    pub heard : IsHeardOrFull old before
+    pub shown : IsShownBy meaning ids id Looks op before new (look.Finished result)
+
+  -- a look found the operation finished; or none did, though all that was asked was answered, or a history was full
+  abbrev pub HasWaited : ℕ → ℕ → Session data_of keeping → Session data_of keeping → Option OperationResult → Type 0
+  HasWaited id op old new (Some result) = HasFound id op old new result
+  HasWaited id op old new None = HasHeardAnswers id op old new ⊎ WasFull old new
+
+  -- WHEN A CLIENT CALLS A TIMEOUT
+  pub record MayGiveUp (id op : ℕ) (old new : Session data_of keeping) : Type 0 where
+    pub timed : IsTimed new.seen.known new.seen.stamp
+    pub waited : HasHeardAnswers id op old new ⊎ WasFull old new

@@ -1,0 +1,70 @@
+ghost use Rattle.std.specs.Prelude.{◌≡◌, ℕ, ◌≤◌, List, [], Option};
+ghost use Rattle.model_history.specs.Texts.{Text};
+ghost use Rattle.thread_machine.specs.declared.entry.Entry.{Entry};
+ghost use Rattle.std.specs.List.{AllByRecursion};
+ghost use Rattle.thread_machine.specs.Machines.{machine_at};
+ghost use Rattle.thread_cell.specs.Closings.{AreReplayed, CellsKnew};
+ghost use Rattle.thread_cell.specs.Entries.{history_at};
+ghost use Rattle.thread_cell.specs.Stamps.{Rises};
+ghost use Rattle.thread_cluster.specs.Opening.{AreWholeCells, AllHear};
+ghost use Rattle.member_views.specs.Sound.{last_view};
+ghost use Rattle.world_members.specs.Places.{item_at, identity_at};
+ghost use Rattle.model_members.specs.Node.{KeyDecl};
+ghost use Rattle.model_members.specs.Script.{Playing};
+ghost use Rattle.model_kinds.specs.declared.operation.Op as operation;
+ghost use Rattle.model_kinds.specs.declared.shown.Shown.{Shown};
+ghost use Rattle.member_node.specs.declared.node.Node as member;
+ghost use Rattle.world_members.specs.Ways.{Means};
+ghost use Rattle.thread_run_order.specs.Orders.{AtPlace, IsRunOrder};
+ghost use Rattle.thread_run_order.specs.Images.{EntryOf};
+ghost use Rattle.thread_run_order.specs.Section.{IsGiven, IsSection};
+ghost use Rattle.thread_run_order.specs.Runs.{IsOneRun};
+
+use data_lattice::SpelledData;
+use member_keeper::Keeper;
+use member_node::Node;
+use model_kinds::Op;
+use thread_cell::closing::Closed;
+use thread_cell::unnamed::Cells;
+use thread_cluster::member::Member;
+use thread_cluster::section::Section;
+use thread_machine::machine::Machine;
+use world_members::World;
+
+/// Histories whose stamps rise have a run order, where no place but the first ones has entries.
+pub fn histories_have_a_run_order<M, I, F, O, R>()
+    ensures { (histories : ℕ → List (Entry M I F O R)) (n : ℕ) → ((p : ℕ) → Rises (histories p)) → ((p : ℕ) → n ≤ p → histories p ≡ [])
+        → (xs : List (AtPlace (Entry M I F O R))) × IsRunOrder histories xs }
+{}
+
+/// What closed cells leave is a section of the world whose members they began with, where each message is taken of a member
+/// and each installed view is one of the list.
+pub fn closed_cells_leave_a_section<T: SpelledData<Op = Op>, K: Keeper + Drop, N: Section>(
+    world: &World<T, K>,
+    cells: &Cells<Node<T, K>, N>,
+    closed: &Closed<Node<T, K>>,
+)
+    requires starts { (place : ℕ) → machine_at cells.now.table.machines place ≡ item_at world.now.nodes.items place }
+    requires identities { (place : ℕ) → N.ids place ≡ identity_at (last_view world.now.views) place }
+    requires replayed { AreReplayed ⟦<Node<T, K> as Machine>⟧ cells.now.table.machines closed.now.machines closed.now.histories }
+    requires knew { CellsKnew cells.now closed.now.histories }
+    requires whole { AreWholeCells N.ids cells.now }
+    requires hear { AllHear ⟦<Node<T, K> as Member>⟧.posted ⟦<Node<T, K> as Member>⟧.taken N.ids cells.now }
+    requires given { (place : ℕ) → AllByRecursion (λ e. IsGiven (last_view world.now.views) world.now.views e.input) (history_at closed.now.histories place) }
+    ensures { IsSection ⟦<Node<T, K> as Machine>⟧ world.now (history_at closed.now.histories) (machine_at closed.now.machines) }
+{
+    let _ = world.views().last();
+}
+
+/// What members did under their locks in a section of client threads, put together again, is one run of the model: the
+/// entries of all places in run order have model entries, one for one, which are histories in run order from the world that
+/// the section began with. A world with the members that the histories lead to, and with their posts on its links, means where
+/// the script is after them. And whatever replays a beginning of a member's history stands for the model's member after as many
+/// entries: so a client that looked at a member saw the model's, too.
+pub fn a_section_is_one_run<T: SpelledData<Op = Op>, K: Keeper + Drop>(world: &World<T, K>)
+    ensures { (kinds : Text → T.Kind) (members : ℕ) (decls : List (KeyDecl T.Kind)) (p : Playing T.Kind operation.Op Shown) → Means T.SpelledData.own kinds members decls p world.now
+        → (histories : ℕ → List (EntryOf T.Replica K.Keeper)) (nows : ℕ → Option (member.Node T K T.Kind operation.Op T.Delta T.Replica K.Keeper)) → IsSection ⟦<Node<T, K> as Machine>⟧ world.now histories nows
+        → (xs : List (AtPlace (EntryOf T.Replica K.Keeper))) → IsRunOrder histories xs → IsOneRun T.SpelledData.own kinds members decls p world.now ⟦<Node<T, K> as Machine>⟧ histories nows xs }
+{
+    let _ = world.views().last();
+}

@@ -1,0 +1,6 @@
+use Rattle.std.proofs.Common.{◌≡◌}
+use Rattle.thread_section.specs.Lines.{all_lines}
+use Rattle.thread_section.proofs.lines.joined.Given as goal
+
+abbrev pub invariant-loop-one : goal.invariant-loop-one
+invariant-loop-one l = l.all ≡ all_lines l.yielded

@@ -1,0 +1,10 @@
+use Rattle.member_views.specs.Sound.{last_view}
+use Rattle.world_members.specs.Places.{identity_at}
+use Rattle.thread_section.proofs.playing.play_unnamed.Given as goal
+
+-- the table that was just made, and the members of the last view
+abbrev pub ghosts-play_named-N-Name : goal.ghosts-play_named-N-Name
+ghosts-play_named-N-Name g a = record { table = a.unnamed.table }
+
+abbrev pub ghosts-play_named-N-Section : goal.ghosts-play_named-N-Section
+ghosts-play_named-N-Section g a = record { ids = identity_at (last_view a.views) }

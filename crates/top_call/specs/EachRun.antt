@@ -1,0 +1,71 @@
+-- What holds of each run of a script that may have clients, whatever their schedule and whatever the keepers answer.
+--     SettlesAreSo        what a settle from here tells is so, and it leaves a settled world
+--     TellsSettle        a run's lines tell such a settle
+--     ReadsIncludeWrites        what a majority read shows includes the majority writes whose success was seen
+use Rattle.std.specs.Prelude.{◌≡◌, ◌≢◌, ℕ, ◌*◌, ◌-◌, ◌≤◌, List, [], ◌∷◌, ◌++◌, length, None, Some}
+use Rattle.std.specs.List.{AllByRecursion}
+use Rattle.model_members.specs.DataType.{Replication}
+use Rattle.model_members.specs.Node.{KeyDecl, Finished, Reply, Result}
+use Rattle.model_members.specs.Script.{KeeperAnswers, Playing, Answer, Head, opening, settle}
+use Rattle.model_members.specs.World.{Event, start, happens}
+use Rattle.model_kinds.specs.SixKinds.{six_kinds}
+use Rattle.model_kinds.specs.declared.kind.Kind.{Kind}
+use Rattle.model_kinds.specs.declared.operation.Op.{Op}
+use Rattle.model_kinds.specs.declared.shown.Shown.{Shown}
+use Rattle.data_value.specs.Spelled.{byte_of, history_spelled}
+use Rattle.member_node.specs.Members.{spelled_groups}
+use Rattle.theorem_operations.specs.Quorum.{WriteThenRead, AllInstalled, KeepsMembers, HasSucceeded, Finishes, ShowsWrite, all_events, read_event, reply_in, at_write, at_read, at_end}
+use Rattle.theorem_sections.specs.Sections.{Line}
+use Rattle.theorem_sections.specs.Runs.{RunStep, PlaysAll}
+use Rattle.theorem_settling.specs.Settling.{IsSettled, HasBlocked, settle_answer}
+use Rattle.theorem_digests.specs.Digests.{DistinctDigests}
+
+-- values of the six kinds, whose digests are the SHA-1 of their spellings
+abbrev pub six : Replication Kind Op Shown
+six = spelled_groups six_kinds byte_of history_spelled
+
+abbrev pub Lines : Type 0
+Lines = List (List (Line Op Shown))
+
+-- what a settle from here tells
+abbrev pub settle_told : Playing Kind Op Shown → Line Op Shown
+settle_told p = record { client = None; head = Head.SettleHead; answer = settle_answer six p; posts = []; ended = None }
+
+module _ (members : ℕ) (keys : List (KeyDecl Kind)) where
+  -- ---- settles
+
+  -- A SETTLE FROM HERE THAT IS DONE sends at most 12 messages for each member of the last view but the leader, its second number is how many outcomes of its second tick are Blocked, and it leaves a settled world, where digests are distinct until its end
+  pub record SettlesAreSo (p : Playing Kind Op Shown) : Type 0 where
+    pub few : (messages blocked : ℕ) → settle_answer six p ≡ Answer.Settled messages blocked → messages ≤ 12 * (length p.world.view.members - 1)
+    pub second_number : (messages blocked : ℕ) → settle_answer six p ≡ Answer.Settled messages blocked → HasBlocked six p blocked
+    pub settled : (messages blocked : ℕ) → settle_answer six p ≡ Answer.Settled messages blocked
+        → DistinctDigests six byte_of history_spelled (start members keys) (settle six p).events → IsSettled six (settle six p).world
+
+  -- behind the lines of these steps of a run stands the line of a settle, and what it tells is so
+  pub record TellsSettle (answers : KeeperAnswers) (front : List (RunStep Op)) (lines : Lines) : Type 0 where
+    pub early : Lines
+    pub late : Lines
+    pub p : Playing Kind Op Shown
+    pub plays : PlaysAll six (opening answers members keys) front early p
+    pub told : lines ≡ early ++ (settle_told p ∷ []) ∷ late
+    pub so : SettlesAreSo p
+
+  -- ---- majority reads
+
+  -- These stand first among the events of a run. All running members have the last view installed before the write, no event from the write on changes who is a member, and the write has succeeded when the read begins
+  pub record IsSeen (events : List (Event Op)) (r : WriteThenRead Op) (rest : List (Event Op)) : Type 0 where
+    pub way : events ≡ all_events r ++ rest
+    pub installed : AllInstalled (at_write six members keys r)
+    pub between : AllByRecursion KeepsMembers r.between
+    pub after : AllByRecursion KeepsMembers r.after
+    pub succeeded : HasSucceeded six (at_write six members keys r) r.write (at_read six members keys r)
+
+  -- WHAT A MAJORITY READ SHOWS includes the write's record: it is the meaning of what the reader then has. Its value comes at once, or where its operation finishes
+  pub record ReadsIncludeWrites (events : List (Event Op)) : Type 0 where
+    pub at_once : (r : WriteThenRead Op) (rest : List (Event Op)) → IsSeen events r rest
+        → (reply : Reply Shown) → reply_in six (at_read six members keys r) (read_event r) ≡ Some reply → ((op : ℕ) → reply ≢ Reply.Pending op)
+        → (shown : Shown) × (reply ≡ Reply.Value shown) × ShowsWrite six members keys r (happens six (at_read six members keys r) (read_event r)) shown
+    pub later : (r : WriteThenRead Op) (event : Event Op) (rest : List (Event Op)) → IsSeen events r (event ∷ rest)
+        → (op : ℕ) → reply_in six (at_read six members keys r) (read_event r) ≡ Some (Reply.Pending op)
+        → (end : Finished Shown) → Finishes six (at_end six members keys r) event r.reader end → end.op ≡ op
+        → (shown : Shown) × (end.result ≡ Result.ReadValue shown) × ShowsWrite six members keys r (happens six (at_end six members keys r) event) shown

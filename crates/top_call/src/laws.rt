@@ -1,0 +1,37 @@
+ghost use Rattle.std.specs.Prelude.{◌≤◌, ◌++◌, ◌∷◌, ℕ, List};
+ghost use Rattle.std.specs.List.{AllByRecursion};
+ghost use Rattle.model_history.specs.Table.{identity_limit};
+ghost use Rattle.model_kinds.specs.declared.kind.Kind.{Kind};
+ghost use Rattle.model_kinds.specs.declared.operation.Op.{Op};
+ghost use Rattle.model_kinds.specs.declared.shown.Shown.{Shown};
+ghost use Rattle.model_members.specs.Node.{KeyDecl};
+ghost use Rattle.model_members.specs.Script.{KeeperAnswers, Playing, ScriptStep, opening};
+ghost use Rattle.theorem_sections.specs.Runs.{RunStep, IsRunStep, PlaysAll};
+ghost use Rattle.top_call.specs.EachRun.{Lines, SettlesAreSo, TellsSettle, ReadsIncludeWrites, six};
+
+/// What a settle of a script that may have clients tells is so, whatever the schedule and whatever the keepers answer.
+/// - A settle that tells that it is done sent at most 12 messages for each member of the last view but the leader, and its
+///   second number is how many outcomes of its second tick are `Blocked`.
+/// - It leaves a settled world: all running members have one history of each key, and each removed identity that it has a
+///   record and no prune of is blocked. For this no two running members have, until the settle ends, spellings of one key
+///   that differ and have one SHA-1.
+pub fn settles_of_runs_are_so()
+    ensures here { (answers : KeeperAnswers) (members : ℕ) (keys : List (KeyDecl Kind)) (steps : List (RunStep Op))
+        → 1 ≤ members → members ≤ identity_limit → AllByRecursion IsRunStep steps
+        → (lines : Lines) (p : Playing Kind Op Shown) → PlaysAll six (opening answers members keys) steps lines p
+        → SettlesAreSo members keys p }
+    ensures told { (answers : KeeperAnswers) (members : ℕ) (keys : List (KeyDecl Kind)) (front rest : List (RunStep Op))
+        → 1 ≤ members → members ≤ identity_limit → AllByRecursion IsRunStep front
+        → (lines : Lines) (last : Playing Kind Op Shown) → PlaysAll six (opening answers members keys) (front ++ RunStep.Plain ScriptStep.Settle ∷ rest) lines last
+        → TellsSettle members keys answers front lines }
+{}
+
+/// In a run of a script that may have clients, whatever the schedule and whatever the keepers answer: while membership stays
+/// unchanged, what a majority read shows includes each earlier majority write of its key whose success was seen when the read
+/// began.
+pub fn reads_of_runs_include_writes()
+    ensures { (answers : KeeperAnswers) (members : ℕ) (keys : List (KeyDecl Kind)) (steps : List (RunStep Op))
+        → 1 ≤ members → members ≤ identity_limit → AllByRecursion IsRunStep steps
+        → (lines : Lines) (last : Playing Kind Op Shown) → PlaysAll six (opening answers members keys) steps lines last
+        → ReadsIncludeWrites members keys last.events }
+{}

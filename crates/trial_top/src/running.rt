@@ -1,0 +1,69 @@
+//! Runs of scripts with clients over keepers and streams in memory.
+
+ghost use Rattle.std.specs.Prelude.{◌≡◌, length};
+
+use crate::rows::keepers;
+use base_outside::{MemorySink, MemorySource};
+use member_keeper::Keeper;
+use std::alloc::Global;
+use std::process::Abort;
+use std::sync::Wait;
+use std::test::Fail;
+use std::thread::Threads;
+use top_call::replicate;
+
+/// A source of a script.
+fn source(alloc: Global, script: &str) -> Result<MemorySource, Fail> {
+    let bytes = Vec::from_slice(alloc, script.as_bytes())?;
+    Ok(MemorySource::new(alloc, bytes, 4096, Vec::new(alloc)))
+}
+
+/// A sink.
+fn sink(alloc: Global) -> MemorySink {
+    MemorySink::new(alloc, 4096, Vec::new(alloc))
+}
+
+/// The word `run`.
+fn words(alloc: Global) -> Result<Vec<String>, Fail> {
+    let mut words = Vec::new(alloc);
+    words.push(String::from_str(alloc, "run")?)?;
+    Ok(words)
+}
+
+/// What `run` answers of a script over these keepers, and what it writes.
+pub(crate) fn ran<R: Threads + Wait + Sync, K: Keeper + Drop + Send>(
+    rt: &R,
+    alloc: Global,
+    script: &str,
+    keepers: Vec<K>,
+) -> Result<(u8, MemorySink), Fail>
+    requires { length keepers.items ≡ 8 }
+{
+    let words = words(alloc)?;
+    let mut source = source(alloc, script)?;
+    let mut sink = sink(alloc);
+    let outcome = replicate(rt, alloc, words.as_slice(), &mut source, &mut sink, keepers);
+    Ok((outcome.status, sink))
+}
+
+/// Runs a script, where the keeper of place 1 fails at the calls named, and compares its report.
+pub(crate) fn compare<R: Threads + Wait + Sync + Abort>(
+    rt: &R,
+    alloc: Global,
+    script: &str,
+    failing: &[u64],
+    report: &str,
+) -> Result<(), Fail> {
+    let (status, sink) = ran(rt, alloc, script, keepers(alloc, 1, failing)?)?;
+    assert_eq!(rt; status, 0);
+    assert!(rt; sink.bytes() == report.as_bytes());
+    Ok(())
+}
+
+/// Adds a line so many times.
+pub(crate) fn push_lines(text: &mut String, line: &str, times: u32) -> Result<(), Fail> {
+    for _time in 0..times {
+        text.push_str(line)?;
+    }
+    Ok(())
+}

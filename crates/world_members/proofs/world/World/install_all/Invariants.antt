@@ -1,0 +1,8 @@
+use Rattle.model_members.specs.Script.{install_last}
+use Rattle.member_node.specs.Steps.{replication}
+use Rattle.world_members.specs.Settling.{Settles}
+use Rattle.world_members.proofs.SettleParts.{called_for}
+use Rattle.world_members.proofs.world.World.install_all.Given as goal
+
+abbrev pub invariant-loop-id : goal.invariant-loop-id
+invariant-loop-id g l = Settles g.T.SpelledData (called_for (install_last (replication g.T.Replica g.T.SpelledData)) l.id-items l.id-index) l.initial.self l.self l.initial.events l.events

@@ -1,0 +1,92 @@
+-- Which lines of the model's report events are.
+use Rattle.std.specs.Prelude.{◌≡◌, List, ◌∷◌, [], ◌++◌, map, length, Bool, true, false, Option, option_map}
+use Rattle.std.specs.List.{AllZip}
+use Rattle.model_kinds.specs.declared.shown.Shown.{Shown}
+use Rattle.model_members.specs.Message as model
+use Rattle.model_members.specs.Script as script
+use Rattle.model_members.specs.Script.{Told, Playing}
+use Rattle.member_node.specs.Members.{meant}
+use Rattle.member_node.specs.Operations.{finished_meant}
+use Rattle.member_messages.specs.declared.sketch.MessageKind.TheVariants as kind
+use Rattle.member_messages.specs.declared.sketch.Sketch.{Sketch}
+use Rattle.world_members.specs.declared.event.Head.{Head}
+use Rattle.world_members.specs.declared.event.Head.TheVariants as head
+use Rattle.world_members.specs.declared.event.Answer.{Answer}
+use Rattle.world_members.specs.declared.event.Answer.TheVariants as answer
+use Rattle.world_members.specs.declared.event.SentTo.{SentTo}
+use Rattle.world_members.specs.declared.event.Event.{Event}
+
+-- what is printed of a message
+abbrev pub sketched : {Op : Type 0} → model.Message Op → Sketch
+sketched (model.Message.Deltas groups entries) = record { kind = kind.Deltas; first = length groups; second = length entries }
+sketched (model.Message.Nack keys) = record { kind = kind.Nack; first = length keys; second = 0 }
+sketched (model.Message.Status digests) = record { kind = kind.Status; first = length digests; second = 0 }
+sketched (model.Message.Gossip entries wants) = record { kind = kind.Gossip; first = length entries; second = length wants }
+sketched (model.Message.Write op key entry) = record { kind = kind.Write; first = 0; second = 0 }
+sketched (model.Message.WriteAck op) = record { kind = kind.WriteAck; first = 0; second = 0 }
+sketched (model.Message.WriteNack op) = record { kind = kind.WriteNack; first = 0; second = 0 }
+sketched (model.Message.Read op key) = record { kind = kind.Read; first = 0; second = 0 }
+sketched (model.Message.ReadAnswer op key entry) = record { kind = kind.ReadAnswer; first = 0; second = 0 }
+
+abbrev pub sketched_post : {Op : Type 0} → model.Post Op → SentTo
+sketched_post post = record { to = post.to; sketch = sketched post.message }
+
+-- the model has no word for what is damaged
+abbrev pub IsAnswer : Answer → script.Answer Shown → Type 0
+IsAnswer (answer.Reply reply) told = told ≡ script.Answer.Replied (meant reply)
+IsAnswer answer.Gone told = told ≡ script.Answer.Gone
+IsAnswer answer.HistoryFull told = told ≡ script.Answer.HistoryFull
+IsAnswer answer.NoSuchView told = told ≡ script.Answer.NoSuchView
+IsAnswer answer.NoSuchMessage told = told ≡ script.Answer.NoSuchMessage
+IsAnswer answer.Lost told = told ≡ script.Answer.Lost
+IsAnswer answer.Nothing told = told ≡ script.Answer.Nothing
+IsAnswer (answer.View view) told = told ≡ script.Answer.NewView view
+IsAnswer (answer.NewId id view) told = told ≡ script.Answer.NewIdentity id view
+IsAnswer answer.LastMember told = told ≡ script.Answer.LastMember
+IsAnswer answer.PlaceTaken told = told ≡ script.Answer.PlaceTaken
+IsAnswer answer.TooManyIdentities told = told ≡ script.Answer.TooManyIdentities
+IsAnswer answer.ClearFailed told = told ≡ script.Answer.ClearFailed
+IsAnswer answer.LoadFailed told = told ≡ script.Answer.LoadFailed
+IsAnswer (answer.Damaged key) told = ⊥
+IsAnswer (answer.Settled messages blocked) told = told ≡ script.Answer.Settled messages blocked
+IsAnswer answer.Stopped told = told ≡ script.Answer.Stopped
+
+abbrev pub is_damage : Answer → Bool
+is_damage (answer.Damaged key) = true
+is_damage _ = false
+
+-- a restart answered so
+abbrev pub are_damaged : List Event → Bool
+are_damaged (event ∷ []) = is_damage event.answer
+are_damaged _ = false
+
+module _ {Op : Type 0} where
+  -- of a delivered message the sketch is told
+  abbrev pub IsHead : Head → script.Head Op → Type 0
+  IsHead (head.Update at key) told = told ≡ script.Head.UpdateHead at key
+  IsHead (head.Get at key) told = told ≡ script.Head.GetHead at key
+  IsHead (head.Flush at) told = told ≡ script.Head.FlushHead at
+  IsHead (head.Tick at) told = told ≡ script.Head.TickHead at
+  IsHead (head.Gossip at to) told = told ≡ script.Head.GossipHead at to
+  IsHead (head.Deliver from to index sketch) told =
+      (message : Option (model.Message Op)) × (told ≡ script.Head.DeliverHead from to index message) × (sketch ≡ option_map sketched message)
+  IsHead (head.Lose from to index) told = told ≡ script.Head.LoseHead from to index
+  IsHead (head.Timeout at op) told = told ≡ script.Head.TimeoutHead at op
+  IsHead head.Round told = told ≡ script.Head.RoundHead
+  IsHead (head.Remove id) told = told ≡ script.Head.RemoveHead id
+  IsHead (head.Join place) told = told ≡ script.Head.JoinHead place
+  IsHead (head.Restart id) told = told ≡ script.Head.RestartHead id
+  IsHead (head.Install at view) told = told ≡ script.Head.InstallHead at view
+  IsHead head.Settle told = told ≡ script.Head.SettleHead
+
+  -- the event says what the line says
+  pub record IsLine (event : Event) (told : Told Op Shown) : Type 0 where
+    pub head : IsHead event.head told.head
+    pub answer : IsAnswer event.answer told.answer
+    pub sent : event.sent ≡ map sketched_post told.posts
+    pub ended : told.ended ≡ option_map finished_meant event.finished
+
+module _ {Kind Op : Type 0} where
+  -- what was told between the two
+  abbrev pub AreNextLines : List Event → Playing Kind Op Shown → Playing Kind Op Shown → Type 0
+  AreNextLines events before after = (told : List (Told Op Shown)) × (after.lines ≡ before.lines ++ told) × AllZip IsLine events told

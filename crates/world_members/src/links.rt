@@ -1,0 +1,204 @@
+ghost use Rattle.std.specs.Prelude.{◌≡◌, ℕ, ◌<◌, ◌^◌, ◌&&◌, ◌==◌, nat_lt, if◌then◌else◌, [], ◌∷◌, length, map, replicate, slice_get, Some, None, IfOk, OnOk, OnErr, option_copied, option_map};
+ghost use Rattle.model_history.specs.Table.{identity_limit};
+ghost use Rattle.world_members.specs.Channels.{channel_at, channel_of, row_of, no_messages, next_on, count_on, message_on, passed, extended, due_from, ChangesOne};
+
+use base_bytes::{Items, Memory};
+use base_vectors::{IDENTITIES, Id};
+use std::alloc::Global;
+use std::marker::Model;
+
+/// All messages ever sent from one identity to another, and the number of the next one due.
+#[derive(Drop)]
+pub(crate) struct Link<M> {
+    pub(crate) messages: Vec<M>,
+    pub(crate) next: usize,
+}
+
+/// The links from each identity to each.
+#[derive(Drop)]
+pub struct Links<M> {
+    pub(crate) rows: Vec<Vec<Link<M>>>,
+}
+
+impl<M> Model for Links<M> {
+    ghost use Rattle.std.specs.Prelude.{◌≡◌, map, length};
+    ghost use Rattle.model_history.specs.Table.{identity_limit};
+    ghost use Rattle.world_members.specs.Channels.{Channels, row_of};
+
+    ghost Value = { Channels M };
+
+    ghost view = { λ links. map row_of links.rows.items };
+
+    ghost invariant = { λ links. length links.rows.items ≡ identity_limit };
+}
+
+impl<M: Drop> Links<M> {
+    /// Links without a message.
+    pub(crate) fn new(alloc: Global) -> Result<Links<M>, Memory>
+        ensures { IfOk result (λ links. (from to : ℕ) → channel_at links from to ≡ (if nat_lt from identity_limit && nat_lt to identity_limit then Some no_messages else None)) }
+    {
+        let mut rows = Items::new(alloc);
+        for _number in 0..IDENTITIES {
+            rows.push(new_row(alloc)?)?;
+        }
+        Ok(Links {
+            rows: rows.into_vec(),
+        })
+    }
+
+    /// The link from one identity to another.
+    fn link(&self, from: Id, to: Id) -> Option<&Link<M>>
+        ensures { option_map channel_of (option_copied result) ≡ channel_at self.now from to }
+    {
+        match self.rows.get(usize::from(from.number())) {
+            Some(row) => row.get(usize::from(to.number())),
+            None => None,
+        }
+    }
+
+    /// The message of this number on a link, if it was sent.
+    pub fn message(&self, from: Id, to: Id, index: usize) -> Option<&M>
+        ensures { option_copied result ≡ message_on (channel_at self.now from to) index }
+    {
+        message_in(
+            &self.rows,
+            usize::from(from.number()),
+            usize::from(to.number()),
+            index,
+        )
+    }
+
+    /// The number of the next message due on a link.
+    pub fn next(&self, from: Id, to: Id) -> usize
+        ensures { result ≡ next_on (channel_at self.now from to) }
+    {
+        match self.link(from, to) {
+            Some(link) => link.next,
+            None => 0,
+        }
+    }
+
+    /// How many messages were sent on a link.
+    pub fn sent(&self, from: Id, to: Id) -> usize
+        ensures count { result ≡ count_on (channel_at self.now from to) }
+        ensures few { result < 2 ^ 63 }
+    {
+        match self.link(from, to) {
+            Some(link) => link.messages.len(),
+            None => 0,
+        }
+    }
+
+    /// Adds a message at the end of a link.
+    ///
+    /// # Errors
+    ///
+    /// Memory was refused, and the links are as they were.
+    pub fn append(&mut self, from: Id, to: Id, message: M) -> Result<(), Memory>
+        ensures ok { OnOk result (ChangesOne (extended (message ∷ [])) from to self.old self.new) }
+        ensures err { OnErr result (self.new ≡ self.old) }
+    {
+        let sender = usize::from(from.number());
+        if sender < self.rows.len() {
+            append_in(&mut self.rows[sender], usize::from(to.number()), message)?;
+        }
+        Ok(())
+    }
+
+    /// The message of this number is due next on a link.
+    pub fn set_next(&mut self, from: Id, to: Id, next: usize)
+        ensures { ChangesOne (due_from next) from to self.old self.new }
+    {
+        let sender = usize::from(from.number());
+        if sender < self.rows.len() {
+            set_next_in(&mut self.rows[sender], usize::from(to.number()), next);
+        }
+    }
+
+    /// The message of this number was taken or lost: where it was the next one due, the one after it is due now.
+    pub(crate) fn pass(&mut self, from: Id, to: Id, index: usize)
+        ensures { index < count_on (channel_at self.old from to) → ChangesOne (passed index) from to self.old self.new }
+    {
+        if index < self.sent(from, to) {
+            self.pass_sent(from, to, index);
+        }
+    }
+
+    /// A message that was sent was taken or lost.
+    fn pass_sent(&mut self, from: Id, to: Id, index: usize)
+        requires { index < count_on (channel_at self.old from to) }
+        ensures { ChangesOne (passed index) from to self.old self.new }
+    {
+        let sender = usize::from(from.number());
+        if sender < self.rows.len() {
+            pass_in(&mut self.rows[sender], usize::from(to.number()), index);
+        }
+    }
+}
+
+/// The message of a number on the link from one identity to another, if it was sent.
+pub(crate) fn message_in<M>(
+    rows: &[Vec<Link<M>>],
+    from: usize,
+    to: usize,
+    index: usize,
+) -> Option<&M>
+    ensures { option_copied result ≡ message_on (channel_at (map row_of rows.now) from to) index }
+{
+    match rows.get(from) {
+        Some(row) => match row.get(to) {
+            Some(link) => link.messages.get(index),
+            None => None,
+        },
+        None => None,
+    }
+}
+
+/// Links without a message, to each identity.
+fn new_row<M: Drop>(alloc: Global) -> Result<Vec<Link<M>>, Memory>
+    ensures { IfOk result (λ row. row_of row ≡ replicate identity_limit no_messages) }
+{
+    let mut row = Items::new(alloc);
+    for _number in 0..IDENTITIES {
+        row.push(Link {
+            messages: Vec::new(alloc),
+            next: 0,
+        })?;
+    }
+    Ok(row.into_vec())
+}
+
+/// The message of this number on the link to an identity was taken or lost.
+fn pass_in<M: Drop>(row: &mut Vec<Link<M>>, to: usize, index: usize)
+    requires { (link : Link M) → slice_get row.old.items to ≡ Some link → index < length link.messages.items }
+    ensures { (b : ℕ) → slice_get (row_of row.new) b ≡ (if b == to then option_map (passed index) (slice_get (row_of row.old) b) else slice_get (row_of row.old) b) }
+{
+    if to < row.len() {
+        let link = &mut row[to];
+        if link.next == index {
+            link.next = index + 1;
+        }
+    }
+}
+
+/// Adds a message at the end of the link to an identity.
+fn append_in<M: Drop>(row: &mut Vec<Link<M>>, to: usize, message: M) -> Result<(), Memory>
+    ensures ok { OnOk result ((b : ℕ) → slice_get (row_of row.new) b ≡ (if b == to then option_map (extended (message ∷ [])) (slice_get (row_of row.old) b) else slice_get (row_of row.old) b)) }
+    ensures err { OnErr result (row_of row.new ≡ row_of row.old) }
+{
+    if to < row.len() {
+        let link = &mut row[to];
+        link.messages.push(message)?;
+    }
+    Ok(())
+}
+
+/// The message of this number is due next on the link to an identity.
+fn set_next_in<M: Drop>(row: &mut Vec<Link<M>>, to: usize, next: usize)
+    ensures { (b : ℕ) → slice_get (row_of row.new) b ≡ (if b == to then option_map (due_from next) (slice_get (row_of row.old) b) else slice_get (row_of row.old) b) }
+{
+    if to < row.len() {
+        let link = &mut row[to];
+        link.next = next;
+    }
+}
