@@ -1,10 +1,7 @@
-ghost use Rattle.std.specs.Prelude.{◌≡◌, ◌<◌, ◌≤◌, ◌↔◌, length, IfOk, IfErr, IsTrue};
-ghost use Rattle.base_bytes.specs.Refusals.{IsTooLong};
+ghost use Rattle.std.specs.Prelude.{◌≡◌, ◌≤◌, ◌↔◌, [], length, IsOk, IfOk};
 ghost use Rattle.base_bytes.specs.Spelling.{IsText};
 
-use crate::memory::Memory;
 use arrayvec::ArrayString;
-use std::alloc::Global;
 use std::marker::Model;
 
 /// A text has at most so many bytes.
@@ -24,24 +21,27 @@ impl Model for Text {
     ghost view = { λ t. t.text.bytes };
 }
 
-/// Why no text was made.
+/// The text has more bytes than it may.
 #[derive(Clone, Copy, Debug, PartialEq, Eq)]
-pub enum TextError {
-    TooLong,
-    Memory,
-}
+pub struct TooLong;
 
 impl Text {
     /// A text with these bytes, unless they are more than 64.
-    pub fn new(_alloc: Global, text: &str) -> Result<Text, TextError>
+    pub fn new(text: &str) -> Result<Text, TooLong>
+        ensures variant { IsOk result ↔ (length text.now ≤ MOST_BYTES) }
         ensures value { IfOk result (λ made. made ≡ text.now) }
-        ensures within { IfOk result (λ made. length text.now ≤ MOST_BYTES) }
-        ensures refused { IfErr result (IsTooLong (MOST_BYTES < length text.now)) }
     {
         if text.len() > MOST_BYTES {
-            return Err(TextError::TooLong);
+            return Err(TooLong);
         }
         Ok(Text::of_short(text))
+    }
+
+    /// The text of no bytes.
+    pub fn empty() -> Text
+        ensures { result ≡ [] }
+    {
+        Text::of_short("")
     }
 
     /// A text with these bytes, which are no more than 64.
@@ -61,13 +61,6 @@ impl Text {
         ensures text { IsText self.now }
     {
         self.text.as_str()
-    }
-
-    /// An equal text.
-    pub fn copy(&self, _alloc: Global) -> Result<Text, Memory>
-        ensures { IfOk result (λ copy. copy ≡ self.now) }
-    {
-        Ok(self.copied())
     }
 
     /// An equal text, which takes no memory.

@@ -1,6 +1,6 @@
 use crate::spelling::digest;
 use crate::steps::Steps;
-use base_vectors::Memory;
+use base_bytes::Memory;
 use data_envelope::Envelope;
 use data_lattice::{Replica, SpelledData};
 use std::alloc::Global;

@@ -7,7 +7,7 @@ ghost use Rattle.data_codec.specs.Envelopes.{envelope_spelled, IsEnvelope};
 ghost use Rattle.data_codec.specs.Entries.{entry_spelled, entry_digest};
 ghost use Rattle.sha1.specs.Sha1.{sha1};
 
-use base_vectors::Memory;
+use base_bytes::Memory;
 use data_envelope::Envelope;
 use data_lattice::SpelledData;
 use sha1::Sha1;

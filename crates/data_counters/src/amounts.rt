@@ -7,8 +7,8 @@ ghost use Rattle.base_vectors.specs.IdSets.{members_in};
 ghost use Rattle.base_vectors.specs.Spelling.{numbers_spelled, numbers_in, AreSpellable};
 ghost use Rattle.base_vectors.specs.Vectors.{IsNormal, number_at, raised, joined, removed};
 
-use base_bytes::FieldError;
-use base_vectors::{Id, IdSet, Memory, Numbers};
+use base_bytes::{FieldError, Memory};
+use base_vectors::{Id, IdSet, Numbers};
 use std::alloc::Global;
 use std::marker::Model;
 

@@ -9,9 +9,10 @@ ghost use Rattle.data_counters.specs.Laws as laws;
 
 use crate::amounts::Amounts;
 use crate::counter::{GCounter, Share};
-use base_vectors::{Dot, Id, Memory, VersionVector};
-use data_lattice::{ApplyError, PruneError, Replica, Shown};
-use model_kinds::Op;
+use base_bytes::Memory;
+use base_vectors::{Dot, Id, VersionVector};
+use data_lattice::{ApplyError, PruneError, Replica};
+use model_kinds::{Op, Shown};
 use std::alloc::Global;
 
 /// What an operation adds to a growing counter.

@@ -5,7 +5,8 @@ ghost use Rattle.data_counters.specs.Counter.{counter_applied, counter_delta_of,
 
 use crate::amounts::Amount;
 use crate::counter::{GCounter, Share};
-use base_vectors::{Dot, Id, Memory};
+use base_bytes::Memory;
+use base_vectors::{Dot, Id};
 use data_lattice::{ApplyError, PruneError};
 
 impl GCounter {

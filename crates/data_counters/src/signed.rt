@@ -8,9 +8,10 @@ ghost use Rattle.data_counters.specs.SignedLaws as laws;
 
 use crate::amounts::Amounts;
 use crate::counter::{GCounter, PnCounter, PnShare, Share};
-use base_vectors::{Dot, Id, Memory, VersionVector};
-use data_lattice::{ApplyError, PruneError, Replica, Shown};
-use model_kinds::Op;
+use base_bytes::Memory;
+use base_vectors::{Dot, Id, VersionVector};
+use data_lattice::{ApplyError, PruneError, Replica};
+use model_kinds::{Op, Shown};
 use std::alloc::Global;
 
 /// What was added, less what was taken away.

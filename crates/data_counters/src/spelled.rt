@@ -7,8 +7,8 @@ ghost use Rattle.data_counters.specs.SpelledLaws as laws;
 
 use crate::amounts::Amounts;
 use crate::counter::{GCounter, PnCounter};
-use base_bytes::{FieldError, ReadError, placed};
-use base_vectors::{IdSet, Memory};
+use base_bytes::{FieldError, Memory, ReadError, placed};
+use base_vectors::IdSet;
 use data_lattice::SpelledData;
 use std::alloc::Global;
 

@@ -3,7 +3,7 @@ ghost use Rattle.data_deltalog.specs.Contents.{combined_of, AreDeltasFor, IsDelt
 
 use crate::delta_log::OwnRecord;
 use crate::recent::Recent;
-use base_vectors::Memory;
+use base_bytes::Memory;
 use data_lattice::Replica;
 use std::alloc::Global;
 

@@ -1,7 +1,8 @@
 use crate::combining::combined;
 use crate::grouped::Grouped;
 use crate::recent::{Recent, Room};
-use base_vectors::{Id, Memory, Seq, VersionVector};
+use base_bytes::Memory;
+use base_vectors::{Id, Seq, VersionVector};
 use data_envelope::Group;
 use data_lattice::Replica;
 use std::alloc::Global;

@@ -4,7 +4,7 @@ ghost use Rattle.std.specs.VecDeque.{deque_len, deque_capacity};
 ghost use Rattle.data_deltalog.specs.Answers.{most_kept};
 ghost use Rattle.data_deltalog.specs.Contents.{last_of};
 
-use base_vectors::Memory;
+use base_bytes::Memory;
 use std::alloc::Global;
 use std::collections::VecDeque;
 use std::marker::Model;

@@ -5,7 +5,8 @@ ghost use Rattle.model_history.specs.Cuts.{without};
 ghost use Rattle.base_vectors.specs.Vectors.{IsNormal, number_at};
 ghost use Rattle.data_markers.specs.Marks.{mark_of, performed_in};
 
-use base_vectors::{Id, Memory, VersionVector};
+use base_bytes::Memory;
+use base_vectors::{Id, VersionVector};
 use data_lattice::Replica;
 use data_markers::Markers;
 use std::alloc::Global;

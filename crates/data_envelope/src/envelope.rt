@@ -21,9 +21,11 @@ ghost use Rattle.data_envelope.specs.declared.outcomes.Init.TheVariants as initi
 use crate::cleaning::cleaned_copy;
 use crate::group::Group;
 use crate::outcomes::{Init, Judgement, Perform};
-use base_vectors::{Dot, Id, IdSet, Memory, Seq, VersionVector};
-use data_lattice::{ApplyError, PruneError, Replica, Shown};
+use base_bytes::Memory;
+use base_vectors::{Dot, Id, IdSet, Seq, VersionVector};
+use data_lattice::{ApplyError, PruneError, Replica};
 use data_markers::{Marker, Markers};
+use model_kinds::Shown;
 use std::alloc::Global;
 use std::marker::Model;
 

@@ -1,6 +1,7 @@
 ghost use Rattle.std.specs.Prelude.{◌<◌, ◌≤◌, ◌^◌};
 
-use base_vectors::{Id, Memory, Seq, VersionVector};
+use base_bytes::Memory;
+use base_vectors::{Id, Seq, VersionVector};
 use data_lattice::Replica;
 use std::alloc::Global;
 

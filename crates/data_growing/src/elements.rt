@@ -92,7 +92,7 @@ pub(crate) fn put_all(texts: &mut Vec<Text>, others: &[Text]) -> Result<(), Memo
 fn append(all: &mut Vec<Text>, alloc: Global, text: &Text) -> Result<(), Memory>
     ensures { OnOk result (all.new.items ≡ all.old.items ++ text.now ∷ []) }
 {
-    let copy = text.copy(alloc)?;
+    let copy = text.copied();
     match all.push(copy) {
         Ok(()) => Ok(()),
         Err(_) => Err(Memory),

@@ -12,10 +12,10 @@ ghost use Rattle.data_growing.specs.SpellingLaws as spellings;
 ghost use Rattle.data_growing.specs.FlagLaws as laws;
 
 use crate::spelling::read_flag;
-use base_bytes::{ReadError, placed};
-use base_vectors::{Dot, Id, IdSet, Memory, VersionVector};
-use data_lattice::{ApplyError, PruneError, Replica, Shown, SpelledData};
-use model_kinds::Op;
+use base_bytes::{Memory, ReadError, placed};
+use base_vectors::{Dot, Id, IdSet, VersionVector};
+use data_lattice::{ApplyError, PruneError, Replica, SpelledData};
+use model_kinds::{Op, Shown};
 use std::alloc::Global;
 
 /// A flag that is switched on, and never off again.

@@ -21,8 +21,8 @@ use crate::spelling::{read_written, spelled_write};
 use crate::timestamp::Timestamp;
 use base_bytes::{Fault, FieldError, Memory, ReadError, Spelled, Text, placed, read_number};
 use base_vectors::{Dot, Id, IdSet, VersionVector};
-use data_lattice::{ApplyError, PruneError, Replica, Shown, SpelledData};
-use model_kinds::{Moment, Op};
+use data_lattice::{ApplyError, PruneError, Replica, SpelledData};
+use model_kinds::{Moment, Op, Shown};
 use std::alloc::Global;
 use std::cmp::Ordering;
 use std::marker::Model;
@@ -56,7 +56,7 @@ impl Written {
         ensures { IfOk result (λ copy. copy ≡ self.now) }
     {
         Ok(Written {
-            text: self.text.copy(alloc)?,
+            text: self.text.copied(),
             timestamp: self.timestamp,
             writer: self.writer,
         })
@@ -151,7 +151,7 @@ impl LwwRegister {
             return Err(ApplyError::ClockSpent);
         };
         let write = Written {
-            text: text.copy(alloc)?,
+            text: text.copied(),
             timestamp,
             writer: dot.origin,
         };
@@ -283,8 +283,8 @@ impl Replica for LwwRegister {
 
     fn show(&self, alloc: Global) -> Result<Shown, Memory> {
         match &self.written {
-            None => Ok(Shown::Written(empty_text(alloc)?)),
-            Some(written) => Ok(Shown::Written(written.text.copy(alloc)?)),
+            None => Ok(Shown::Written(Text::empty())),
+            Some(written) => Ok(Shown::Written(written.text.copied())),
         }
     }
 
@@ -437,14 +437,4 @@ impl SpelledData for LwwRegister {
     ghost mentioned_few = { λ _ _ _ _. refl };
 
     ghost spelling_means = { λ state log held _ _ is. ap register_spelled (laws.write_means assigned log state held is) };
-}
-
-/// The text that a register shows before its first write.
-fn empty_text(alloc: Global) -> Result<Text, Memory>
-    ensures { IfOk result (λ text. text ≡ []) }
-{
-    match Text::new(alloc, "") {
-        Ok(text) => Ok(text),
-        Err(_) => Err(Memory),
-    }
 }

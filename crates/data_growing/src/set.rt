@@ -21,8 +21,8 @@ use crate::elements::{copied, merged, place, put_all};
 use crate::spelling::{read_texts, spelled_texts};
 use base_bytes::{FieldError, Items, Memory, ReadError, Text, placed, read_number};
 use base_vectors::{Dot, Id, IdSet, VersionVector};
-use data_lattice::{ApplyError, PruneError, Replica, Shown, SpelledData};
-use model_kinds::{Op, Texts};
+use data_lattice::{ApplyError, PruneError, Replica, SpelledData};
+use model_kinds::{Op, Shown, Texts};
 use std::alloc::Global;
 use std::marker::Model;
 
@@ -65,7 +65,7 @@ impl GSet {
     pub(crate) fn of(alloc: Global, element: &Text) -> Result<GSet, Memory>
         ensures { IfOk result (λ set. set ≡ element.now ∷ []) }
     {
-        let copy = element.copy(alloc)?;
+        let copy = element.copied();
         let mut elements = Vec::new(alloc);
         match elements.push(copy) {
             Ok(()) => Ok(GSet { alloc, elements }),
@@ -122,7 +122,7 @@ impl GSet {
         ensures ok { OnOk result (self.new ≡ text_set (self.old ++ element.now ∷ [])) }
         ensures err { OnErr result (self.new ≡ self.old) }
     {
-        let copy = element.copy(self.alloc)?;
+        let copy = element.copied();
         match self.elements.insert(index, copy) {
             Ok(()) => Ok(()),
             Err(_) => Err(Memory),

@@ -2,7 +2,7 @@ ghost use Rattle.std.specs.Prelude.{◌≡◌};
 ghost use Rattle.data_lattice.specs.declared.answers.ApplyError.TheVariants as ApplyError;
 ghost use Rattle.data_lattice.specs.declared.answers.PruneError.TheVariants as PruneError;
 
-use base_vectors::Memory;
+use base_bytes::Memory;
 
 /// Why an operation was not applied.
 #[derive(Clone, Copy, Debug, PartialEq, Eq)]

@@ -1,4 +1,17 @@
 //! What every replicated data type offers, and what its data and answers mean over histories.
+//!
+//! # What is promised, and by which contract
+//!
+//! - What every replicated data type promises, as the contracts and laws of one trait: joins are
+//!   commutative, associative and idempotent; a delta does what it was made of; after each call the
+//!   data are those of the history that follows; what is shown is the history's meaning
+//!   (`Replica`).
+//! - Of any data, also those of no history: what was cleaned or pruned away is mentioned no more,
+//!   and nothing comes to be mentioned but what a joined side mentions, and the origin of a record
+//!   or a delta (laws `empty_mentions` to `pruned_unmentioned` of `Replica`).
+//! - What every data type promises that can be spelled: one spelling, which is a function of the
+//!   history; what is read is spelled so, and what is spelled is read again, whatever follows it
+//!   (`SpelledData`).
 #![tactic(auto)]
 
 mod answers;
@@ -6,6 +19,5 @@ mod replica;
 mod spelled;
 
 pub use answers::{ApplyError, PruneError};
-pub use model_kinds::Shown;
 pub use replica::Replica;
 pub use spelled::SpelledData;

@@ -12,7 +12,8 @@ ghost use Rattle.model_kinds.specs.declared.shown.Shown.{Shown};
 ghost use Rattle.data_lattice.specs.Refusals.{IsApplyRefusal, IsPruneRefusal};
 
 use crate::answers::{ApplyError, PruneError};
-use base_vectors::{Dot, Id, Memory, VersionVector};
+use base_bytes::Memory;
+use base_vectors::{Dot, Id, VersionVector};
 use model_kinds::Shown;
 use std::alloc::Global;
 

@@ -8,8 +8,8 @@ ghost use Rattle.base_bytes.specs.Spelling.{AreBytes, Takes, GivesAt};
 ghost use Rattle.base_vectors.specs.IdSets.{members_in};
 
 use crate::replica::Replica;
-use base_bytes::ReadError;
-use base_vectors::{IdSet, Memory};
+use base_bytes::{Memory, ReadError};
+use base_vectors::IdSet;
 use std::alloc::Global;
 
 /// Data with one spelling as bytes, which is a function of their history. No spelling of data of one kind is a proper

@@ -6,7 +6,8 @@ ghost use Rattle.data_markers.specs.Kept.{IsMark};
 ghost use Rattle.data_markers.specs.Marks.{mark_of, merged_option, performed_in, begun, marker_seen_by, is_unseen_by, has_unseen_by, MergesTo};
 
 use crate::marker::Marker;
-use base_vectors::{Id, Memory};
+use base_bytes::Memory;
+use base_vectors::Id;
 use std::alloc::Global;
 use std::collections::BTreeMap;
 use std::marker::Model;

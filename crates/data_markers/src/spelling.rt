@@ -12,8 +12,8 @@ ghost use Rattle.data_markers.specs.SpellingLaws.{AreSpellable, IsSpellable};
 
 use crate::marker::Marker;
 use crate::markers::Markers;
-use base_bytes::{FieldError, keep, read_byte, read_word};
-use base_vectors::{IDENTITIES, Id, IdSet, Memory, Seq, read_identity, read_positive};
+use base_bytes::{FieldError, Memory, keep, read_byte, read_word};
+use base_vectors::{IDENTITIES, Id, IdSet, Seq, read_identity, read_positive};
 use std::alloc::Global;
 
 /// Numbers of records are at most this.

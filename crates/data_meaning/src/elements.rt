@@ -46,7 +46,7 @@ fn put(texts: &mut Vec<Text>, alloc: Global, text: &Text) -> Result<(), Memory>
     let Some(index) = place(texts, text) else {
         return Ok(());
     };
-    let copy = text.copy(alloc)?;
+    let copy = text.copied();
     match texts.insert(index, copy) {
         Ok(()) => Ok(()),
         Err(_) => Err(Memory),
@@ -104,7 +104,7 @@ fn append_shown(
     if !is_shown(alloc, records, element)? {
         return Ok(());
     }
-    let copy = element.copy(alloc)?;
+    let copy = element.copied();
     match elements.push(copy) {
         Ok(()) => Ok(()),
         Err(_) => Err(Memory),

@@ -93,26 +93,22 @@ fn first_with<'a>(
 }
 
 /// The text that a record writes, empty where it is no write.
-fn text_of(action: &Action) -> &str
-    ensures { result.now ≡ text_in (found assigned (action_of action.now)) }
+fn text_of(action: &Action) -> Text
+    ensures { result ≡ text_in (found assigned (action_of action.now)) }
 {
     match action {
-        Action::Operation(Op::Assign { text, .. }) => text.as_str(),
-        _ => "",
+        Action::Operation(Op::Assign { text, .. }) => text.copied(),
+        _ => Text::empty(),
     }
 }
 
 /// What a winner writes, or the empty text where there is none.
-fn written(alloc: Global, winner: Option<(&Record, &u128)>) -> Result<Text, Memory>
-    ensures { IfOk result (λ text. text ≡ written_by (option_map (λ p. (p.0.now, p.1.now)) winner.entry)) }
+fn written(winner: Option<(&Record, &u128)>) -> Text
+    ensures { result ≡ written_by (option_map (λ p. (p.0.now, p.1.now)) winner.entry) }
 {
-    let winning = match winner {
+    match winner {
         Some((record, _)) => text_of(&record.action),
-        None => "",
-    };
-    match Text::new(alloc, winning) {
-        Ok(text) => Ok(text),
-        Err(_) => Err(Memory),
+        None => Text::empty(),
     }
 }
 
@@ -122,5 +118,5 @@ pub(crate) fn winning_text(alloc: Global, records: &[Record]) -> Result<Text, Me
 {
     let timestamps = timestamps(alloc, records)?;
     let newest = newest(records, &timestamps, None);
-    written(alloc, first_with(records, &timestamps, newest))
+    Ok(written(first_with(records, &timestamps, newest)))
 }

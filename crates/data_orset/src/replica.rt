@@ -17,8 +17,8 @@ ghost use Rattle.data_orset.specs.ShownLaws as meaning;
 use crate::set::{OrSet, SetDelta};
 use base_bytes::Memory;
 use base_vectors::{Dot, Id, VersionVector};
-use data_lattice::{ApplyError, PruneError, Replica, Shown};
-use model_kinds::Op;
+use data_lattice::{ApplyError, PruneError, Replica};
+use model_kinds::{Op, Shown};
 use std::alloc::Global;
 
 impl Replica for OrSet {

@@ -6,8 +6,8 @@ ghost use Rattle.data_orset.specs.ElementLaws as laws;
 ghost use Rattle.data_orset.specs.SpellingLaws as meaning;
 
 use crate::set::OrSet;
-use base_bytes::{ReadError, placed};
-use base_vectors::{IdSet, Memory};
+use base_bytes::{Memory, ReadError, placed};
+use base_vectors::IdSet;
 use data_lattice::SpelledData;
 use std::alloc::Global;
 

@@ -4,12 +4,13 @@ ghost use Rattle.data_value.specs.Spelled as spelled;
 ghost use Rattle.data_value.specs.Laws as laws;
 
 use crate::value::{Data, Delta, are_same};
-use base_vectors::{Dot, Id, Memory, VersionVector};
+use base_bytes::Memory;
+use base_vectors::{Dot, Id, VersionVector};
 use data_counters::{GCounter, PnCounter};
 use data_growing::{Flag, GSet, LwwRegister};
-use data_lattice::{ApplyError, PruneError, Replica, Shown};
+use data_lattice::{ApplyError, PruneError, Replica};
 use data_orset::OrSet;
-use model_kinds::{Kind, Op};
+use model_kinds::{Kind, Op, Shown};
 use std::alloc::Global;
 
 impl Replica for Data {

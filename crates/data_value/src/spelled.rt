@@ -4,8 +4,8 @@ ghost use Rattle.data_value.specs.Spelled as spelled;
 ghost use Rattle.data_value.specs.SpelledLaws as laws;
 
 use crate::value::Data;
-use base_bytes::ReadError;
-use base_vectors::{IdSet, Memory};
+use base_bytes::{Memory, ReadError};
+use base_vectors::IdSet;
 use data_counters::{GCounter, PnCounter};
 use data_growing::{Flag, GSet, LwwRegister};
 use data_lattice::SpelledData;

@@ -3,7 +3,7 @@
 
 use member_embedding::{
     Data, Id, Input, Items, KeyDecl, Kind, Level, Memory, MemoryKeeper, Node, Op, Output, Post,
-    Posts, Reply, StepError, Text, TextError, View, ViewList, are_distinct, push_shown,
+    Posts, Reply, StepError, Text, TooLong, View, ViewList, are_distinct, push_shown,
 };
 use std::alloc::Global;
 use std::process::ExitCode;
@@ -29,12 +29,9 @@ impl From<Memory> for Stopped {
     }
 }
 
-impl From<TextError> for Stopped {
-    fn from(refused: TextError) -> Stopped {
-        match refused {
-            TextError::TooLong => Stopped::Misused,
-            TextError::Memory => Stopped::Memory,
-        }
+impl From<TooLong> for Stopped {
+    fn from(_refused: TooLong) -> Stopped {
+        Stopped::Misused
     }
 }
 
@@ -103,13 +100,13 @@ fn shown(alloc: Global, member: &mut Member, key: Text) -> Result<String, Stoppe
 }
 
 /// The one key of the members: a cart.
-fn cart(alloc: Global) -> Result<Text, Stopped> {
-    Ok(Text::new(alloc, "cart")?)
+fn cart() -> Result<Text, Stopped> {
+    Ok(Text::new("cart")?)
 }
 
 /// The keys of the members.
 fn keys(alloc: Global) -> Result<Items<KeyDecl<Data>>, Stopped> {
-    let key = cart(alloc)?;
+    let key = cart()?;
     let mut keys = Items::new(alloc);
     keys.push(KeyDecl {
         key,
@@ -120,16 +117,16 @@ fn keys(alloc: Global) -> Result<Items<KeyDecl<Data>>, Stopped> {
 }
 
 /// Something is put into the cart.
-fn addition(alloc: Global, element: &str) -> Result<Input<Data>, Stopped> {
-    let key = cart(alloc)?;
-    let op = Op::Add(Text::new(alloc, element)?);
+fn addition(element: &str) -> Result<Input<Data>, Stopped> {
+    let key = cart()?;
+    let op = Op::Add(Text::new(element)?);
     let level = Level::Local;
     Ok(Input::Update { key, op, level })
 }
 
 /// A member puts something into its cart.
-fn add(alloc: Global, member: &mut Member, element: &str) -> Result<(), Stopped> {
-    let addition = addition(alloc, element)?;
+fn add(member: &mut Member, element: &str) -> Result<(), Stopped> {
+    let addition = addition(element)?;
     step(member, addition)?;
     Ok(())
 }
@@ -141,10 +138,10 @@ fn flush(member: &mut Member) -> Result<Posts<Data>, Stopped> {
 
 /// One of the two members adds milk and sends what it has, and the other shows its cart.
 fn shop(alloc: Global, first: &mut Member, second: &mut Member) -> Result<String, Stopped> {
-    add(alloc, first, "milk")?;
+    add(first, "milk")?;
     let posts = flush(first)?;
     exchange(first, second, posts)?;
-    shown(alloc, second, cart(alloc)?)
+    shown(alloc, second, cart()?)
 }
 
 /// Two members of one view.

@@ -18,7 +18,7 @@ impl Stored {
     pub fn copy(&self, alloc: Global) -> Result<Stored, Memory>
         ensures { IfOk result (λ copy. copy ≡ self.now) }
     {
-        let key = self.key.copy(alloc)?;
+        let key = self.key.copied();
         let bytes = Vec::from_slice(alloc, self.bytes.as_slice())?;
         Ok(Stored {
             key,

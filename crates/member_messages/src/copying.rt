@@ -15,7 +15,7 @@ pub(crate) fn copy_groups<T: Replica>(
 {
     let mut copies = Items::new(alloc);
     for keyed in groups.as_slice() {
-        let key = keyed.key.copy(alloc)?;
+        let key = keyed.key.copied();
         let item = keyed.item.copy(alloc)?;
         copies.push(Keyed { key, item })?;
     }
@@ -31,7 +31,7 @@ pub(crate) fn copy_entries<T: Replica>(
 {
     let mut copies = Items::new(alloc);
     for keyed in entries.as_slice() {
-        let key = keyed.key.copy(alloc)?;
+        let key = keyed.key.copied();
         let item = keyed.item.copy(alloc)?;
         copies.push(Keyed { key, item })?;
     }
@@ -44,7 +44,7 @@ pub(crate) fn copy_texts(alloc: Global, texts: &Texts) -> Result<Texts, Memory>
 {
     let mut copies = Items::new(alloc);
     for text in texts.as_slice() {
-        copies.push(text.copy(alloc)?)?;
+        copies.push(text.copied())?;
     }
     Ok(copies)
 }
@@ -55,7 +55,7 @@ pub(crate) fn copy_digests(alloc: Global, digests: &Digests) -> Result<Digests, 
 {
     let mut copies = Items::new(alloc);
     for keyed in digests.as_slice() {
-        let key = keyed.key.copy(alloc)?;
+        let key = keyed.key.copied();
         let item = keyed.item;
         copies.push(Keyed { key, item })?;
     }

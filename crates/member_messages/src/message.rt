@@ -189,7 +189,7 @@ impl<T: Replica> Message<T> {
                 Ok(Message::Gossip { entries, wants })
             }
             Message::Write { op, key, envelope } => {
-                let key = key.copy(alloc)?;
+                let key = key.copied();
                 let envelope = envelope.copy(alloc)?;
                 Ok(Message::Write {
                     op: *op,
@@ -200,11 +200,11 @@ impl<T: Replica> Message<T> {
             Message::WriteAck { op } => Ok(Message::WriteAck { op: *op }),
             Message::WriteNack { op } => Ok(Message::WriteNack { op: *op }),
             Message::Read { op, key } => {
-                let key = key.copy(alloc)?;
+                let key = key.copied();
                 Ok(Message::Read { op: *op, key })
             }
             Message::ReadAnswer { op, key, envelope } => {
-                let key = key.copy(alloc)?;
+                let key = key.copied();
                 let envelope = copy_if_some(alloc, envelope)?;
                 Ok(Message::ReadAnswer {
                     op: *op,

@@ -33,7 +33,7 @@ pub(crate) fn named<T: Replica>(
     for (index, state) in keys.iter().enumerate() {
         let now = current(state, &changes[index]);
         if contains(names, &state.name) && now.has_records() {
-            let key = state.name.copy(alloc)?;
+            let key = state.name.copied();
             let item = now.copy(alloc)?;
             entries.push(Keyed { key, item })?;
         }
@@ -61,7 +61,7 @@ fn keys_of(alloc: Global, gaps: &[Keyed<Id>]) -> Result<Texts, Memory>
 {
     let mut keys = Items::new(alloc);
     for gap in gaps {
-        keys.push(gap.key.copy(alloc)?)?;
+        keys.push(gap.key.copied())?;
     }
     Ok(keys)
 }

@@ -48,7 +48,7 @@ impl Asked {
         match tally.answer(from) {
             Progress::Done => Ok(None),
             Progress::Waiting => {
-                let key = self.key.copy(alloc)?;
+                let key = self.key.copied();
                 let reads = self.reads;
                 Ok(Some(Asked { key, reads, tally }))
             }
@@ -181,12 +181,12 @@ impl<T: SpelledData, K: Keeper + Drop> Node<T, K> {
         ensures { IfOk result (AnswersRead self.now op key.now) }
     {
         let Some(index) = self.position(key) else {
-            let key = key.copy(self.alloc)?;
+            let key = key.copied();
             let envelope = None;
             return Ok(Message::ReadAnswer { op, key, envelope });
         };
         let envelope = copy_with_records(self.alloc, self.keys[index].entry.envelope())?;
-        let key = key.copy(self.alloc)?;
+        let key = key.copied();
         Ok(Message::ReadAnswer { op, key, envelope })
     }
 

@@ -86,12 +86,12 @@ fn news<T: SpelledData>(
     for state in keys {
         let comparison = compare(state, digests)?;
         if comparison.is_news {
-            let key = state.name.copy(alloc)?;
+            let key = state.name.copied();
             let item = state.entry.envelope().copy(alloc)?;
             entries.push(Keyed { key, item })?;
         }
         if comparison.is_wanted {
-            let name = state.name.copy(alloc)?;
+            let name = state.name.copied();
             wants.push(name)?;
         }
     }
@@ -146,7 +146,7 @@ fn digests<T: SpelledData>(alloc: Global, keys: &[KeyState<T>]) -> Result<Digest
     let mut digests = Items::new(alloc);
     for state in keys {
         if state.entry.envelope().has_records() {
-            let key = state.name.copy(alloc)?;
+            let key = state.name.copied();
             let item = state.entry.digest()?;
             digests.push(Keyed { key, item })?;
         }

@@ -73,7 +73,7 @@ fn add_gap(alloc: Global, gaps: &mut Gaps, key: &Text, lacking: Option<Id>) -> R
     ensures { OnOk result (gaps.new ≡ gaps.old ++ gaps_at key.now lacking) }
 {
     if let Some(item) = lacking {
-        let key = key.copy(alloc)?;
+        let key = key.copied();
         gaps.push(Keyed { key, item })?;
     }
     Ok(())

@@ -48,7 +48,7 @@ impl<T: Replica> KeyState<T> {
         ensures declared { IfOk result (λ state. declared_by state ≡ declared decl.now) }
         ensures fresh { IfOk result (IsFresh T.kind_of T.IsDataOf T.IsDeltaOf id) }
     {
-        let name = decl.key.copy(alloc)?;
+        let name = decl.key.copied();
         let value = T::empty(alloc, &decl.kind)?;
         Ok(KeyState {
             name,

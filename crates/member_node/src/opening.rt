@@ -64,7 +64,7 @@ impl<T: SpelledData, K: Keeper + Drop> Node<T, K> {
     {
         let members = identities(self.alloc, &self.view)?;
         let posts = to_others(self.alloc, self.id, &members, message)?;
-        let key = key.copy(self.alloc)?;
+        let key = key.copied();
         let tally = Tally::new(self.id, number);
         let asked = Asked { key, reads, tally };
         let next = self.operations.prepare(self.alloc, asked)?;
@@ -131,7 +131,7 @@ impl<T: SpelledData, K: Keeper + Drop> Node<T, K> {
     {
         let message = Message::Write {
             op: self.next_op(),
-            key: name.copy(self.alloc)?,
+            key: name.copied(),
             envelope: entry.copy(self.alloc)?,
         };
         let plan = Plan::At { index, entry, next };
@@ -164,7 +164,7 @@ impl<T: SpelledData, K: Keeper + Drop> Node<T, K> {
     {
         let message = Message::Read {
             op: self.next_op(),
-            key: name.copy(self.alloc)?,
+            key: name.copied(),
         };
         self.opened(Plan::Nothing, name, true, number, &message)
     }

@@ -51,7 +51,7 @@ pub(crate) fn copy_outcomes(alloc: Global, outcomes: &Outcomes) -> Result<Outcom
     let mut copies = Items::new(alloc);
     for told in outcomes.as_slice() {
         copies.push(KeyOutcome {
-            key: told.key.copy(alloc)?,
+            key: told.key.copied(),
             removed: told.removed,
             outcome: told.outcome,
         })?;

@@ -228,7 +228,7 @@ fn emptied<T: Replica>(alloc: Global, id: Id, state: &KeyState<T>) -> Result<Key
     ensures fresh { IfOk result (IsFresh T.kind_of T.IsDataOf T.IsDeltaOf id) }
 {
     let decl = KeyDecl {
-        key: state.name.copy(alloc)?,
+        key: state.name.copied(),
         kind: state.kind,
         durable: state.durable,
     };

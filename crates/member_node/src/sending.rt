@@ -67,7 +67,7 @@ fn add_deltas<T: Replica>(
         return Ok(());
     }
     let group = group_for(alloc, state, peer)?;
-    let key = state.name.copy(alloc)?;
+    let key = state.name.copied();
     match group {
         Some(item) => {
             groups.push(Keyed { key, item })?;

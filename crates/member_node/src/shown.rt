@@ -14,11 +14,11 @@ pub(crate) fn copy_shown(alloc: Global, shown: &Shown) -> Result<Shown, Memory>
         Shown::Elements(texts) => {
             let mut copies = Items::new(alloc);
             for text in texts.as_slice() {
-                copies.push(text.copy(alloc)?)?;
+                copies.push(text.copied())?;
             }
             Ok(Shown::Elements(copies))
         }
         Shown::Switch(on) => Ok(Shown::Switch(*on)),
-        Shown::Written(text) => Ok(Shown::Written(text.copy(alloc)?)),
+        Shown::Written(text) => Ok(Shown::Written(text.copied())),
     }
 }

@@ -27,7 +27,7 @@ fn add<T: SpelledData>(
     if !state.durable || entry.is_unchanged(state.entry.envelope()) {
         return Ok(());
     }
-    let key = state.name.copy(alloc)?;
+    let key = state.name.copied();
     let bytes = Items::from_vec(spell(alloc, entry)?);
     stores.push(Stored { key, bytes })
 }

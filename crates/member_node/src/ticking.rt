@@ -134,7 +134,7 @@ impl<T: Replica> KeyTicking<T> {
             return Ok(());
         };
         self.note(&state.log, id, outcome.is_prune())?;
-        let key = state.name.copy(self.alloc)?;
+        let key = state.name.copied();
         outcomes.push(KeyOutcome {
             key,
             removed,

@@ -7,7 +7,7 @@ use std::test::Fail;
 
 /// An entry of one byte.
 fn entry(alloc: Global, key: &str, byte: u8) -> Result<Stored, Fail> {
-    match Text::new(alloc, key) {
+    match Text::new(key) {
         Ok(key) => Ok(Stored {
             key,
             bytes: Items::from_vec(Vec::from_slice(alloc, &[byte])?),

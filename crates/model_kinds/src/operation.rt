@@ -1,3 +1,5 @@
+ghost use Rattle.std.specs.Prelude.{◌≡◌};
+
 use crate::moment::Moment;
 use base_bytes::Text;
 
@@ -16,4 +18,23 @@ pub enum Op {
     Enable,
     /// Writes the text of a register, by a clock that stands at `now`.
     Assign { text: Text, now: Moment },
+}
+
+impl Op {
+    /// An equal operation, which takes no memory.
+    pub fn copied(&self) -> Op
+        ensures { result ≡ self.now }
+    {
+        match self {
+            Op::Increment(amount) => Op::Increment(*amount),
+            Op::Decrement(amount) => Op::Decrement(*amount),
+            Op::Add(element) => Op::Add(element.copied()),
+            Op::Remove(element) => Op::Remove(element.copied()),
+            Op::Enable => Op::Enable,
+            Op::Assign { text, now } => Op::Assign {
+                text: text.copied(),
+                now: *now,
+            },
+        }
+    }
 }

@@ -18,7 +18,8 @@ use Rattle.model_members.specs.Node.Result.{Wrote, ReadValue, ReadNothing}
 use Rattle.model_members.specs.Node.Reply.{Done, Pending, Value, NotFound, UnknownKey, WrongKind, TooFew, Refused, NotStored, Taken, Already, Gap, NotFromMember, Installed, OldView, NotAPeer, Ticked, TickedNotStored, NotLeader, TimedOut, NoSuchOp}
 use Rattle.model_members.specs.World.{World}
 use Rattle.model_members.specs.Script.{Told, Head, Answer, ScriptStep, KeeperAnswers, opening, played_all, lines_of}
-use Rattle.model_members.specs.Script.Head.{UpdateHead, GetHead, FlushHead, TickHead, GossipHead, DeliverHead, RoundHead, LoseHead, TimeoutHead, RemoveHead, JoinHead, RestartHead, InstallHead, SettleHead}
+use Rattle.model_members.specs.Script.{Ask as ask}
+use Rattle.model_members.specs.Script.Head.{Asked, DeliverHead, RoundHead, LoseHead, TimeoutHead, RemoveHead, JoinHead, RestartHead, SettleHead}
 use Rattle.model_members.specs.Script.Answer.{Replied, Gone, HistoryFull, NoSuchView, NoSuchMessage, Lost, Nothing, LastMember, PlaceTaken, TooManyIdentities, ClearFailed, LoadFailed, Stopped, NewView, NewIdentity, Settled}
 
 -- words with a space between each two
@@ -119,11 +120,11 @@ module _ {Op : Type 0} where
   delivered_words (Some message) = message_text message ∷ []
 
   abbrev pub head_words : Head Op → List Text
-  head_words (UpdateHead i key) = codes "update" ∷ decimal i ∷ key ∷ []
-  head_words (GetHead i key) = codes "get" ∷ decimal i ∷ key ∷ []
-  head_words (FlushHead i) = codes "flush" ∷ decimal i ∷ []
-  head_words (TickHead i) = codes "tick" ∷ decimal i ∷ []
-  head_words (GossipHead i to) = codes "gossip" ∷ decimal i ∷ decimal to ∷ []
+  head_words (Asked i (ask.Update key op level)) = codes "update" ∷ decimal i ∷ key ∷ []
+  head_words (Asked i (ask.Get key level)) = codes "get" ∷ decimal i ∷ key ∷ []
+  head_words (Asked i ask.Flush) = codes "flush" ∷ decimal i ∷ []
+  head_words (Asked i ask.Tick) = codes "tick" ∷ decimal i ∷ []
+  head_words (Asked i (ask.Gossip to)) = codes "gossip" ∷ decimal i ∷ decimal to ∷ []
   head_words (DeliverHead from to index message) = codes "deliver" ∷ link_text from to index ∷ delivered_words message
   head_words RoundHead = codes "round" ∷ []
   head_words (LoseHead from to index) = codes "lose" ∷ link_text from to index ∷ []
@@ -131,7 +132,7 @@ module _ {Op : Type 0} where
   head_words (RemoveHead i) = codes "remove" ∷ decimal i ∷ []
   head_words (JoinHead place) = codes "join" ∷ decimal place ∷ []
   head_words (RestartHead i) = codes "restart" ∷ decimal i ∷ []
-  head_words (InstallHead i view) = codes "install" ∷ decimal i ∷ codes "view" ∷ decimal view ∷ []
+  head_words (Asked i (ask.Install view)) = codes "install" ∷ decimal i ∷ codes "view" ∷ decimal view ∷ []
   head_words SettleHead = codes "settle" ∷ []
 
   abbrev pub post_text : Post Op → Text

@@ -13,20 +13,24 @@ use Rattle.model_members.specs.Step.{is_full}
 use Rattle.model_members.specs.World.{World, Event, Link, Turn, start, views_of, stores, message_at, turn_of, output_of, happens}
 use Rattle.model_members.specs.World.Event.{InputAt, Delivery, Loss, Removal, Joining}
 
+-- what a script asks of a member
+pub data Ask (Op : Type 0) : Type 0 where
+  Update : (key : Text) (op : Op) (level : Level) → Ask Op
+  Get : (key : Text) (level : Level) → Ask Op
+  Flush : Ask Op
+  Gossip : (to : ℕ) → Ask Op
+  Tick : Ask Op
+  Install : (view : ℕ) → Ask Op
+
 pub data ScriptStep (Op : Type 0) : Type 0 where
-  Update : (at : ℕ) (key : Text) (op : Op) (level : Level) → ScriptStep Op
-  Get : (at : ℕ) (key : Text) (level : Level) → ScriptStep Op
-  Flush : (at : ℕ) → ScriptStep Op
-  Gossip : (at to : ℕ) → ScriptStep Op
+  Asks : (at : ℕ) (ask : Ask Op) → ScriptStep Op
   Deliver : (from to : ℕ) (index : Option ℕ) → ScriptStep Op
   Lose : (from to : ℕ) → ScriptStep Op
   Round : ScriptStep Op
-  Tick : (at : ℕ) → ScriptStep Op
   Timeout : (at op : ℕ) → ScriptStep Op
   Remove : (identity : ℕ) → ScriptStep Op
   Join : (place : ℕ) → ScriptStep Op
   Restart : (identity : ℕ) → ScriptStep Op
-  Install : (at view : ℕ) → ScriptStep Op
   Settle : ScriptStep Op
 
 -- places are those of a script
@@ -34,13 +38,18 @@ abbrev pub IsStep : {Op : Type 0} → ScriptStep Op → Type 0
 IsStep (Join place) = place < 8
 IsStep _ = Unit {0}
 
+-- the input that it is, among these views. There is none where it names none of them
+abbrev pub input_of : {Op : Type 0} → List View → Ask Op → Option (Input Op)
+input_of views (Update key op level) = Some (Input.Update key op level)
+input_of views (Get key level) = Some (Input.Get key level)
+input_of views Flush = Some Input.Flush
+input_of views (Gossip to) = Some (Input.GossipTo to)
+input_of views Tick = Some Input.PruneTick
+input_of views (Install number) = option_map Input.Install (slice_get views number)
+
 -- what a line of the report is about
 pub data Head (Op : Type 0) : Type 0 where
-  UpdateHead : (at : ℕ) (key : Text) → Head Op
-  GetHead : (at : ℕ) (key : Text) → Head Op
-  FlushHead : (at : ℕ) → Head Op
-  TickHead : (at : ℕ) → Head Op
-  GossipHead : (at to : ℕ) → Head Op
+  Asked : (at : ℕ) (ask : Ask Op) → Head Op
   DeliverHead : (from to index : ℕ) (message : Option (Message Op)) → Head Op
   RoundHead : Head Op
   LoseHead : (from to index : ℕ) → Head Op
@@ -48,7 +57,6 @@ pub data Head (Op : Type 0) : Type 0 where
   RemoveHead : (identity : ℕ) → Head Op
   JoinHead : (place : ℕ) → Head Op
   RestartHead : (identity : ℕ) → Head Op
-  InstallHead : (at view : ℕ) → Head Op
   SettleHead : Head Op
 
 pub data Answer (Shown : Type 0) : Type 0 where
@@ -221,14 +229,13 @@ module _ {Kind Op Shown : Type 0} (D : Replication Kind Op Shown) where
       if not (is_member view i) then told p (RestartHead i) Gone
       else (if nat_lt view.given identity_limit then called p (place_of view i) (Event.Restart i) (RestartHead i) (NewIdentity view.given (view.number + 1)) LoadFailed else told p (RestartHead i) TooManyIdentities)
 
-  abbrev pub install : Playing Kind Op Shown → ℕ → ℕ → Playing Kind Op Shown
-  install p i number =
-      if is_some (p.world.nodes i)
-      then elim (slice_get (views_of p.world) number) [
-        | None ↦ told p (InstallHead i number) NoSuchView
-        | Some view ↦ given p (InstallHead i number) (InputAt i (Input.Install view))
-      ]
-      else told p (InstallHead i number) Gone
+  -- a member is asked, where the question is this input or names no view of the world
+  abbrev pub asked_by : Playing Kind Op Shown → ℕ → Ask Op → Option (Input Op) → Playing Kind Op Shown
+  asked_by p i ask None = told p (Asked i ask) (if is_some (p.world.nodes i) then NoSuchView else Gone)
+  asked_by p i ask (Some input) = given p (Asked i ask) (InputAt i input)
+
+  abbrev pub asked : Playing Kind Op Shown → ℕ → Ask Op → Playing Kind Op Shown
+  asked p i ask = asked_by p i ask (input_of (views_of p.world) ask)
 
   -- SETTLING
 
@@ -242,7 +249,7 @@ module _ {Kind Op Shown : Type 0} (D : Replication Kind Op Shown) where
   -- a member gossips to the leader, and the messages of this exchange are delivered as they are sent, at most three
   abbrev pub exchange : ℕ → Playing Kind Op Shown → ℕ → Playing Kind Op Shown
   exchange lead p i =
-      let first = unless_full (λ q. given q (GossipHead i lead) (InputAt i (Input.GossipTo lead))) p in
+      let first = unless_full (λ q. given q (Asked i (Gossip lead)) (InputAt i (Input.GossipTo lead))) p in
       let second = deliver_last (posted p) i lead first in
       let third = deliver_last (posted first) lead i second in
       deliver_last (posted second) i lead third
@@ -253,7 +260,7 @@ module _ {Kind Op Shown : Type 0} (D : Replication Kind Op Shown) where
       fold (exchange (leader view)) p (filter (λ i. not (i == leader view)) (identities_of view))
 
   abbrev pub tick : Playing Kind Op Shown → Playing Kind Op Shown
-  tick p = unless_full (λ q. given q (TickHead (leader q.world.view)) (InputAt (leader q.world.view) Input.PruneTick)) p
+  tick p = unless_full (λ q. given q (Asked (leader q.world.view) Tick) (InputAt (leader q.world.view) Input.PruneTick)) p
 
   abbrev pub is_older : View → Option (Node Kind Op Shown) → Bool
   is_older view None = false
@@ -262,7 +269,7 @@ module _ {Kind Op Shown : Type 0} (D : Replication Kind Op Shown) where
   abbrev pub install_last : Playing Kind Op Shown → ℕ → Playing Kind Op Shown
   install_last p i =
       let view = p.world.view in
-      if is_older view (p.world.nodes i) then unless_full (λ q. given q (InstallHead i view.number) (InputAt i (Input.Install view))) p else p
+      if is_older view (p.world.nodes i) then unless_full (λ q. given q (Asked i (Install view.number)) (InputAt i (Input.Install view))) p else p
 
   abbrev pub settle_line : Playing Kind Op Shown → ℕ → Answer Shown
   settle_line p blocked = if has_met_full p then Stopped else Settled (posted p) blocked
@@ -277,20 +284,15 @@ module _ {Kind Op Shown : Type 0} (D : Replication Kind Op Shown) where
   -- ONE STEP OF A SCRIPT, AND ALL
 
   abbrev pub played : Playing Kind Op Shown → ScriptStep Op → Playing Kind Op Shown
-  played p (Update i key op level) = given p (UpdateHead i key) (InputAt i (Input.Update key op level))
-  played p (Get i key level) = given p (GetHead i key) (InputAt i (Input.Get key level))
-  played p (Flush i) = given p (FlushHead i) (InputAt i Input.Flush)
-  played p (Gossip i to) = given p (GossipHead i to) (InputAt i (Input.GossipTo to))
+  played p (Asks i ask) = asked p i ask
   played p (Deliver from to None) = deliver p from to (p.world.links from to).next
   played p (Deliver from to (Some index)) = deliver p from to index
   played p (Lose from to) = lose p from to
   played p Round = round_of p (due_now p)
-  played p (Tick i) = given p (TickHead i) (InputAt i Input.PruneTick)
   played p (Timeout i op) = given p (TimeoutHead i op) (InputAt i (Input.Timeout op))
   played p (Remove i) = remove p i
   played p (Join place) = join p place
   played p (Restart i) = restart p i
-  played p (Install i view) = install p i view
   played p Settle = settle p
 
   -- the world and the keepers after all steps, with no lines

@@ -15,7 +15,8 @@ use Rattle.model_members.specs.Entry.{Entry, Outcome, ticked}
 use Rattle.model_members.specs.Node.{Node}
 use Rattle.model_members.specs.Node.Level.{Local, To, Majority, All}
 use Rattle.model_members.specs.Script.{ScriptStep, Playing, none_fails, opening, lines_of}
-use Rattle.model_members.specs.Script.ScriptStep.{Update, Get, Flush, Gossip, Deliver, Lose, Round, Tick, Join, Restart, Install, Settle}
+use Rattle.model_members.specs.Script.Ask.{Update, Get, Flush, Gossip, Tick, Install}
+use Rattle.model_members.specs.Script.ScriptStep.{Asks, Deliver, Lose, Round, Join, Restart, Settle}
 use Rattle.model_members.specs.Report.{line_of, steps_text}
 use Rattle.model_rows.specs.Words.{data_type, key, durable_key, failing_at, report_with, report}
 use Rattle.model_rows.specs.Rows.{counts}
@@ -24,7 +25,7 @@ use Rattle.model_rows.specs.Rows.{counts}
 abbrev pub SecondPrune : Type 0
 SecondPrune =
     report 4 (key (codes "n") GCounter ∷ [])
-    (Update 3 (codes "n") (Increment 10) Local ∷ Flush 3 ∷ Round ∷ ScriptStep.Remove 3 ∷ Install 0 1 ∷ Install 1 1 ∷ Install 2 1 ∷ Tick 0 ∷ Gossip 1 0 ∷ Gossip 2 0 ∷ Round ∷ Round ∷ Round ∷ Tick 0 ∷ ScriptStep.Remove 0 ∷ Install 1 2 ∷ Install 2 2 ∷ Tick 1 ∷ Gossip 2 1 ∷ Round ∷ Round ∷ Round ∷ Tick 1 ∷ Get 1 (codes "n") Local ∷ [])
+    (Asks 3 (Update (codes "n") (Increment 10) Local) ∷ Asks 3 Flush ∷ Round ∷ ScriptStep.Remove 3 ∷ Asks 0 (Install 1) ∷ Asks 1 (Install 1) ∷ Asks 2 (Install 1) ∷ Asks 0 Tick ∷ Asks 1 (Gossip 0) ∷ Asks 2 (Gossip 0) ∷ Round ∷ Round ∷ Round ∷ Asks 0 Tick ∷ ScriptStep.Remove 0 ∷ Asks 1 (Install 2) ∷ Asks 2 (Install 2) ∷ Asks 1 Tick ∷ Asks 2 (Gossip 1) ∷ Round ∷ Round ∷ Round ∷ Asks 1 Tick ∷ Asks 1 (Get (codes "n") Local) ∷ [])
     ≡ flat_map line_of
     (codes "1 update 3 n done"
     ∷ codes "2 flush 3 done sent 0:deltas/1/0 1:deltas/1/0 2:deltas/1/0"
@@ -66,7 +67,7 @@ SecondPrune =
 abbrev pub NackedWrite : Type 0
 NackedWrite =
     report_with (failing_at 1 (1 ∷ [])) 2 (durable_key (codes "d") GCounter ∷ [])
-    (Update 0 (codes "d") (Increment 1) (Majority 0) ∷ Deliver 0 1 None ∷ Deliver 0 1 (Some 0) ∷ Deliver 1 0 None ∷ Deliver 1 0 None ∷ Get 1 (codes "d") Local ∷ Restart 1 ∷ Get 2 (codes "d") Local ∷ [])
+    (Asks 0 (Update (codes "d") (Increment 1) (Majority 0)) ∷ Deliver 0 1 None ∷ Deliver 0 1 (Some 0) ∷ Deliver 1 0 None ∷ Deliver 1 0 None ∷ Asks 1 (Get (codes "d") Local) ∷ Restart 1 ∷ Asks 2 (Get (codes "d") Local) ∷ [])
     ≡ flat_map line_of
     (codes "1 update 0 d pending 0 sent 1:write"
     ∷ codes "2 deliver 0>1 0 write store failed sent 0:write-nack"
@@ -87,7 +88,7 @@ NackedWrite =
 abbrev pub FailingTick : Type 0
 FailingTick =
     report_with (failing_at 0 (2 ∷ [])) 2 (durable_key (codes "d") GCounter ∷ [])
-    (Update 1 (codes "d") (Increment 4) Local ∷ Flush 1 ∷ Round ∷ ScriptStep.Remove 1 ∷ Install 0 1 ∷ Tick 0 ∷ Tick 0 ∷ Restart 0 ∷ Get 2 (codes "d") Local ∷ [])
+    (Asks 1 (Update (codes "d") (Increment 4) Local) ∷ Asks 1 Flush ∷ Round ∷ ScriptStep.Remove 1 ∷ Asks 0 (Install 1) ∷ Asks 0 Tick ∷ Asks 0 Tick ∷ Restart 0 ∷ Asks 2 (Get (codes "d") Local) ∷ [])
     ≡ flat_map line_of
     (codes "1 update 1 d done"
     ∷ codes "2 flush 1 done sent 0:deltas/1/0"
@@ -107,7 +108,7 @@ FailingTick =
 abbrev pub BlockedSettle : Type 0
 BlockedSettle =
     report 2 (key (codes "n") GCounter ∷ [])
-    (Update 1 (codes "n") (Increment 9223372036854775807) Local ∷ Update 0 (codes "n") (Increment 1) Local ∷ Flush 1 ∷ Round ∷ ScriptStep.Remove 1 ∷ Settle ∷ [])
+    (Asks 1 (Update (codes "n") (Increment 9223372036854775807) Local) ∷ Asks 0 (Update (codes "n") (Increment 1) Local) ∷ Asks 1 Flush ∷ Round ∷ ScriptStep.Remove 1 ∷ Settle ∷ [])
     ≡ flat_map line_of
     (codes "1 update 1 n done"
     ∷ codes "2 update 0 n done"
@@ -124,7 +125,7 @@ BlockedSettle =
 abbrev pub EmptyRead : Type 0
 EmptyRead =
     report 3 (key (codes "n") GCounter ∷ [])
-    (Get 0 (codes "n") All ∷ Round ∷ Round ∷ Update 0 (codes "n") (Increment 1) (To 2) ∷ Update 0 (codes "n") (Increment 1) (Majority 9) ∷ Round ∷ Round ∷ Update 0 (codes "n") (Increment 1) (To 4) ∷ [])
+    (Asks 0 (Get (codes "n") All) ∷ Round ∷ Round ∷ Asks 0 (Update (codes "n") (Increment 1) (To 2)) ∷ Asks 0 (Update (codes "n") (Increment 1) (Majority 9)) ∷ Round ∷ Round ∷ Asks 0 (Update (codes "n") (Increment 1) (To 4)) ∷ [])
     ≡ flat_map line_of
     (codes "1 get 0 n pending 0 sent 1:read 2:read"
     ∷ codes "2 deliver 0>1 0 read taken sent 0:read-answer"
@@ -159,7 +160,7 @@ aged i steps p = record p { world = record p.world { nodes = with_at p.world.nod
 abbrev pub FullMember : Type 0
 FullMember =
     steps_text data_type shown_text 1 (lines_of data_type (aged 1 16383 (opening none_fails 2 (key (codes "n") GCounter ∷ [])))
-    (Update 0 (codes "n") (Increment 1) Local ∷ Flush 0 ∷ Update 0 (codes "n") (Increment 1) Local ∷ Flush 0 ∷ Round ∷ Get 1 (codes "n") Local ∷ Lose 0 1 ∷ Install 1 0 ∷ Install 1 7 ∷ Settle ∷ []))
+    (Asks 0 (Update (codes "n") (Increment 1) Local) ∷ Asks 0 Flush ∷ Asks 0 (Update (codes "n") (Increment 1) Local) ∷ Asks 0 Flush ∷ Round ∷ Asks 1 (Get (codes "n") Local) ∷ Lose 0 1 ∷ Asks 1 (Install 0) ∷ Asks 1 (Install 7) ∷ Settle ∷ []))
     ≡ flat_map line_of
     (codes "1 update 0 n done"
     ∷ codes "2 flush 0 done sent 1:deltas/1/0"
@@ -178,7 +179,7 @@ FullMember =
 abbrev pub BlockedMinus : Type 0
 BlockedMinus =
     report 2 (key (codes "c") PnCounter ∷ [])
-    (Update 1 (codes "c") (Decrement 9223372036854775807) Local ∷ Update 1 (codes "c") (Increment 3) Local ∷ Update 0 (codes "c") (Decrement 2) Local ∷ Flush 1 ∷ Round ∷ ScriptStep.Remove 1 ∷ Settle ∷ Tick 0 ∷ [])
+    (Asks 1 (Update (codes "c") (Decrement 9223372036854775807) Local) ∷ Asks 1 (Update (codes "c") (Increment 3) Local) ∷ Asks 0 (Update (codes "c") (Decrement 2) Local) ∷ Asks 1 Flush ∷ Round ∷ ScriptStep.Remove 1 ∷ Settle ∷ Asks 0 Tick ∷ [])
     ≡ flat_map line_of
     (codes "1 update 1 c done"
     ∷ codes "2 update 1 c done"
@@ -213,7 +214,7 @@ FailingClear =
 abbrev pub JoinAfterStored : Type 0
 JoinAfterStored =
     report 2 (durable_key (codes "d") GCounter ∷ [])
-    (Update 1 (codes "d") (Increment 3) Local ∷ ScriptStep.Remove 1 ∷ Join 1 ∷ Get 2 (codes "d") Local ∷ Restart 2 ∷ Get 3 (codes "d") Local ∷ [])
+    (Asks 1 (Update (codes "d") (Increment 3) Local) ∷ ScriptStep.Remove 1 ∷ Join 1 ∷ Asks 2 (Get (codes "d") Local) ∷ Restart 2 ∷ Asks 3 (Get (codes "d") Local) ∷ [])
     ≡ flat_map line_of
     (codes "1 update 1 d done"
     ∷ codes "2 remove 1 view 1"
@@ -232,7 +233,7 @@ JoinAfterStored =
 abbrev pub FailingInstall : Type 0
 FailingInstall =
     report_with (failing_at 1 (3 ∷ [])) 3 (durable_key (codes "d") GCounter ∷ [])
-    (Update 2 (codes "d") (Increment 5) Local ∷ Flush 2 ∷ Round ∷ ScriptStep.Remove 2 ∷ Install 0 1 ∷ Tick 0 ∷ Gossip 0 1 ∷ Round ∷ Round ∷ Round ∷ Install 1 1 ∷ Restart 1 ∷ [])
+    (Asks 2 (Update (codes "d") (Increment 5) Local) ∷ Asks 2 Flush ∷ Round ∷ ScriptStep.Remove 2 ∷ Asks 0 (Install 1) ∷ Asks 0 Tick ∷ Asks 0 (Gossip 1) ∷ Round ∷ Round ∷ Round ∷ Asks 1 (Install 1) ∷ Restart 1 ∷ [])
     ≡ flat_map line_of
     (codes "1 update 2 d done"
     ∷ codes "2 flush 2 done sent 0:deltas/1/0 1:deltas/1/0"
@@ -280,7 +281,7 @@ with_history i history p =
 abbrev pub SetFull : Kind → Type 0
 SetFull kind =
     steps_text data_type shown_text 1 (lines_of data_type (with_history 0 many_adds (opening none_fails 1 (key (codes "s") kind ∷ [])))
-    (Update 0 (codes "s") (Add (codes "x")) Local ∷ Update 0 (codes "s") (Add (codes "1000")) Local ∷ []))
+    (Asks 0 (Update (codes "s") (Add (codes "x")) Local) ∷ Asks 0 (Update (codes "s") (Add (codes "1000")) Local) ∷ []))
     ≡ flat_map line_of
     (codes "1 update 0 s set full"
     ∷ codes "2 update 0 s done"

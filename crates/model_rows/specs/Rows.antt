@@ -9,7 +9,8 @@ use Rattle.model_kinds.specs.declared.operation.Op.TheVariants.{Increment, Decre
 use Rattle.model_kinds.specs.declared.shown.Shown.TheVariants.{Elements}
 use Rattle.model_members.specs.Node.Level.{Local, To, Majority}
 use Rattle.model_members.specs.Script.{ScriptStep}
-use Rattle.model_members.specs.Script.ScriptStep.{Update, Get, Flush, Gossip, Deliver, Lose, Round, Tick, Timeout, Join, Restart, Install, Settle}
+use Rattle.model_members.specs.Script.Ask.{Update, Get, Flush, Gossip, Tick, Install}
+use Rattle.model_members.specs.Script.ScriptStep.{Asks, Deliver, Lose, Round, Timeout, Join, Restart, Settle}
 use Rattle.model_members.specs.Report.{line_of}
 use Rattle.model_rows.specs.Words.{key, durable_key, failing_at, report_with, report, final}
 
@@ -40,7 +41,7 @@ EmptyScript =
 abbrev pub OneMember : Type 0
 OneMember =
     report 1 (key (codes "n") GCounter ∷ [])
-    (Update 0 (codes "n") (Increment 5) Local ∷ Update 0 (codes "n") (Increment 9223372036854775807) Local ∷ Get 0 (codes "n") Local ∷ Update 1 (codes "n") (Increment 1) Local ∷ Get 0 (codes "zz") Local ∷ [])
+    (Asks 0 (Update (codes "n") (Increment 5) Local) ∷ Asks 0 (Update (codes "n") (Increment 9223372036854775807) Local) ∷ Asks 0 (Get (codes "n") Local) ∷ Asks 1 (Update (codes "n") (Increment 1) Local) ∷ Asks 0 (Get (codes "zz") Local) ∷ [])
     ≡ flat_map line_of
     (codes "1 update 0 n done"
     ∷ codes "2 update 0 n overflow 5 9223372036854775807"
@@ -55,7 +56,7 @@ OneMember =
 abbrev pub Repeats : Type 0
 Repeats =
     report 2 (key (codes "n") GCounter ∷ [])
-    (Update 0 (codes "n") (Increment 5) Local ∷ Update 1 (codes "n") (Increment 7) Local ∷ Flush 0 ∷ Deliver 0 1 None ∷ Deliver 0 1 (Some 0) ∷ Get 0 (codes "n") Local ∷ Get 1 (codes "n") Local ∷ [])
+    (Asks 0 (Update (codes "n") (Increment 5) Local) ∷ Asks 1 (Update (codes "n") (Increment 7) Local) ∷ Asks 0 Flush ∷ Deliver 0 1 None ∷ Deliver 0 1 (Some 0) ∷ Asks 0 (Get (codes "n") Local) ∷ Asks 1 (Get (codes "n") Local) ∷ [])
     ≡ flat_map line_of
     (codes "1 update 0 n done"
     ∷ codes "2 update 1 n done"
@@ -74,7 +75,7 @@ Repeats =
 abbrev pub AddWins : Type 0
 AddWins =
     report 2 (key (codes "s") OrSet ∷ [])
-    (Update 0 (codes "s") (Add (codes "x")) Local ∷ Flush 0 ∷ Deliver 0 1 None ∷ Update 0 (codes "s") (Remove (codes "x")) Local ∷ Update 1 (codes "s") (Add (codes "x")) Local ∷ Flush 0 ∷ Flush 1 ∷ Round ∷ [])
+    (Asks 0 (Update (codes "s") (Add (codes "x")) Local) ∷ Asks 0 Flush ∷ Deliver 0 1 None ∷ Asks 0 (Update (codes "s") (Remove (codes "x")) Local) ∷ Asks 1 (Update (codes "s") (Add (codes "x")) Local) ∷ Asks 0 Flush ∷ Asks 1 Flush ∷ Round ∷ [])
     ≡ flat_map line_of
     (codes "1 update 0 s done"
     ∷ codes "2 flush 0 done sent 1:deltas/1/0"
@@ -95,7 +96,7 @@ AddWins =
 abbrev pub DeltaOvertakesItsCause : Type 0
 DeltaOvertakesItsCause =
     report 3 (key (codes "s") OrSet ∷ [])
-    (Update 1 (codes "s") (Add (codes "x")) Local ∷ Flush 1 ∷ Deliver 1 0 None ∷ Update 0 (codes "s") (Remove (codes "x")) Local ∷ Flush 0 ∷ Deliver 0 2 None ∷ Deliver 2 0 None ∷ Deliver 0 2 None ∷ Get 2 (codes "s") Local ∷ Deliver 1 2 None ∷ [])
+    (Asks 1 (Update (codes "s") (Add (codes "x")) Local) ∷ Asks 1 Flush ∷ Deliver 1 0 None ∷ Asks 0 (Update (codes "s") (Remove (codes "x")) Local) ∷ Asks 0 Flush ∷ Deliver 0 2 None ∷ Deliver 2 0 None ∷ Deliver 0 2 None ∷ Asks 2 (Get (codes "s") Local) ∷ Deliver 1 2 None ∷ [])
     ≡ flat_map line_of
     (codes "1 update 1 s done"
     ∷ codes "2 flush 1 done sent 0:deltas/1/0 2:deltas/1/0"
@@ -119,7 +120,7 @@ DeltaOvertakesItsCause =
 abbrev pub PrunedCounter : Type 0
 PrunedCounter =
     report 3 (key (codes "n") GCounter ∷ [])
-    (Update 2 (codes "n") (Increment 10) Local ∷ Flush 2 ∷ Round ∷ ScriptStep.Remove 2 ∷ Install 0 1 ∷ Install 1 1 ∷ Tick 0 ∷ Tick 0 ∷ Gossip 1 0 ∷ Deliver 1 0 None ∷ Deliver 0 1 None ∷ Deliver 1 0 None ∷ Tick 0 ∷ Get 0 (codes "n") Local ∷ Get 1 (codes "n") Local ∷ [])
+    (Asks 2 (Update (codes "n") (Increment 10) Local) ∷ Asks 2 Flush ∷ Round ∷ ScriptStep.Remove 2 ∷ Asks 0 (Install 1) ∷ Asks 1 (Install 1) ∷ Asks 0 Tick ∷ Asks 0 Tick ∷ Asks 1 (Gossip 0) ∷ Deliver 1 0 None ∷ Deliver 0 1 None ∷ Deliver 1 0 None ∷ Asks 0 Tick ∷ Asks 0 (Get (codes "n") Local) ∷ Asks 1 (Get (codes "n") Local) ∷ [])
     ≡ flat_map line_of
     (codes "1 update 2 n done"
     ∷ codes "2 flush 2 done sent 0:deltas/1/0 1:deltas/1/0"
@@ -147,7 +148,7 @@ PrunedCounter =
 abbrev pub BlockedPrune : Type 0
 BlockedPrune =
     report 2 (key (codes "n") GCounter ∷ [])
-    (Update 1 (codes "n") (Increment 9223372036854775807) Local ∷ Update 0 (codes "n") (Increment 1) Local ∷ Flush 1 ∷ Round ∷ ScriptStep.Remove 1 ∷ Install 0 1 ∷ Tick 0 ∷ Tick 0 ∷ Get 0 (codes "n") Local ∷ [])
+    (Asks 1 (Update (codes "n") (Increment 9223372036854775807) Local) ∷ Asks 0 (Update (codes "n") (Increment 1) Local) ∷ Asks 1 Flush ∷ Round ∷ ScriptStep.Remove 1 ∷ Asks 0 (Install 1) ∷ Asks 0 Tick ∷ Asks 0 Tick ∷ Asks 0 (Get (codes "n") Local) ∷ [])
     ≡ flat_map line_of
     (codes "1 update 1 n done"
     ∷ codes "2 update 0 n done"
@@ -166,7 +167,7 @@ BlockedPrune =
 abbrev pub ReplacedDot : Type 0
 ReplacedDot =
     report 3 (key (codes "s") OrSet ∷ [])
-    (Update 2 (codes "s") (Add (codes "x")) Local ∷ Flush 2 ∷ Round ∷ Update 1 (codes "s") (Add (codes "x")) Local ∷ Flush 1 ∷ Deliver 1 0 None ∷ ScriptStep.Remove 2 ∷ Install 0 1 ∷ Install 1 1 ∷ Tick 0 ∷ Gossip 1 0 ∷ Round ∷ Round ∷ Update 1 (codes "s") (Remove (codes "x")) Local ∷ Round ∷ Tick 0 ∷ Flush 0 ∷ Flush 1 ∷ Round ∷ [])
+    (Asks 2 (Update (codes "s") (Add (codes "x")) Local) ∷ Asks 2 Flush ∷ Round ∷ Asks 1 (Update (codes "s") (Add (codes "x")) Local) ∷ Asks 1 Flush ∷ Deliver 1 0 None ∷ ScriptStep.Remove 2 ∷ Asks 0 (Install 1) ∷ Asks 1 (Install 1) ∷ Asks 0 Tick ∷ Asks 1 (Gossip 0) ∷ Round ∷ Round ∷ Asks 1 (Update (codes "s") (Remove (codes "x")) Local) ∷ Round ∷ Asks 0 Tick ∷ Asks 0 Flush ∷ Asks 1 Flush ∷ Round ∷ [])
     ≡ flat_map line_of
     (codes "1 update 2 s done"
     ∷ codes "2 flush 2 done sent 0:deltas/1/0 1:deltas/1/0"
@@ -199,7 +200,7 @@ ReplacedDot =
 abbrev pub OwnerDeparts : Type 0
 OwnerDeparts =
     report 4 (key (codes "n") GCounter ∷ [])
-    (Update 3 (codes "n") (Increment 10) Local ∷ Flush 3 ∷ Round ∷ ScriptStep.Remove 3 ∷ Install 0 1 ∷ Install 1 1 ∷ Install 2 1 ∷ Tick 0 ∷ Gossip 1 0 ∷ Gossip 2 0 ∷ Round ∷ Round ∷ Round ∷ Tick 0 ∷ Flush 0 ∷ Deliver 0 2 None ∷ ScriptStep.Remove 0 ∷ Install 1 2 ∷ Install 2 2 ∷ Deliver 0 1 None ∷ Tick 1 ∷ Gossip 2 1 ∷ Round ∷ Round ∷ Round ∷ Tick 1 ∷ Get 1 (codes "n") Local ∷ [])
+    (Asks 3 (Update (codes "n") (Increment 10) Local) ∷ Asks 3 Flush ∷ Round ∷ ScriptStep.Remove 3 ∷ Asks 0 (Install 1) ∷ Asks 1 (Install 1) ∷ Asks 2 (Install 1) ∷ Asks 0 Tick ∷ Asks 1 (Gossip 0) ∷ Asks 2 (Gossip 0) ∷ Round ∷ Round ∷ Round ∷ Asks 0 Tick ∷ Asks 0 Flush ∷ Deliver 0 2 None ∷ ScriptStep.Remove 0 ∷ Asks 1 (Install 2) ∷ Asks 2 (Install 2) ∷ Deliver 0 1 None ∷ Asks 1 Tick ∷ Asks 2 (Gossip 1) ∷ Round ∷ Round ∷ Round ∷ Asks 1 Tick ∷ Asks 1 (Get (codes "n") Local) ∷ [])
     ≡ flat_map line_of
     (codes "1 update 3 n done"
     ∷ codes "2 flush 3 done sent 0:deltas/1/0 1:deltas/1/0 2:deltas/1/0"
@@ -243,7 +244,7 @@ OwnerDeparts =
 abbrev pub LateMessages : Type 0
 LateMessages =
     report 3 (key (codes "n") GCounter ∷ [])
-    (Update 2 (codes "n") (Increment 4) Local ∷ Flush 2 ∷ ScriptStep.Remove 2 ∷ Install 0 1 ∷ Deliver 2 0 None ∷ Deliver 2 1 None ∷ Get 0 (codes "n") Local ∷ Get 1 (codes "n") Local ∷ [])
+    (Asks 2 (Update (codes "n") (Increment 4) Local) ∷ Asks 2 Flush ∷ ScriptStep.Remove 2 ∷ Asks 0 (Install 1) ∷ Deliver 2 0 None ∷ Deliver 2 1 None ∷ Asks 0 (Get (codes "n") Local) ∷ Asks 1 (Get (codes "n") Local) ∷ [])
     ≡ flat_map line_of
     (codes "1 update 2 n done"
     ∷ codes "2 flush 2 done sent 0:deltas/1/0 1:deltas/1/0"
@@ -263,7 +264,7 @@ LateMessages =
 abbrev pub RestartedMember : Type 0
 RestartedMember =
     report 2 (durable_key (codes "d") GCounter ∷ key (codes "p") GCounter ∷ [])
-    (Update 1 (codes "d") (Increment 3) Local ∷ Update 1 (codes "p") (Increment 4) Local ∷ Restart 1 ∷ Get 2 (codes "d") Local ∷ Get 2 (codes "p") Local ∷ Get 1 (codes "d") Local ∷ Settle ∷ [])
+    (Asks 1 (Update (codes "d") (Increment 3) Local) ∷ Asks 1 (Update (codes "p") (Increment 4) Local) ∷ Restart 1 ∷ Asks 2 (Get (codes "d") Local) ∷ Asks 2 (Get (codes "p") Local) ∷ Asks 1 (Get (codes "d") Local) ∷ Settle ∷ [])
     ≡ flat_map line_of
     (codes "1 update 1 d done"
     ∷ codes "2 update 1 p done"
@@ -284,7 +285,7 @@ RestartedMember =
 abbrev pub MajorityWriteAndRead : Type 0
 MajorityWriteAndRead =
     report 5 (key (codes "n") GCounter ∷ [])
-    (Update 0 (codes "n") (Increment 6) (Majority 0) ∷ Deliver 0 1 None ∷ Deliver 1 0 None ∷ Deliver 1 0 (Some 0) ∷ Deliver 0 2 None ∷ Deliver 2 0 None ∷ Get 4 (codes "n") (Majority 0) ∷ Deliver 4 1 None ∷ Deliver 4 3 None ∷ Deliver 1 4 None ∷ Get 3 (codes "n") Local ∷ Deliver 3 4 None ∷ [])
+    (Asks 0 (Update (codes "n") (Increment 6) (Majority 0)) ∷ Deliver 0 1 None ∷ Deliver 1 0 None ∷ Deliver 1 0 (Some 0) ∷ Deliver 0 2 None ∷ Deliver 2 0 None ∷ Asks 4 (Get (codes "n") (Majority 0)) ∷ Deliver 4 1 None ∷ Deliver 4 3 None ∷ Deliver 1 4 None ∷ Asks 3 (Get (codes "n") Local) ∷ Deliver 3 4 None ∷ [])
     ≡ flat_map line_of
     (codes "1 update 0 n pending 0 sent 1:write 2:write 3:write 4:write"
     ∷ codes "2 deliver 0>1 0 write taken sent 0:write-ack"
@@ -314,7 +315,7 @@ MajorityWriteAndRead =
 abbrev pub TimedOutWrite : Type 0
 TimedOutWrite =
     report 3 (key (codes "n") GCounter ∷ [])
-    (Update 0 (codes "n") (Increment 2) (Majority 0) ∷ Lose 0 1 ∷ Lose 0 2 ∷ Timeout 0 0 ∷ Get 0 (codes "n") Local ∷ Timeout 0 0 ∷ Settle ∷ [])
+    (Asks 0 (Update (codes "n") (Increment 2) (Majority 0)) ∷ Lose 0 1 ∷ Lose 0 2 ∷ Timeout 0 0 ∷ Asks 0 (Get (codes "n") Local) ∷ Timeout 0 0 ∷ Settle ∷ [])
     ≡ flat_map line_of
     (codes "1 update 0 n pending 0 sent 1:write 2:write"
     ∷ codes "2 lose 0>1 0 lost"
@@ -335,7 +336,7 @@ TimedOutWrite =
 abbrev pub RegisterWrites : Type 0
 RegisterWrites =
     report 2 (key (codes "r") LwwRegister ∷ [])
-    (Update 0 (codes "r") (Assign (codes "a") 100) Local ∷ Update 1 (codes "r") (Assign (codes "b") 100) Local ∷ Settle ∷ Get 1 (codes "r") Local ∷ Update 1 (codes "r") (Assign (codes "c") 50) Local ∷ Flush 1 ∷ Round ∷ Get 0 (codes "r") Local ∷ Update 0 (codes "r") (Assign (codes "d") 9223372036854775807) Local ∷ Update 0 (codes "r") (Assign (codes "e") 5) Local ∷ [])
+    (Asks 0 (Update (codes "r") (Assign (codes "a") 100) Local) ∷ Asks 1 (Update (codes "r") (Assign (codes "b") 100) Local) ∷ Settle ∷ Asks 1 (Get (codes "r") Local) ∷ Asks 1 (Update (codes "r") (Assign (codes "c") 50) Local) ∷ Asks 1 Flush ∷ Round ∷ Asks 0 (Get (codes "r") Local) ∷ Asks 0 (Update (codes "r") (Assign (codes "d") 9223372036854775807) Local) ∷ Asks 0 (Update (codes "r") (Assign (codes "e") 5) Local) ∷ [])
     ≡ flat_map line_of
     (codes "1 update 0 r done"
     ∷ codes "2 update 1 r done"
@@ -357,7 +358,7 @@ RegisterWrites =
 abbrev pub Refusals : Type 0
 Refusals =
     report 2 (durable_key (codes "d") GCounter ∷ key (codes "n") GCounter ∷ [])
-    (Update 7 (codes "n") (Increment 1) Local ∷ Update 0 (codes "zz") (Increment 1) Local ∷ Update 0 (codes "n") (Add (codes "x")) Local ∷ Get 0 (codes "n") (To 3) ∷ Tick 1 ∷ Deliver 0 1 None ∷ Gossip 0 0 ∷ Install 0 0 ∷ Install 0 3 ∷ Join 1 ∷ ScriptStep.Remove 1 ∷ ScriptStep.Remove 0 ∷ Join 1 ∷ Timeout 0 0 ∷ Get 0 (codes "n") Local ∷ [])
+    (Asks 7 (Update (codes "n") (Increment 1) Local) ∷ Asks 0 (Update (codes "zz") (Increment 1) Local) ∷ Asks 0 (Update (codes "n") (Add (codes "x")) Local) ∷ Asks 0 (Get (codes "n") (To 3)) ∷ Asks 1 Tick ∷ Deliver 0 1 None ∷ Asks 0 (Gossip 0) ∷ Asks 0 (Install 0) ∷ Asks 0 (Install 3) ∷ Join 1 ∷ ScriptStep.Remove 1 ∷ ScriptStep.Remove 0 ∷ Join 1 ∷ Timeout 0 0 ∷ Asks 0 (Get (codes "n") Local) ∷ [])
     ≡ flat_map line_of
     (codes "1 update 7 n gone"
     ∷ codes "2 update 0 zz unknown key"
@@ -386,7 +387,7 @@ Refusals =
 abbrev pub OtherKinds : Type 0
 OtherKinds =
     report 1 (key (codes "c") PnCounter ∷ key (codes "f") Flag ∷ key (codes "g") GSet ∷ [])
-    (Update 0 (codes "c") (Increment 3) Local ∷ Update 0 (codes "c") (Decrement 5) Local ∷ Get 0 (codes "c") Local ∷ Update 0 (codes "f") Enable Local ∷ Get 0 (codes "f") Local ∷ Update 0 (codes "g") (Add (codes "b")) Local ∷ Update 0 (codes "g") (Add (codes "a")) Local ∷ Get 0 (codes "g") Local ∷ Update 0 (codes "c") (Decrement 9223372036854775807) Local ∷ [])
+    (Asks 0 (Update (codes "c") (Increment 3) Local) ∷ Asks 0 (Update (codes "c") (Decrement 5) Local) ∷ Asks 0 (Get (codes "c") Local) ∷ Asks 0 (Update (codes "f") Enable Local) ∷ Asks 0 (Get (codes "f") Local) ∷ Asks 0 (Update (codes "g") (Add (codes "b")) Local) ∷ Asks 0 (Update (codes "g") (Add (codes "a")) Local) ∷ Asks 0 (Get (codes "g") Local) ∷ Asks 0 (Update (codes "c") (Decrement 9223372036854775807) Local) ∷ [])
     ≡ flat_map line_of
     (codes "1 update 0 c done"
     ∷ codes "2 update 0 c done"
@@ -407,7 +408,7 @@ OtherKinds =
 abbrev pub FiftyDeltas : Type 0
 FiftyDeltas =
     report 2 (key (codes "n") GCounter ∷ [])
-    (Update 0 (codes "n") (Increment 1) Local ∷ Update 0 (codes "n") (Increment 1) Local ∷ Update 0 (codes "n") (Increment 1) Local ∷ Update 0 (codes "n") (Increment 1) Local ∷ Update 0 (codes "n") (Increment 1) Local ∷ Update 0 (codes "n") (Increment 1) Local ∷ Update 0 (codes "n") (Increment 1) Local ∷ Update 0 (codes "n") (Increment 1) Local ∷ Update 0 (codes "n") (Increment 1) Local ∷ Update 0 (codes "n") (Increment 1) Local ∷ Update 0 (codes "n") (Increment 1) Local ∷ Update 0 (codes "n") (Increment 1) Local ∷ Update 0 (codes "n") (Increment 1) Local ∷ Update 0 (codes "n") (Increment 1) Local ∷ Update 0 (codes "n") (Increment 1) Local ∷ Update 0 (codes "n") (Increment 1) Local ∷ Update 0 (codes "n") (Increment 1) Local ∷ Update 0 (codes "n") (Increment 1) Local ∷ Update 0 (codes "n") (Increment 1) Local ∷ Update 0 (codes "n") (Increment 1) Local ∷ Update 0 (codes "n") (Increment 1) Local ∷ Update 0 (codes "n") (Increment 1) Local ∷ Update 0 (codes "n") (Increment 1) Local ∷ Update 0 (codes "n") (Increment 1) Local ∷ Update 0 (codes "n") (Increment 1) Local ∷ Update 0 (codes "n") (Increment 1) Local ∷ Update 0 (codes "n") (Increment 1) Local ∷ Update 0 (codes "n") (Increment 1) Local ∷ Update 0 (codes "n") (Increment 1) Local ∷ Update 0 (codes "n") (Increment 1) Local ∷ Update 0 (codes "n") (Increment 1) Local ∷ Update 0 (codes "n") (Increment 1) Local ∷ Update 0 (codes "n") (Increment 1) Local ∷ Update 0 (codes "n") (Increment 1) Local ∷ Update 0 (codes "n") (Increment 1) Local ∷ Update 0 (codes "n") (Increment 1) Local ∷ Update 0 (codes "n") (Increment 1) Local ∷ Update 0 (codes "n") (Increment 1) Local ∷ Update 0 (codes "n") (Increment 1) Local ∷ Update 0 (codes "n") (Increment 1) Local ∷ Update 0 (codes "n") (Increment 1) Local ∷ Update 0 (codes "n") (Increment 1) Local ∷ Update 0 (codes "n") (Increment 1) Local ∷ Update 0 (codes "n") (Increment 1) Local ∷ Update 0 (codes "n") (Increment 1) Local ∷ Update 0 (codes "n") (Increment 1) Local ∷ Update 0 (codes "n") (Increment 1) Local ∷ Update 0 (codes "n") (Increment 1) Local ∷ Update 0 (codes "n") (Increment 1) Local ∷ Update 0 (codes "n") (Increment 1) Local ∷ Flush 0 ∷ [])
+    (Asks 0 (Update (codes "n") (Increment 1) Local) ∷ Asks 0 (Update (codes "n") (Increment 1) Local) ∷ Asks 0 (Update (codes "n") (Increment 1) Local) ∷ Asks 0 (Update (codes "n") (Increment 1) Local) ∷ Asks 0 (Update (codes "n") (Increment 1) Local) ∷ Asks 0 (Update (codes "n") (Increment 1) Local) ∷ Asks 0 (Update (codes "n") (Increment 1) Local) ∷ Asks 0 (Update (codes "n") (Increment 1) Local) ∷ Asks 0 (Update (codes "n") (Increment 1) Local) ∷ Asks 0 (Update (codes "n") (Increment 1) Local) ∷ Asks 0 (Update (codes "n") (Increment 1) Local) ∷ Asks 0 (Update (codes "n") (Increment 1) Local) ∷ Asks 0 (Update (codes "n") (Increment 1) Local) ∷ Asks 0 (Update (codes "n") (Increment 1) Local) ∷ Asks 0 (Update (codes "n") (Increment 1) Local) ∷ Asks 0 (Update (codes "n") (Increment 1) Local) ∷ Asks 0 (Update (codes "n") (Increment 1) Local) ∷ Asks 0 (Update (codes "n") (Increment 1) Local) ∷ Asks 0 (Update (codes "n") (Increment 1) Local) ∷ Asks 0 (Update (codes "n") (Increment 1) Local) ∷ Asks 0 (Update (codes "n") (Increment 1) Local) ∷ Asks 0 (Update (codes "n") (Increment 1) Local) ∷ Asks 0 (Update (codes "n") (Increment 1) Local) ∷ Asks 0 (Update (codes "n") (Increment 1) Local) ∷ Asks 0 (Update (codes "n") (Increment 1) Local) ∷ Asks 0 (Update (codes "n") (Increment 1) Local) ∷ Asks 0 (Update (codes "n") (Increment 1) Local) ∷ Asks 0 (Update (codes "n") (Increment 1) Local) ∷ Asks 0 (Update (codes "n") (Increment 1) Local) ∷ Asks 0 (Update (codes "n") (Increment 1) Local) ∷ Asks 0 (Update (codes "n") (Increment 1) Local) ∷ Asks 0 (Update (codes "n") (Increment 1) Local) ∷ Asks 0 (Update (codes "n") (Increment 1) Local) ∷ Asks 0 (Update (codes "n") (Increment 1) Local) ∷ Asks 0 (Update (codes "n") (Increment 1) Local) ∷ Asks 0 (Update (codes "n") (Increment 1) Local) ∷ Asks 0 (Update (codes "n") (Increment 1) Local) ∷ Asks 0 (Update (codes "n") (Increment 1) Local) ∷ Asks 0 (Update (codes "n") (Increment 1) Local) ∷ Asks 0 (Update (codes "n") (Increment 1) Local) ∷ Asks 0 (Update (codes "n") (Increment 1) Local) ∷ Asks 0 (Update (codes "n") (Increment 1) Local) ∷ Asks 0 (Update (codes "n") (Increment 1) Local) ∷ Asks 0 (Update (codes "n") (Increment 1) Local) ∷ Asks 0 (Update (codes "n") (Increment 1) Local) ∷ Asks 0 (Update (codes "n") (Increment 1) Local) ∷ Asks 0 (Update (codes "n") (Increment 1) Local) ∷ Asks 0 (Update (codes "n") (Increment 1) Local) ∷ Asks 0 (Update (codes "n") (Increment 1) Local) ∷ Asks 0 (Update (codes "n") (Increment 1) Local) ∷ Asks 0 Flush ∷ [])
     ≡ flat_map line_of
     (codes "1 update 0 n done"
     ∷ codes "2 update 0 n done"
@@ -470,7 +471,7 @@ FiftyDeltas =
 abbrev pub FiftyOneDeltas : Type 0
 FiftyOneDeltas =
     report 2 (key (codes "n") GCounter ∷ [])
-    (Update 0 (codes "n") (Increment 1) Local ∷ Update 0 (codes "n") (Increment 1) Local ∷ Update 0 (codes "n") (Increment 1) Local ∷ Update 0 (codes "n") (Increment 1) Local ∷ Update 0 (codes "n") (Increment 1) Local ∷ Update 0 (codes "n") (Increment 1) Local ∷ Update 0 (codes "n") (Increment 1) Local ∷ Update 0 (codes "n") (Increment 1) Local ∷ Update 0 (codes "n") (Increment 1) Local ∷ Update 0 (codes "n") (Increment 1) Local ∷ Update 0 (codes "n") (Increment 1) Local ∷ Update 0 (codes "n") (Increment 1) Local ∷ Update 0 (codes "n") (Increment 1) Local ∷ Update 0 (codes "n") (Increment 1) Local ∷ Update 0 (codes "n") (Increment 1) Local ∷ Update 0 (codes "n") (Increment 1) Local ∷ Update 0 (codes "n") (Increment 1) Local ∷ Update 0 (codes "n") (Increment 1) Local ∷ Update 0 (codes "n") (Increment 1) Local ∷ Update 0 (codes "n") (Increment 1) Local ∷ Update 0 (codes "n") (Increment 1) Local ∷ Update 0 (codes "n") (Increment 1) Local ∷ Update 0 (codes "n") (Increment 1) Local ∷ Update 0 (codes "n") (Increment 1) Local ∷ Update 0 (codes "n") (Increment 1) Local ∷ Update 0 (codes "n") (Increment 1) Local ∷ Update 0 (codes "n") (Increment 1) Local ∷ Update 0 (codes "n") (Increment 1) Local ∷ Update 0 (codes "n") (Increment 1) Local ∷ Update 0 (codes "n") (Increment 1) Local ∷ Update 0 (codes "n") (Increment 1) Local ∷ Update 0 (codes "n") (Increment 1) Local ∷ Update 0 (codes "n") (Increment 1) Local ∷ Update 0 (codes "n") (Increment 1) Local ∷ Update 0 (codes "n") (Increment 1) Local ∷ Update 0 (codes "n") (Increment 1) Local ∷ Update 0 (codes "n") (Increment 1) Local ∷ Update 0 (codes "n") (Increment 1) Local ∷ Update 0 (codes "n") (Increment 1) Local ∷ Update 0 (codes "n") (Increment 1) Local ∷ Update 0 (codes "n") (Increment 1) Local ∷ Update 0 (codes "n") (Increment 1) Local ∷ Update 0 (codes "n") (Increment 1) Local ∷ Update 0 (codes "n") (Increment 1) Local ∷ Update 0 (codes "n") (Increment 1) Local ∷ Update 0 (codes "n") (Increment 1) Local ∷ Update 0 (codes "n") (Increment 1) Local ∷ Update 0 (codes "n") (Increment 1) Local ∷ Update 0 (codes "n") (Increment 1) Local ∷ Update 0 (codes "n") (Increment 1) Local ∷ Update 0 (codes "n") (Increment 1) Local ∷ Flush 0 ∷ [])
+    (Asks 0 (Update (codes "n") (Increment 1) Local) ∷ Asks 0 (Update (codes "n") (Increment 1) Local) ∷ Asks 0 (Update (codes "n") (Increment 1) Local) ∷ Asks 0 (Update (codes "n") (Increment 1) Local) ∷ Asks 0 (Update (codes "n") (Increment 1) Local) ∷ Asks 0 (Update (codes "n") (Increment 1) Local) ∷ Asks 0 (Update (codes "n") (Increment 1) Local) ∷ Asks 0 (Update (codes "n") (Increment 1) Local) ∷ Asks 0 (Update (codes "n") (Increment 1) Local) ∷ Asks 0 (Update (codes "n") (Increment 1) Local) ∷ Asks 0 (Update (codes "n") (Increment 1) Local) ∷ Asks 0 (Update (codes "n") (Increment 1) Local) ∷ Asks 0 (Update (codes "n") (Increment 1) Local) ∷ Asks 0 (Update (codes "n") (Increment 1) Local) ∷ Asks 0 (Update (codes "n") (Increment 1) Local) ∷ Asks 0 (Update (codes "n") (Increment 1) Local) ∷ Asks 0 (Update (codes "n") (Increment 1) Local) ∷ Asks 0 (Update (codes "n") (Increment 1) Local) ∷ Asks 0 (Update (codes "n") (Increment 1) Local) ∷ Asks 0 (Update (codes "n") (Increment 1) Local) ∷ Asks 0 (Update (codes "n") (Increment 1) Local) ∷ Asks 0 (Update (codes "n") (Increment 1) Local) ∷ Asks 0 (Update (codes "n") (Increment 1) Local) ∷ Asks 0 (Update (codes "n") (Increment 1) Local) ∷ Asks 0 (Update (codes "n") (Increment 1) Local) ∷ Asks 0 (Update (codes "n") (Increment 1) Local) ∷ Asks 0 (Update (codes "n") (Increment 1) Local) ∷ Asks 0 (Update (codes "n") (Increment 1) Local) ∷ Asks 0 (Update (codes "n") (Increment 1) Local) ∷ Asks 0 (Update (codes "n") (Increment 1) Local) ∷ Asks 0 (Update (codes "n") (Increment 1) Local) ∷ Asks 0 (Update (codes "n") (Increment 1) Local) ∷ Asks 0 (Update (codes "n") (Increment 1) Local) ∷ Asks 0 (Update (codes "n") (Increment 1) Local) ∷ Asks 0 (Update (codes "n") (Increment 1) Local) ∷ Asks 0 (Update (codes "n") (Increment 1) Local) ∷ Asks 0 (Update (codes "n") (Increment 1) Local) ∷ Asks 0 (Update (codes "n") (Increment 1) Local) ∷ Asks 0 (Update (codes "n") (Increment 1) Local) ∷ Asks 0 (Update (codes "n") (Increment 1) Local) ∷ Asks 0 (Update (codes "n") (Increment 1) Local) ∷ Asks 0 (Update (codes "n") (Increment 1) Local) ∷ Asks 0 (Update (codes "n") (Increment 1) Local) ∷ Asks 0 (Update (codes "n") (Increment 1) Local) ∷ Asks 0 (Update (codes "n") (Increment 1) Local) ∷ Asks 0 (Update (codes "n") (Increment 1) Local) ∷ Asks 0 (Update (codes "n") (Increment 1) Local) ∷ Asks 0 (Update (codes "n") (Increment 1) Local) ∷ Asks 0 (Update (codes "n") (Increment 1) Local) ∷ Asks 0 (Update (codes "n") (Increment 1) Local) ∷ Asks 0 (Update (codes "n") (Increment 1) Local) ∷ Asks 0 Flush ∷ [])
     ≡ flat_map line_of
     (codes "1 update 0 n done"
     ∷ codes "2 update 0 n done"
@@ -534,7 +535,7 @@ FiftyOneDeltas =
 abbrev pub Carts : Type 0
 Carts =
     report 5 (durable_key (codes "cart-ann") OrSet ∷ durable_key (codes "cart-bob") OrSet ∷ durable_key (codes "cart-eve") OrSet ∷ key (codes "hits") GCounter ∷ [])
-    (Update 0 (codes "cart-ann") (Add (codes "milk")) Local ∷ Update 1 (codes "cart-ann") (Add (codes "bread")) Local ∷ Update 2 (codes "cart-bob") (Add (codes "tea")) Local ∷ Update 3 (codes "cart-eve") (Add (codes "rice")) Local ∷ Flush 0 ∷ Lose 0 3 ∷ Lose 0 4 ∷ Flush 3 ∷ Round ∷ Update 1 (codes "cart-ann") (Remove (codes "milk")) Local ∷ Restart 4 ∷ ScriptStep.Remove 3 ∷ Settle ∷ [])
+    (Asks 0 (Update (codes "cart-ann") (Add (codes "milk")) Local) ∷ Asks 1 (Update (codes "cart-ann") (Add (codes "bread")) Local) ∷ Asks 2 (Update (codes "cart-bob") (Add (codes "tea")) Local) ∷ Asks 3 (Update (codes "cart-eve") (Add (codes "rice")) Local) ∷ Asks 0 Flush ∷ Lose 0 3 ∷ Lose 0 4 ∷ Asks 3 Flush ∷ Round ∷ Asks 1 (Update (codes "cart-ann") (Remove (codes "milk")) Local) ∷ Restart 4 ∷ ScriptStep.Remove 3 ∷ Settle ∷ [])
     ≡ flat_map line_of
     (codes "1 update 0 cart-ann done"
     ∷ codes "2 update 1 cart-ann done"
@@ -580,7 +581,7 @@ Carts =
 abbrev pub FailingStore : Type 0
 FailingStore =
     report_with (failing_at 1 (2 ∷ [])) 2 (durable_key (codes "d") GCounter ∷ [])
-    (Update 1 (codes "d") (Increment 1) Local ∷ Update 1 (codes "d") (Increment 2) Local ∷ Get 1 (codes "d") Local ∷ Restart 1 ∷ Get 2 (codes "d") Local ∷ [])
+    (Asks 1 (Update (codes "d") (Increment 1) Local) ∷ Asks 1 (Update (codes "d") (Increment 2) Local) ∷ Asks 1 (Get (codes "d") Local) ∷ Restart 1 ∷ Asks 2 (Get (codes "d") Local) ∷ [])
     ≡ flat_map line_of
     (codes "1 update 1 d done"
     ∷ codes "2 update 1 d store failed"
@@ -597,7 +598,7 @@ FailingStore =
 abbrev pub FailingLoad : Type 0
 FailingLoad =
     report_with (failing_at 1 (3 ∷ [])) 2 (durable_key (codes "d") GCounter ∷ [])
-    (Update 1 (codes "d") (Increment 1) Local ∷ Update 1 (codes "d") (Increment 2) Local ∷ Get 1 (codes "d") Local ∷ Restart 1 ∷ Get 2 (codes "d") Local ∷ [])
+    (Asks 1 (Update (codes "d") (Increment 1) Local) ∷ Asks 1 (Update (codes "d") (Increment 2) Local) ∷ Asks 1 (Get (codes "d") Local) ∷ Restart 1 ∷ Asks 2 (Get (codes "d") Local) ∷ [])
     ≡ flat_map line_of
     (codes "1 update 1 d done"
     ∷ codes "2 update 1 d done"
@@ -614,7 +615,7 @@ FailingLoad =
 abbrev pub GeneratedScript : Type 0
 GeneratedScript =
     final 5 (key (codes "bal") PnCounter ∷ durable_key (codes "cart") OrSet ∷ key (codes "hits") GCounter ∷ key (codes "note") LwwRegister ∷ [])
-    (Update 1 (codes "hits") (Increment 1) Local ∷ Update 2 (codes "cart") (Add (codes "item-2")) Local ∷ Update 3 (codes "bal") (Decrement 3) Local ∷ Flush 4 ∷ Update 0 (codes "cart") (Remove (codes "item-2")) Local ∷ Gossip 1 2 ∷ Round ∷ Update 3 (codes "note") (Assign (codes "n8") 8) Local ∷ ScriptStep.Remove 4 ∷ Settle ∷ [])
+    (Asks 1 (Update (codes "hits") (Increment 1) Local) ∷ Asks 2 (Update (codes "cart") (Add (codes "item-2")) Local) ∷ Asks 3 (Update (codes "bal") (Decrement 3) Local) ∷ Asks 4 Flush ∷ Asks 0 (Update (codes "cart") (Remove (codes "item-2")) Local) ∷ Asks 1 (Gossip 2) ∷ Round ∷ Asks 3 (Update (codes "note") (Assign (codes "n8") 8) Local) ∷ ScriptStep.Remove 4 ∷ Settle ∷ [])
     ≡ flat_map line_of
     (codes "final view 1"
     ∷ codes "member 0 place 0 view 1"
@@ -642,7 +643,7 @@ GeneratedScript =
 abbrev pub TwoMembers : Type 0
 TwoMembers =
     report 2 (key (codes "n") GCounter ∷ [])
-    (Update 0 (codes "n") (Increment 5) Local ∷ Update 1 (codes "n") (Increment 7) Local ∷ Flush 0 ∷ Deliver 0 1 None ∷ Deliver 0 1 (Some 0) ∷ Lose 0 1 ∷ Get 1 (codes "n") Local ∷ [])
+    (Asks 0 (Update (codes "n") (Increment 5) Local) ∷ Asks 1 (Update (codes "n") (Increment 7) Local) ∷ Asks 0 Flush ∷ Deliver 0 1 None ∷ Deliver 0 1 (Some 0) ∷ Lose 0 1 ∷ Asks 1 (Get (codes "n") Local) ∷ [])
     ≡ flat_map line_of
     (codes "1 update 0 n done"
     ∷ codes "2 update 1 n done"
@@ -661,7 +662,7 @@ TwoMembers =
 abbrev pub FlushedRegister : Type 0
 FlushedRegister =
     report 2 (key (codes "r") LwwRegister ∷ [])
-    (Update 0 (codes "r") (Assign (codes "a") 100) Local ∷ Update 1 (codes "r") (Assign (codes "b") 100) Local ∷ Flush 0 ∷ Flush 1 ∷ Round ∷ Get 1 (codes "r") Local ∷ [])
+    (Asks 0 (Update (codes "r") (Assign (codes "a") 100) Local) ∷ Asks 1 (Update (codes "r") (Assign (codes "b") 100) Local) ∷ Asks 0 Flush ∷ Asks 1 Flush ∷ Round ∷ Asks 1 (Get (codes "r") Local) ∷ [])
     ≡ flat_map line_of
     (codes "1 update 0 r done"
     ∷ codes "2 update 1 r done"
@@ -680,7 +681,7 @@ FlushedRegister =
 abbrev pub GossipedCounter : Type 0
 GossipedCounter =
     report 2 (key (codes "n") GCounter ∷ [])
-    (Update 0 (codes "n") (Increment 5) Local ∷ Gossip 1 0 ∷ Round ∷ Round ∷ Gossip 1 0 ∷ Round ∷ Get 1 (codes "n") Local ∷ [])
+    (Asks 0 (Update (codes "n") (Increment 5) Local) ∷ Asks 1 (Gossip 0) ∷ Round ∷ Round ∷ Asks 1 (Gossip 0) ∷ Round ∷ Asks 1 (Get (codes "n") Local) ∷ [])
     ≡ flat_map line_of
     (codes "1 update 0 n done"
     ∷ codes "2 gossip 1 0 done sent 0:status/0"
@@ -699,7 +700,7 @@ GossipedCounter =
 abbrev pub ThreeMembers : Type 0
 ThreeMembers =
     report 3 (key (codes "n") GCounter ∷ [])
-    (Update 0 (codes "n") (Increment 1) Local ∷ Update 1 (codes "n") (Increment 2) Local ∷ Flush 0 ∷ Flush 1 ∷ Lose 0 2 ∷ Round ∷ Get 2 (codes "n") Local ∷ Round ∷ [])
+    (Asks 0 (Update (codes "n") (Increment 1) Local) ∷ Asks 1 (Update (codes "n") (Increment 2) Local) ∷ Asks 0 Flush ∷ Asks 1 Flush ∷ Lose 0 2 ∷ Round ∷ Asks 2 (Get (codes "n") Local) ∷ Round ∷ [])
     ≡ flat_map line_of
     (codes "1 update 0 n done"
     ∷ codes "2 update 1 n done"

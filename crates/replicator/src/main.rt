@@ -1,4 +1,5 @@
-//! Runs the script on standard input, by the word `plain`, and prints its report.
+//! Runs the script on standard input and prints its report: by the word `plain` a script without clients, and by `run` one that
+//! may have them. `gen N` prints a generated script, and `sum N` the end of the report of its run.
 #![tactic(auto)]
 
 use std::process::ExitCode;

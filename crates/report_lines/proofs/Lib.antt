@@ -10,9 +10,6 @@ pub mod Orders
 pub mod Runs
 pub mod SameAnswers
 pub mod SectionEnds
-pub mod SectionRuns
-pub mod SectionStages
 pub mod Stages
-pub mod StepTexts
 pub mod Told
 pub mod Unfailing

@@ -3,18 +3,16 @@ use Rattle.std.proofs.Common.{◌≡◌, ℕ, ◌+◌, List, [], ◌∷◌, map,
 use Rattle.std.specs.Prelude.{if◌then◌else◌, nat_lt, length, is_some, not, ◌==◌, slice_get, fold, filter}
 use Rattle.std.specs.List.{range_with_len}
 use Rattle.model_history.specs.Table.{identity_limit}
-use Rattle.model_members.specs.View.{View, is_member, is_taken, place_of, leader, identities_of}
+use Rattle.model_members.specs.View.{is_member, is_taken, place_of, leader, identities_of}
 use Rattle.model_members.specs.DataType.{Replication}
 use Rattle.model_members.specs.Message.{Message}
 use Rattle.model_members.specs.Node.{Fate, Input}
 use Rattle.model_members.specs.Node.Fate.{NoStore, Stored, StoreFailed}
 use Rattle.model_members.specs.Step.{is_full}
 use Rattle.model_members.specs.World.{Event, Turn, turn_of, output_of, message_at, stores, views_of}
-use Rattle.model_members.specs.Script.{KeeperAnswers, Playing, ScriptStep, Head, Answer, Due, did, told, with_call, next_answer, output_lines, take_turn, given, deliver, deliver_due, due_now, round_of, lose, remove, called, join, restart, install, last_number, has_met_full, posted, unless_full, deliver_last, exchange, sweep, tick, is_older, install_last, settle, played, played_all}
+use Rattle.model_members.specs.Script.{KeeperAnswers, Playing, Ask, ScriptStep, Head, Answer, Due, did, told, with_call, next_answer, output_lines, take_turn, given, deliver, deliver_due, due_now, round_of, lose, remove, called, join, restart, input_of, asked_by, last_number, has_met_full, posted, unless_full, deliver_last, exchange, sweep, tick, is_older, install_last, settle, played}
 use Rattle.theorem_runs.proofs.Keeping.{if_holds, fold_all}
 use Rattle.model_kinds.specs.declared.operation.Op.{Op}
-use Rattle.script_reading.specs.declared.script.Step.{Step}
-use Rattle.world_members.specs.Steps.{step_of}
 
 module _ {Kind Shown : Type 0} (D : Replication Kind Op Shown) (answers : KeeperAnswers) where
   abbrev pub Has : Playing Kind Op Shown → Type 0
@@ -67,12 +65,9 @@ module _ {Kind Shown : Type 0} (D : Replication Kind Op Shown) (answers : Keeper
       if_holds Has (not (is_member p.world.view i)) _ _ has
       (if_holds Has (nat_lt p.world.view.given identity_limit) _ _ (called_has p (place_of p.world.view i) (Event.Restart i) (Head.RestartHead i) (Answer.NewIdentity p.world.view.given (p.world.view.number + 1)) Answer.LoadFailed has) has)
 
-  install_has : (p : Playing Kind Op Shown) (i number : ℕ) → Has p → Has (install D p i number)
-  install_has p i number has = if_holds Has (is_some (p.world.nodes i)) _ (told p (Head.InstallHead i number) Answer.Gone) (by_view (slice_get (views_of p.world) number)) has
-    where
-      by_view : (o : Option View) → Has (elim o [ None ↦ told p (Head.InstallHead i number) Answer.NoSuchView | Some view ↦ given D p (Head.InstallHead i number) (Event.InputAt i (Input.Install view)) ])
-      by_view None = has
-      by_view (Some view) = given_has p (Head.InstallHead i number) (Event.InputAt i (Input.Install view)) has
+  asked_has : (p : Playing Kind Op Shown) (i : ℕ) (ask : Ask Op) (input : Option (Input Op)) → Has p → Has (asked_by D p i ask input)
+  asked_has p i ask None has = has
+  asked_has p i ask (Some input) has = given_has p (Head.Asked i ask) (Event.InputAt i input) has
 
   -- SETTLING
 
@@ -86,11 +81,11 @@ module _ {Kind Shown : Type 0} (D : Replication Kind Op Shown) (answers : Keeper
 
   exchange_has : (lead : ℕ) (p : Playing Kind Op Shown) (i : ℕ) → Has p → Has (exchange D lead p i)
   exchange_has lead p i has =
-      let gossips = λ (q : Playing Kind Op Shown). given D q (Head.GossipHead i lead) (Event.InputAt i (Input.GossipTo lead)) in
+      let gossips = λ (q : Playing Kind Op Shown). given D q (Head.Asked i (Ask.Gossip lead)) (Event.InputAt i (Input.GossipTo lead)) in
       let first = unless_full D gossips p in
       let second = deliver_last D (posted p) i lead first in
       let third = deliver_last D (posted first) lead i second in
-      let has_first = unless_full_has gossips p has (given_has p (Head.GossipHead i lead) (Event.InputAt i (Input.GossipTo lead)) has) in
+      let has_first = unless_full_has gossips p has (given_has p (Head.Asked i (Ask.Gossip lead)) (Event.InputAt i (Input.GossipTo lead)) has) in
       last_has (posted second) i lead third (last_has (posted first) lead i second (last_has (posted p) i lead first has_first))
 
   sweep_has : (p : Playing Kind Op Shown) → Has p → Has (sweep D p)
@@ -99,13 +94,13 @@ module _ {Kind Shown : Type 0} (D : Replication Kind Op Shown) (answers : Keeper
   tick_has : (p : Playing Kind Op Shown) → Has p → Has (tick D p)
   tick_has p has =
       let lead = leader p.world.view in
-      unless_full_has (λ q. given D q (Head.TickHead (leader q.world.view)) (Event.InputAt (leader q.world.view) Input.PruneTick)) p has (given_has p (Head.TickHead lead) (Event.InputAt lead Input.PruneTick) has)
+      unless_full_has (λ q. given D q (Head.Asked (leader q.world.view) Ask.Tick) (Event.InputAt (leader q.world.view) Input.PruneTick)) p has (given_has p (Head.Asked lead Ask.Tick) (Event.InputAt lead Input.PruneTick) has)
 
   install_last_has : (p : Playing Kind Op Shown) (i : ℕ) → Has p → Has (install_last D p i)
   install_last_has p i has =
       let view = p.world.view in
-      let installs = λ (q : Playing Kind Op Shown). given D q (Head.InstallHead i view.number) (Event.InputAt i (Input.Install view)) in
-      if_holds Has (is_older D view (p.world.nodes i)) (unless_full D installs p) p (unless_full_has installs p has (given_has p (Head.InstallHead i view.number) (Event.InputAt i (Input.Install view)) has)) has
+      let installs = λ (q : Playing Kind Op Shown). given D q (Head.Asked i (Ask.Install view.number)) (Event.InputAt i (Input.Install view)) in
+      if_holds Has (is_older D view (p.world.nodes i)) (unless_full D installs p) p (unless_full_has installs p has (given_has p (Head.Asked i (Ask.Install view.number)) (Event.InputAt i (Input.Install view)) has)) has
 
   settle_has : (p : Playing Kind Op Shown) → Has p → Has (settle D p)
   settle_has p has =
@@ -118,27 +113,13 @@ module _ {Kind Shown : Type 0} (D : Replication Kind Op Shown) (answers : Keeper
       sweep_has (tick D swept) (tick_has swept (sweep_has pruned has_pruned))
 
   pub step_has : (p : Playing Kind Op Shown) (step : ScriptStep Op) → Has p → Has (played D p step)
-  step_has p (ScriptStep.Update at key op level) has = given_has p (Head.UpdateHead at key) (Event.InputAt at (Input.Update key op level)) has
-  step_has p (ScriptStep.Get at key level) has = given_has p (Head.GetHead at key) (Event.InputAt at (Input.Get key level)) has
-  step_has p (ScriptStep.Flush at) has = given_has p (Head.FlushHead at) (Event.InputAt at Input.Flush) has
-  step_has p (ScriptStep.Gossip at to) has = given_has p (Head.GossipHead at to) (Event.InputAt at (Input.GossipTo to)) has
+  step_has p (ScriptStep.Asks i ask) has = asked_has p i ask (input_of (views_of p.world) ask) has
   step_has p (ScriptStep.Deliver from to None) has = deliver_has p from to (p.world.links from to).next has
   step_has p (ScriptStep.Deliver from to (Some index)) has = deliver_has p from to index has
   step_has p (ScriptStep.Lose from to) has = lose_has p from to has
   step_has p ScriptStep.Round has = round_has p (due_now D p) has
-  step_has p (ScriptStep.Tick at) has = given_has p (Head.TickHead at) (Event.InputAt at Input.PruneTick) has
   step_has p (ScriptStep.Timeout at op) has = given_has p (Head.TimeoutHead at op) (Event.InputAt at (Input.Timeout op)) has
   step_has p (ScriptStep.Remove id) has = remove_has p id has
   step_has p (ScriptStep.Join place) has = join_has p place has
   step_has p (ScriptStep.Restart id) has = restart_has p id has
-  step_has p (ScriptStep.Install at view) has = install_has p at view has
   step_has p ScriptStep.Settle has = settle_has p has
-
-  all_have : (p : Playing Kind Op Shown) (steps : List (ScriptStep Op)) → Has p → Has (played_all D p steps)
-  all_have p [] has = has
-  all_have p (step ∷ steps) has = all_have (record (played D p step) { lines = [] }) steps (step_has p step has)
-
-module _ {Kind Shown : Type 0} (D : Replication Kind Op Shown) where
-  -- a script's answers are those that it began with
-  pub same_answers : (p : Playing Kind Op Shown) (steps : List Step) → (played_all D p (map step_of steps)).answers ≡ p.answers
-  same_answers p steps = all_have D p.answers p (map step_of steps) refl

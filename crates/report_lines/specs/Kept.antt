@@ -9,7 +9,7 @@ use Rattle.model_history.specs.History.{History}
 use Rattle.base_outside.specs.Causes.{Rose}
 use Rattle.model_members.specs.DataType.{DataType}
 use Rattle.model_members.specs.World.{Store}
-use Rattle.model_members.specs.Script.{KeeperAnswers, none_fails}
+use Rattle.model_members.specs.Script.{KeeperAnswers, Playing, none_fails}
 use Rattle.model_kinds.specs.declared.kind.Kind.{Kind}
 use Rattle.model_kinds.specs.declared.operation.Op.{Op}
 use Rattle.model_kinds.specs.declared.shown.Shown.{Shown}
@@ -20,9 +20,10 @@ use Rattle.world_members.specs.Keeping.{Given, Keeps}
 pub use Rattle.world_members.specs.Keeping.{AtEachPlace, AreKept, IsNotCleared}
 use Rattle.script_reading.specs.declared.script.Script.{Script}
 use Rattle.script_reading.specs.declared.script.ScriptKey.{ScriptKey}
+use Rattle.script_reading.specs.WellFormed.{HasNoClients}
 use Rattle.report_lines.specs.declared.playing.Ending.{Ending}
 use Rattle.report_lines.specs.declared.playing.Ending.TheVariants.{Told, NotCleared, Memory}
-use Rattle.report_lines.specs.Run.{HasNoRestart, ending, IsReport, IsSummary, GetsIncludeUpdates, SettlesAreAsTold, BeginsReport}
+use Rattle.report_lines.specs.Run.{HasNoRestart, ending, IsReport, BeginsReport, IsTheReport, BeginsTheReport, IsSummary, GetsIncludeUpdates, SettlesAreAsTold}
 
 -- THE KEEPERS OF THE PLACES
 
@@ -50,33 +51,61 @@ module _ {K : Type 0} (keeping : Keeping K) where
   NoneRose old new = AtEachPlace (λ place before after. Rose (keeping.faults before) (keeping.faults after) → ⊥) old new
 
 module _ (data_type : DataType Kind Op Shown) (byte_of : Kind → ℕ) (history_spelled : Kind → History Op → List ℕ) {K : Type 0} (keeping : Keeping K) where
-  -- The text tells of the run with these answers, the keepers were called as often as in the run, and each told table holds its place's store at the run's end
-  pub record IsWholeRun (tells : KeeperAnswers → Script → List ℕ → Type 0) (given : Given) (script : Script) (old new : List K) (text : List ℕ) : Type 0 where
-    pub reported : tells (answers_by given) script text
-    pub called : (place : ℕ) → place < 8 → length (given place) ≡ (ending data_type byte_of history_spelled (answers_by given) script).calls place
-    pub stored : AtEachPlace (λ place before after. (table : Table) → keeping.table after ≡ Some table → HoldsStore byte_of history_spelled script.keys table ((ending data_type byte_of history_spelled (answers_by given) script).world.stores place)) old new
+  -- The keepers were called as often as in a run that ended here, and each told table holds its place's store then
+  pub record EndsOver (given : Given) (script : Script) (last : Playing Kind Op Shown) (old new : List K) : Type 0 where
+    pub called : (place : ℕ) → place < 8 → length (given place) ≡ last.calls place
+    pub stored : AtEachPlace (λ place before after. (table : Table) → keeping.table after ≡ Some table → HoldsStore byte_of history_spelled script.keys table (last.world.stores place)) old new
+
+  -- The run of a script without clients: its one end, its majority gets and what its settles tell
+  pub record IsTheRun (answers : KeeperAnswers) (script : Script) (last : Playing Kind Op Shown) : Type 0 where
+    pub ends : last ≡ ending data_type byte_of history_spelled answers script
     -- majority gets include the majority updates before them
-    pub majorities : GetsIncludeUpdates data_type byte_of history_spelled (answers_by given) script
+    pub majorities : GetsIncludeUpdates data_type byte_of history_spelled answers script
     -- and what its settles tell is so
-    pub settles : SettlesAreAsTold data_type byte_of history_spelled (answers_by given) script
-    -- where no call failed it is a function of the script
-    pub unfailing : NoneRose keeping old new → tells none_fails script text
+    pub settles : SettlesAreAsTold data_type byte_of history_spelled answers script
+
+  -- The text is the report of that run, and where no call failed it is a function of the script
+  pub record IsPlainReport (given : Given) (script : Script) (last : Playing Kind Op Shown) (old new : List K) (text : List ℕ) : Type 0 where
+    pub run : IsTheRun (answers_by given) script last
+    pub reported : IsTheReport data_type byte_of history_spelled (answers_by given) script text
+    pub unfailing : NoneRose keeping old new → IsTheReport data_type byte_of history_spelled none_fails script text
+
+  -- The text is the report of a run with these answers, in which the keepers were called
+  pub record IsWholeReport (given : Given) (script : Script) (old new : List K) (text : List ℕ) : Type 0 where
+    pub reported : IsReport data_type byte_of history_spelled (answers_by given) script text
+    pub over : EndsOver given script reported.last old new
+    -- where no call failed it is that of a run without failures
+    pub unfailing : NoneRose keeping old new → IsReport data_type byte_of history_spelled none_fails script text
+    -- of a script without clients it is the one report
+    pub plain : HasNoClients script → IsPlainReport given script reported.last old new text
+
+  -- The text is the final block of the run of a script without clients
+  pub record IsWholeSummary (given : Given) (script : Script) (old new : List K) (text : List ℕ) : Type 0 where
+    pub reported : IsSummary data_type byte_of history_spelled (answers_by given) script text
+    pub over : EndsOver given script (ending data_type byte_of history_spelled (answers_by given) script) old new
+    pub run : IsTheRun (answers_by given) script (ending data_type byte_of history_spelled (answers_by given) script)
+    pub unfailing : NoneRose keeping old new → IsSummary data_type byte_of history_spelled none_fails script text
+
+  -- The text begins as the report of a run, and of the one run where there are no clients
+  pub record Begins (answers : KeeperAnswers) (script : Script) (text : List ℕ) : Type 0 where
+    pub begun : BeginsReport data_type byte_of history_spelled answers script text
+    pub plain : HasNoClients script → BeginsTheReport data_type byte_of history_spelled answers script text
 
   -- The keepers gave these answers, and the text begins so. It tells of the whole run, if the keepers load what they took
-  pub record IsRunOver (begins tells : KeeperAnswers → Script → List ℕ → Type 0) (script : Script) (old new : List K) (text : List ℕ) : Type 0 where
+  pub record IsRunOver (begins : KeeperAnswers → Script → List ℕ → Type 0) (tells : Given → Script → List K → List K → List ℕ → Type 0) (script : Script) (old new : List K) (text : List ℕ) : Type 0 where
     pub given : Given
     pub kept : AtEachPlace (λ place. Keeps keeping (given place)) old new
     pub others : (place : ℕ) → length old ≤ place → given place ≡ []
     pub begun : begins (answers_by given) script text
-    pub whole : LoadWhatTheyTook keeping script old → IsWholeRun tells given script old new text
+    pub whole : LoadWhatTheyTook keeping script old → tells given script old new text
 
   -- the report of a run, which begins with the lines before its first restart
   abbrev pub IsReportOver : Script → List K → List K → List ℕ → Type 0
-  IsReportOver = IsRunOver (BeginsReport data_type byte_of history_spelled) (IsReport data_type byte_of history_spelled)
+  IsReportOver = IsRunOver Begins IsWholeReport
 
   -- the final block of a run alone, of which nothing is told before the run's end
   abbrev pub IsSummaryOver : Script → List K → List K → List ℕ → Type 0
-  IsSummaryOver = IsRunOver (λ answers script text. Unit {0}) (IsSummary data_type byte_of history_spelled)
+  IsSummaryOver = IsRunOver (λ answers script text. Unit {0}) IsWholeSummary
 
 module _ {S K : Type 0} (keeping : Keeping K) (IsOver : S → List K → List K → List ℕ → Type 0) where
   -- how a script's run ended, where this is said of its text

@@ -11,6 +11,8 @@ use Rattle.member_node.specs.declared.outcome.KeyOutcome.{KeyOutcome}
 use Rattle.member_node.specs.Members.{meant}
 use Rattle.member_node.specs.Operations.{result_meant}
 use Rattle.member_node.specs.Replies.{meant_at_key}
+use Rattle.script_reading.specs.declared.ask.Ask.{Ask}
+use Rattle.script_reading.specs.declared.ask.Ask.TheVariants as asked
 use Rattle.world_members.specs.declared.client_line.ClientLine.{ClientLine}
 use Rattle.world_members.specs.declared.client_line.Ended.{Ended}
 use Rattle.world_members.specs.declared.client_line.Ended.TheVariants as ended
@@ -40,12 +42,17 @@ abbrev pub delivered_words : Option Sketch → List Text
 delivered_words None = []
 delivered_words (Some sketch) = sketch_text sketch ∷ []
 
+-- what a member was asked
+abbrev pub ask_words : ℕ → Ask → List Text
+ask_words at (asked.Update key op level) = codes "update" ∷ decimal at ∷ key ∷ []
+ask_words at (asked.Get key level) = codes "get" ∷ decimal at ∷ key ∷ []
+ask_words at asked.Flush = codes "flush" ∷ decimal at ∷ []
+ask_words at (asked.Gossip to) = codes "gossip" ∷ decimal at ∷ decimal to ∷ []
+ask_words at asked.Tick = codes "tick" ∷ decimal at ∷ []
+ask_words at (asked.Install view) = codes "install" ∷ decimal at ∷ codes "view" ∷ decimal view ∷ []
+
 abbrev pub head_words : Head → List Text
-head_words (head.Update at key) = codes "update" ∷ decimal at ∷ key ∷ []
-head_words (head.Get at key) = codes "get" ∷ decimal at ∷ key ∷ []
-head_words (head.Flush at) = codes "flush" ∷ decimal at ∷ []
-head_words (head.Tick at) = codes "tick" ∷ decimal at ∷ []
-head_words (head.Gossip at to) = codes "gossip" ∷ decimal at ∷ decimal to ∷ []
+head_words (head.Asked at ask) = ask_words at ask
 head_words (head.Deliver from to index sketch) = codes "deliver" ∷ link_text from to index ∷ delivered_words sketch
 head_words (head.Lose from to index) = codes "lose" ∷ link_text from to index ∷ []
 head_words head.Round = codes "round" ∷ []
@@ -53,7 +60,6 @@ head_words (head.Timeout at op) = codes "timeout" ∷ decimal at ∷ decimal op 
 head_words (head.Remove id) = codes "remove" ∷ decimal id ∷ []
 head_words (head.Join place) = codes "join" ∷ decimal place ∷ []
 head_words (head.Restart id) = codes "restart" ∷ decimal id ∷ []
-head_words (head.Install at view) = codes "install" ∷ decimal at ∷ codes "view" ∷ decimal view ∷ []
 head_words head.Settle = codes "settle" ∷ []
 
 -- an outcome of a tick, after a space

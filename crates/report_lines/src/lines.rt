@@ -3,11 +3,13 @@ ghost use Rattle.model_members.specs.Report.{words, reply_text, key_outcome_text
 ghost use Rattle.model_kinds.specs.ShownText.{shown_text};
 ghost use Rattle.member_node.specs.Members.{meant};
 ghost use Rattle.member_node.specs.Replies.{meant_at_key};
-ghost use Rattle.report_lines.specs.Lines.{sketch_text, outcome_text, head_words, answer_text, sent_text, finished_text, tails_text, event_text, ending_text, client_tails_text, client_line_text};
+ghost use Rattle.report_lines.specs.Lines.{sketch_text, outcome_text, ask_words, head_words, answer_text, sent_text, finished_text, tails_text, event_text, ending_text, client_tails_text, client_line_text};
 
 use base_bytes::Memory;
+use base_vectors::Id;
 use member_node::{Finished, KeyOutcome, MessageKind, OperationResult, Outcome, Reply, Sketch};
 use report_texts::push_shown;
+use script_reading::Ask;
 use std::alloc::Global;
 use world_members::{Answer, ClientLine, Ended, Event, Head, SentTo};
 
@@ -31,16 +33,28 @@ fn push_sketch(text: &mut String, sketch: Sketch) -> Result<(), Memory>
     Ok(())
 }
 
+/// Adds what a member was asked.
+fn push_ask(text: &mut String, at: Id, ask: &Ask) -> Result<(), Memory>
+    ensures { OnOk result (string_bytes text.new ≡ string_bytes text.old ++ words (ask_words at ask.now)) }
+{
+    let at = at.number();
+    match ask {
+        Ask::Update { key, .. } => write!(text, "update {at} {}", key.as_str())?,
+        Ask::Get { key, .. } => write!(text, "get {at} {}", key.as_str())?,
+        Ask::Flush => write!(text, "flush {at}")?,
+        Ask::Gossip { to } => write!(text, "gossip {at} {}", to.number())?,
+        Ask::Tick => write!(text, "tick {at}")?,
+        Ask::Install { view } => write!(text, "install {at} view {view}")?,
+    }
+    Ok(())
+}
+
 /// Adds what was done.
 fn push_head(text: &mut String, head: &Head) -> Result<(), Memory>
     ensures { OnOk result (string_bytes text.new ≡ string_bytes text.old ++ words (head_words head.now)) }
 {
     match head {
-        Head::Update { at, key } => write!(text, "update {} {}", at.number(), key.as_str())?,
-        Head::Get { at, key } => write!(text, "get {} {}", at.number(), key.as_str())?,
-        Head::Flush { at } => write!(text, "flush {}", at.number())?,
-        Head::Tick { at } => write!(text, "tick {}", at.number())?,
-        Head::Gossip { at, to } => write!(text, "gossip {} {}", at.number(), to.number())?,
+        Head::Asked { at, ask } => push_ask(text, *at, ask)?,
         Head::Deliver {
             from,
             to,
@@ -61,7 +75,6 @@ fn push_head(text: &mut String, head: &Head) -> Result<(), Memory>
         Head::Remove { id } => write!(text, "remove {}", id.number())?,
         Head::Join { place } => write!(text, "join {place}")?,
         Head::Restart { id } => write!(text, "restart {}", id.number())?,
-        Head::Install { at, view } => write!(text, "install {} view {view}", at.number())?,
         Head::Settle => text.push_str("settle")?,
     }
     Ok(())

@@ -32,7 +32,7 @@ pub(crate) fn in_order<T: Replica<Kind = Kind, Op = Op>>(
     let mut decls: Vec<KeyDecl<T>> = Vec::new(alloc);
     for key in keys {
         let decl = KeyDecl {
-            key: key.key.copy(alloc)?,
+            key: key.key.copied(),
             kind: key.kind,
             durable: key.durable,
         };

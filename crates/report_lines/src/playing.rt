@@ -1,9 +1,10 @@
-ghost use Rattle.std.specs.Prelude.{◌≡◌, ◌≢◌, ◌≤◌, length, string_bytes, All, AllPairs, MatchResult};
-ghost use Rattle.script_reading.specs.WellFormed.{IsStep, IsWellFormed};
+ghost use Rattle.std.specs.Prelude.{◌≡◌, ◌≢◌, ◌≤◌, [], length, string_bytes, All, AllPairs, OnOk, MatchResult};
+ghost use Rattle.script_reading.specs.declared.clients.Clients.{Clients};
+ghost use Rattle.script_reading.specs.declared.clients.RunStep.TheVariants as form;
+ghost use Rattle.script_reading.specs.WellFormed.{HasNoClients, IsAllowed, IsStep, IsRunStep, IsWellFormed};
 ghost use Rattle.world_members.specs.Places.{keepers_of};
 ghost use Rattle.report_lines.specs.Kept.{IsPlayed, IsUnplayed, IsReportOver, IsSummaryOver};
-ghost use Rattle.report_lines.specs.Telling.{AreAllKept, Opens, TellsAll, TellsEnd};
-ghost use Rattle.report_lines.specs.declared.playing.Ending.TheVariants as end;
+ghost use Rattle.report_lines.specs.Telling.{AreAllKept, Opens, TellsStep, TellsSteps, PassesSteps, AddsBlock, EndsWithBlock};
 
 use crate::lines::push_lines;
 use crate::members::final_block;
@@ -12,7 +13,7 @@ use base_bytes::{Items, Memory};
 use data_lattice::SpelledData;
 use member_keeper::Keeper;
 use model_kinds::{Kind, Op};
-use script_reading::{Script, ScriptKey, Step};
+use script_reading::{RunStep, Script, ScriptKey, Step};
 use std::alloc::Global;
 use world_members::{StartError, World};
 
@@ -66,57 +67,102 @@ pub(crate) fn first_world<T: SpelledData<Kind = Kind, Op = Op>, K: Keeper + Drop
     }
 }
 
-/// Plays the steps of a script, and tells their lines and what each member holds then.
-fn told<T: SpelledData<Kind = Kind, Op = Op>, K: Keeper + Drop>(
+/// Plays a step that the script makes by itself, and adds its lines.
+pub(crate) fn plain_step<T: SpelledData<Kind = Kind, Op = Op>, K: Keeper + Drop>(
     alloc: Global,
+    text: &mut String,
+    number: usize,
+    step: &Step,
     world: &mut World<T, K>,
-    steps: &[Step],
-) -> Result<String, Memory>
-    requires { All IsStep steps.now }
-    ensures { MatchResult result (λ text. TellsAll T.SpelledData.own steps.now world.old world.new (string_bytes text)) (λ _. AreAllKept world.old world.new) }
+) -> Result<(), Memory>
+    requires { IsStep step.now }
+    ensures { MatchResult result (λ _. TellsStep T.SpelledData.own number (form.Plain step.now) world.old world.new (string_bytes text.old) (string_bytes text.new)) (λ _. AreAllKept world.old world.new) }
 {
-    let mut text = String::new(alloc);
-    for (i, step) in steps.iter().enumerate() {
-        let events = world.step(step)?;
-        push_lines(alloc, &mut text, i + 1, events.as_slice())?;
-    }
-    let block = final_block(alloc, world)?;
-    text.push_str(block.as_str())?;
-    Ok(text)
+    let events = world.step(step)?;
+    push_lines(alloc, text, number, events.as_slice())
 }
 
-/// Plays the steps of a script, and tells what each member holds then.
-fn end_told<T: SpelledData<Kind = Kind, Op = Op>, K: Keeper + Drop>(
+/// Plays the steps of a script without clients, and adds their lines.
+fn plain_steps<T: SpelledData<Kind = Kind, Op = Op>, K: Keeper + Drop>(
     alloc: Global,
+    text: &mut String,
+    steps: &[RunStep],
     world: &mut World<T, K>,
-    steps: &[Step],
-) -> Result<String, Memory>
-    requires { All IsStep steps.now }
-    ensures { MatchResult result (λ text. TellsEnd T.SpelledData.own steps.now world.old world.new (string_bytes text)) (λ _. AreAllKept world.old world.new) }
+) -> Result<(), Memory>
+    requires steps { All IsRunStep steps.now }
+    requires plain { All (IsAllowed Clients.Refused) steps.now }
+    requires empty { string_bytes text.now ≡ [] }
+    ensures { MatchResult result (λ _. TellsSteps T.SpelledData.own steps.now world.old world.new (string_bytes text.new)) (λ _. AreAllKept world.old world.new) }
+{
+    for (i, step) in steps.iter().enumerate() {
+        match step {
+            RunStep::Plain(step) => plain_step(alloc, text, i + 1, step, world)?,
+            RunStep::Threads { .. } => unreachable!(),
+        }
+    }
+    Ok(())
+}
+
+/// Plays the steps of a script without clients, and tells nothing of them.
+fn untold_steps<T: SpelledData<Kind = Kind, Op = Op>, K: Keeper + Drop>(
+    steps: &[RunStep],
+    world: &mut World<T, K>,
+) -> Result<(), Memory>
+    requires steps { All IsRunStep steps.now }
+    requires plain { All (IsAllowed Clients.Refused) steps.now }
+    ensures { MatchResult result (λ _. PassesSteps T.SpelledData.own steps.now world.old world.new) (λ _. AreAllKept world.old world.new) }
 {
     for step in steps {
-        world.step(step)?;
+        match step {
+            RunStep::Plain(step) => drop(world.step(step)?),
+            RunStep::Threads { .. } => unreachable!(),
+        }
     }
-    final_block(alloc, world)
+    Ok(())
 }
 
-/// How a run ended that was told so, and its keepers.
+/// Adds what each member holds.
+fn push_block<T: SpelledData<Kind = Kind, Op = Op>, K: Keeper + Drop>(
+    alloc: Global,
+    text: &mut String,
+    world: &World<T, K>,
+) -> Result<(), Memory>
+    ensures { OnOk result (AddsBlock T.SpelledData.own world.now (string_bytes text.old) (string_bytes text.new)) }
+{
+    let block = final_block(alloc, world)?;
+    text.push_str(block.as_str())?;
+    Ok(())
+}
+
+/// A run that ended so in this world.
 fn ended<T: SpelledData<Kind = Kind, Op = Op>, K: Keeper + Drop>(
-    told: Result<String, Memory>,
+    ending: Ending,
     world: World<T, K>,
 ) -> Played<K>
-    ensures ending { MatchResult told (λ text. result.ending ≡ end.Told text) (λ _. result.ending ≡ end.Memory) }
+    ensures ending { result.ending ≡ ending }
     ensures keepers { result.keepers.items ≡ keepers_of world.nodes.items world.spare.items }
 {
-    let ending = match told {
-        Ok(text) => Ending::Told(text),
-        Err(_) => Ending::Memory,
-    };
     let keepers = world.into_keepers();
     Played { ending, keepers }
 }
 
-/// Plays a script over values of the data type `T` and over a keeper for each place, and tells its report.
+/// The end of a run with these lines: what each member holds is told after them.
+pub(crate) fn finished<T: SpelledData<Kind = Kind, Op = Op>, K: Keeper + Drop>(
+    alloc: Global,
+    text: String,
+    world: World<T, K>,
+) -> Played<K>
+    ensures ending { EndsWithBlock T.SpelledData.own world (string_bytes text) result.ending }
+    ensures keepers { result.keepers.items ≡ keepers_of world.nodes.items world.spare.items }
+{
+    let mut text = text;
+    match push_block(alloc, &mut text, &world) {
+        Ok(()) => ended(Ending::Told(text), world),
+        Err(_) => ended(Ending::Memory, world),
+    }
+}
+
+/// Plays a script without clients over values of the data type `T` and over a keeper for each place, and tells its report.
 ///
 /// The keepers are cleared first. The report has a line for each event of each step, and then for each member a block with
 /// what it holds of each key.
@@ -126,6 +172,7 @@ pub fn report<T: SpelledData<Kind = Kind, Op = Op>, K: Keeper + Drop>(
     keepers: Vec<K>,
 ) -> Played<K>
     requires script { IsWellFormed script.now }
+    requires plain { HasNoClients script.now }
     requires keepers { length keepers.items ≡ 8 }
     ensures { IsPlayed K.Keeper.own (IsReportOver T.data_type T.byte_of T.history_spelled K.Keeper.own) script.now keepers.items result.keepers.items result.ending }
 {
@@ -133,8 +180,11 @@ pub fn report<T: SpelledData<Kind = Kind, Op = Op>, K: Keeper + Drop>(
         Ok(world) => world,
         Err(played) => return played,
     };
-    let text = told(alloc, &mut world, script.steps.as_slice());
-    ended(text, world)
+    let mut text = String::new(alloc);
+    match plain_steps(alloc, &mut text, script.steps.as_slice(), &mut world) {
+        Ok(()) => finished(alloc, text, world),
+        Err(_) => ended(Ending::Memory, world),
+    }
 }
 
 /// Plays a script as `report` does, and tells the end of the report alone: for each member the block with what it holds of each
@@ -145,6 +195,7 @@ pub fn summary<T: SpelledData<Kind = Kind, Op = Op>, K: Keeper + Drop>(
     keepers: Vec<K>,
 ) -> Played<K>
     requires script { IsWellFormed script.now }
+    requires plain { HasNoClients script.now }
     requires keepers { length keepers.items ≡ 8 }
     ensures { IsPlayed K.Keeper.own (IsSummaryOver T.data_type T.byte_of T.history_spelled K.Keeper.own) script.now keepers.items result.keepers.items result.ending }
 {
@@ -152,6 +203,8 @@ pub fn summary<T: SpelledData<Kind = Kind, Op = Op>, K: Keeper + Drop>(
         Ok(world) => world,
         Err(played) => return played,
     };
-    let text = end_told(alloc, &mut world, script.steps.as_slice());
-    ended(text, world)
+    match untold_steps(script.steps.as_slice(), &mut world) {
+        Ok(()) => finished(alloc, String::new(alloc), world),
+        Err(_) => ended(Ending::Memory, world),
+    }
 }

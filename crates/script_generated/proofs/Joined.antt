@@ -7,14 +7,15 @@ use Rattle.std.proofs.lemmas.List.FromFn.{map-range_with_len_more}
 use Rattle.json.specs.Print.{escape_byte}
 use Rattle.serde_json.specs.View.{items_of}
 use Rattle.serde_json.specs.Written.{compact_text, items_text}
-use Rattle.script_reading.specs.declared.script.Step.{Step}
+use Rattle.script_reading.specs.declared.clients.RunStep.{RunStep}
+use Rattle.script_reading.specs.declared.clients.RunStep.TheVariants.{Plain}
 use Rattle.script_reading.specs.declared.script.Step.TheVariants.{Remove, Settle}
 use Rattle.script_generated.specs.declared.text.TheConstants.{HEAD, TAIL}
 use Rattle.script_generated.specs.Generated.{generated_step}
 use Rattle.script_generated.specs.Texts.{step_data, generated_text}
 
 -- a step before others
-abbrev pub piece : Step → List ℕ
+abbrev pub piece : RunStep → List ℕ
 piece step = compact_text (step_data step) ++ 44 ∷ []
 
 -- the steps of these numbers, from 1 on
@@ -34,17 +35,17 @@ one_more n start old e =
 
 -- ---- the whole text
 
-abbrev last_steps : List Step
-last_steps = Remove 4 ∷ Settle ∷ []
+abbrev last_steps : List RunStep
+last_steps = Plain (Remove 4) ∷ Plain Settle ∷ []
 
-comma_before : (steps : List Step) → items_text true (items_of (map step_data (steps ++ last_steps))) ≡ 44 ∷ items_text false (items_of (map step_data (steps ++ last_steps)))
+comma_before : (steps : List RunStep) → items_text true (items_of (map step_data (steps ++ last_steps))) ≡ 44 ∷ items_text false (items_of (map step_data (steps ++ last_steps)))
 comma_before [] = refl
 comma_before (s ∷ ss) = refl
 
 comma_after : (step all last : List ℕ) → step ++ 44 ∷ (all ++ last) ≡ ((step ++ 44 ∷ []) ++ all) ++ last
 comma_after step all last = simp append_assoc
 
-before_last : (steps : List Step) → items_text false (items_of (map step_data (steps ++ last_steps))) ≡ flat_map piece steps ++ items_text false (items_of (map step_data last_steps))
+before_last : (steps : List RunStep) → items_text false (items_of (map step_data (steps ++ last_steps))) ≡ flat_map piece steps ++ items_text false (items_of (map step_data last_steps))
 before_last [] = refl
 before_last (s ∷ ss) =
     ap (λ t. compact_text (step_data s) ++ t) (comma_before ss ∙ ap (λ t. 44 ∷ t) (before_last ss))

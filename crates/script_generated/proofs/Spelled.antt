@@ -13,48 +13,51 @@ use Rattle.model_kinds.specs.declared.kind.Kind.{Kind}
 use Rattle.model_kinds.specs.declared.kind.Kind.TheVariants.{GCounter, PnCounter, GSet, Flag, LwwRegister, OrSet}
 use Rattle.script_reading.specs.declared.script.Script.{Script}
 use Rattle.script_reading.specs.declared.script.ScriptKey.{ScriptKey}
-use Rattle.script_reading.specs.declared.script.Step.{Step}
+use Rattle.script_reading.specs.declared.clients.Clients.{Clients}
+use Rattle.script_reading.specs.declared.clients.Clients.TheVariants.{Refused}
+use Rattle.script_reading.specs.declared.clients.RunStep.{RunStep}
+use Rattle.script_reading.specs.declared.clients.RunStep.TheVariants.{Plain}
 use Rattle.script_reading.specs.declared.script.Step.TheVariants.{Remove, Settle}
 use Rattle.script_reading.specs.Fields.{◌>>=◌, are_objects}
 use Rattle.script_reading.specs.Reading.{key_decl, keys_after, step_list_of, steps_after, script_of, Spells}
-use Rattle.script_reading.specs.WellFormed.{IsStep, IsWellFormed}
+use Rattle.script_reading.specs.WellFormed.{IsRunStep, IsAllowed, HasNoClients, IsWellFormed}
 use Rattle.script_generated.specs.Generated.{generated_keys, generated_step, generated_steps, generated_script}
 use Rattle.script_generated.specs.Texts.{kind_name, key_members, key_data, step_data, script_members, script_data, generated_text}
 use Rattle.script_generated.proofs.Newline.{read_back}
 use Rattle.script_generated.proofs.Written.{Each, IsWritten, whole_written, ascii_written, switch_written, list_written, fields_written}
 use Rattle.script_generated.proofs.Steps.{IsSaid, steps_said}
 
-abbrev with_steps : List Step → Script
+abbrev with_steps : List RunStep → Script
 with_steps steps = record { members = 5; keys = generated_keys; steps = steps }
 
 -- ---- what is read
 
-objects : (steps : List Step) → are_objects (items_of (map step_data steps)) ≡ true
+objects : (steps : List RunStep) → are_objects (items_of (map step_data steps)) ≡ true
 objects [] = refl
 objects (s ∷ ss) = objects ss
 
-counted : (steps : List Step) → items_len (items_of (map step_data steps)) ≡ length steps
+counted : (steps : List RunStep) → items_len (items_of (map step_data steps)) ≡ length steps
 counted [] = refl
 counted (s ∷ ss) = omega (arith, counted ss)
 
-steps_read : (before steps : List Step) → Each IsSaid steps → steps_after before (items_of (map step_data steps)) ≡ Ok (before ++ steps)
+steps_read : (clients : Clients) (before steps : List RunStep) → Each IsSaid steps → steps_after clients before (items_of (map step_data steps)) ≡ Ok (before ++ steps)
 unfolding steps_after
-steps_read before [] h = ap Ok (sym (append-nil before))
-steps_read before (s ∷ ss) h =
-    ap (λ r. r >>= (λ step. steps_after (before ++ step ∷ []) (items_of (map step_data ss)))) (h.0.reads (length before + 1))
-    ∙ steps_read (before ++ s ∷ []) ss h.1 ∙ ap Ok (append_assoc before (s ∷ []) ss)
+steps_read clients before [] h = ap Ok (sym (append-nil before))
+steps_read clients before (s ∷ ss) h =
+    ap (λ r. r >>= (λ step. steps_after clients (before ++ step ∷ []) (items_of (map step_data ss)))) (h.0.reads clients (length before + 1))
+    ∙ steps_read clients (before ++ s ∷ []) ss h.1 ∙ ap Ok (append_assoc before (s ∷ []) ss)
 
-step_list_read : (steps : List Step) → length steps ≤ 4096 → step_list_of (script_data (with_steps steps)) ≡ Ok (items_of (map step_data steps))
+step_list_read : (steps : List RunStep) → length steps ≤ 4096 → step_list_of (script_data (with_steps steps)) ≡ Ok (items_of (map step_data steps))
 step_list_read steps few =
     let low : nat_le 0 (items_len (items_of (map step_data steps))) ≡ true = le-leb _ _ (omega arith) in
     let high : nat_le (items_len (items_of (map step_data steps))) 4096 ≡ true = le-leb _ _ (omega (arith, counted steps)) in
     simp (low, high, objects steps)
 
-script_read : (steps : List Step) → Each IsSaid steps → length steps ≤ 4096 → script_of (script_data (with_steps steps)) ≡ Ok (with_steps steps)
+script_read : (clients : Clients) (steps : List RunStep) → Each IsSaid steps → length steps ≤ 4096 → script_of clients (script_data (with_steps steps)) ≡ Ok (with_steps steps)
 unfolding script_of keys_after key_decl
-script_read steps h few =
-    ap (λ r. r >>= (λ items. steps_after [] items >>= (λ read. Ok (with_steps read)))) (step_list_read steps few)
-    ∙ ap (λ r. r >>= (λ read. Ok (with_steps read))) (steps_read [] steps h)
+script_read clients steps h few =
+    ap (λ r. r >>= (λ items. steps_after clients [] items >>= (λ read. Ok (with_steps read)))) (step_list_read steps few)
+    ∙ ap (λ r. r >>= (λ read. Ok (with_steps read))) (steps_read clients [] steps h)
 
 -- ---- what is written
 
@@ -78,33 +81,37 @@ keys_written = (
   (key_written (codes "cart") OrSet true refl, (key_written (codes "hits") GCounter false refl, (key_written (codes "note") LwwRegister false refl, tt))),
 )
 
-steps_written : (steps : List Step) → Each IsSaid steps → Each (IsWritten 1) (map step_data steps)
+steps_written : (steps : List RunStep) → Each IsSaid steps → Each (IsWritten 1) (map step_data steps)
 steps_written [] h = tt
 steps_written (s ∷ ss) h = (h.0.written, steps_written ss h.1)
 
-script_written : (steps : List Step) → Each IsSaid steps → IsWritten 3 (script_data (with_steps steps))
+script_written : (steps : List RunStep) → Each IsSaid steps → IsWritten 3 (script_data (with_steps steps))
 script_written steps h =
     fields_written 2 (script_members (with_steps steps)) (list_written 1 (map key_data generated_keys) keys_written, (whole_written 2 5 (omega arith), (list_written 1 (map step_data steps) (steps_written steps h), tt))) refl refl
 
 -- ---- the generated script
 
 steps_count : (n : ℕ) → length (generated_steps n) ≡ n + 2
-steps_count n = omega (arith, length-append (map generated_step (range_with_len 1 n)) (Remove 4 ∷ Settle ∷ []), length-map-range_with_len generated_step 1 n)
+steps_count n = omega (arith, length-append (map generated_step (range_with_len 1 n)) (Plain (Remove 4) ∷ Plain Settle ∷ []), length-map-range_with_len generated_step 1 n)
 
-pub spelled : (n : ℕ) → 1 ≤ n → n ≤ 4094 → Spells (generated_text n) (generated_script n)
+pub spelled : (clients : Clients) (n : ℕ) → 1 ≤ n → n ≤ 4094 → Spells clients (generated_text n) (generated_script n)
 unfolding generated_text
-spelled n low high =
+spelled clients n low high =
     let said = steps_said 1 n (omega arith) (omega arith) in
     let written = script_written (generated_steps n) said in
     let text : IsUtf8 (generated_text n) = IsUtf8-append _ (10 ∷ []) written.text (IsUtf8-are_ascii _ refl) in (
       script_data (generated_script n),
       (text, read_back (script_data (generated_script n)) written.reads written.numbers (omega (arith, written.flat))),
-      script_read (generated_steps n) said (omega (arith, steps_count n)),
+      script_read clients (generated_steps n) said (omega (arith, steps_count n)),
     )
 
-steps_bounded : (steps : List Step) → Each IsSaid steps → All IsStep steps
-steps_bounded [] h = All-nil IsStep
-steps_bounded (s ∷ ss) h = All-cons IsStep s ss h.0.bounds (steps_bounded ss h.1)
+steps_bounded : (steps : List RunStep) → Each IsSaid steps → All IsRunStep steps
+steps_bounded [] h = All-nil IsRunStep
+steps_bounded (s ∷ ss) h = All-cons IsRunStep s ss h.0.bounds (steps_bounded ss h.1)
+
+steps_plain : (steps : List RunStep) → Each IsSaid steps → All (IsAllowed Refused) steps
+steps_plain [] h = All-nil (IsAllowed Refused)
+steps_plain (s ∷ ss) h = All-cons (IsAllowed Refused) s ss h.0.plain (steps_plain ss h.1)
 
 -- the first bytes of the names rise
 abbrev Rises : ScriptKey → ScriptKey → Type 0
@@ -139,3 +146,6 @@ well_formed n low high = record {
   step_count = omega (arith, steps_count n);
   steps = steps_bounded (generated_steps n) (steps_said 1 n (omega arith) (omega arith));
 }
+
+pub has_no_clients : (n : ℕ) → 1 ≤ n → n ≤ 4094 → HasNoClients (generated_script n)
+has_no_clients n low high = steps_plain (generated_steps n) (steps_said 1 n (omega arith) (omega arith))

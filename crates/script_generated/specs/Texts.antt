@@ -9,8 +9,11 @@ use Rattle.model_kinds.specs.declared.operation.Op.{Op}
 use Rattle.model_kinds.specs.declared.operation.Op.TheVariants as op
 use Rattle.script_reading.specs.declared.script.Script.{Script}
 use Rattle.script_reading.specs.declared.script.ScriptKey.{ScriptKey}
-use Rattle.script_reading.specs.declared.script.Step.{Step}
-use Rattle.script_reading.specs.declared.script.Step.TheVariants.{Update, Flush, Gossip, Round, Remove, Settle}
+use Rattle.script_reading.specs.declared.ask.Ask.{Ask as asked}
+use Rattle.script_reading.specs.declared.ask.Ask.TheVariants.{Update, Flush, Gossip}
+use Rattle.script_reading.specs.declared.script.Step.TheVariants.{Ask, Round, Remove, Settle}
+use Rattle.script_reading.specs.declared.clients.RunStep.{RunStep}
+use Rattle.script_reading.specs.declared.clients.RunStep.TheVariants.{Plain}
 use Rattle.script_generated.specs.Generated.{generated_script}
 
 abbrev pub whole : ℕ → Data
@@ -68,17 +71,22 @@ update_members at key (op.Remove element) = at_said at ∷ do_said (codes "updat
 update_members at key op.Enable = at_said at ∷ do_said (codes "update") ∷ key_said key ∷ op_said (codes "enable") ∷ []
 update_members at key (op.Assign text now) = at_said at ∷ do_said (codes "update") ∷ key_said key ∷ (codes "now", whole now) ∷ op_said (codes "assign") ∷ (codes "text", string text) ∷ []
 
+-- what a member is asked in generated scripts
+abbrev pub ask_members : ℕ → asked → List (List ℕ × Data)
+ask_members at (Update key op level) = update_members at key op
+ask_members at Flush = at_said at ∷ do_said (codes "flush") ∷ []
+ask_members at (Gossip to) = at_said at ∷ do_said (codes "gossip") ∷ (codes "to", whole to) ∷ []
+ask_members at _ = []
+
 -- a step of one of the forms that generated scripts have
-abbrev pub step_members : Step → List (List ℕ × Data)
-step_members (Update at key op level) = update_members at key op
-step_members (Flush at) = at_said at ∷ do_said (codes "flush") ∷ []
-step_members (Gossip at to) = at_said at ∷ do_said (codes "gossip") ∷ (codes "to", whole to) ∷ []
-step_members Round = do_said (codes "round") ∷ []
-step_members (Remove id) = do_said (codes "remove") ∷ (codes "id", whole id) ∷ []
-step_members Settle = do_said (codes "settle") ∷ []
+abbrev pub step_members : RunStep → List (List ℕ × Data)
+step_members (Plain (Ask at ask)) = ask_members at ask
+step_members (Plain Round) = do_said (codes "round") ∷ []
+step_members (Plain (Remove id)) = do_said (codes "remove") ∷ (codes "id", whole id) ∷ []
+step_members (Plain Settle) = do_said (codes "settle") ∷ []
 step_members _ = []
 
-abbrev pub step_data : Step → Data
+abbrev pub step_data : RunStep → Data
 step_data step = fields (step_members step)
 
 -- ---- the script

@@ -2,3 +2,4 @@ mod Lists
 mod Names
 mod Openings
 mod RuleOrder
+pub mod Refused

@@ -3,14 +3,13 @@ use Rattle.std.proofs.Common.{◌≡◌, ℕ, List, [], ◌∷◌, Result, Ok, E
 use Rattle.std.specs.Prelude.{codes}
 use Rattle.serde_json.specs.Data.{Data, Items}
 use Rattle.serde_json.specs.Find.{get}
-use Rattle.script_reading.specs.declared.clients.RunScript.{RunScript}
+use Rattle.script_reading.specs.declared.clients.Clients.{Clients}
 use Rattle.script_reading.specs.declared.clients.RunStep.{RunStep}
 use Rattle.script_reading.specs.declared.fault.Rule.{Rule}
 use Rattle.script_reading.specs.declared.script.Script.{Script}
 use Rattle.script_reading.specs.declared.script.ScriptKey.{ScriptKey}
-use Rattle.script_reading.specs.declared.script.Step.{Step}
 use Rattle.script_reading.specs.Fields.{rule, ◌>>=◌, guard, whole_of, list_of, has_names}
-use Rattle.script_reading.specs.Reading.{steps_after, run_steps_after, keys_after, step_list_of, opening_of, script_of, run_script_of}
+use Rattle.script_reading.specs.Reading.{steps_after, keys_after, step_list_of, opening_of, script_of}
 
 -- what follows the opening
 abbrev pub with_steps : {S X : Type 0} → (ℕ → List ScriptKey → List S → X) → (Items → Result (List S) Rule) → Data → ℕ × List ScriptKey → Result X Rule
@@ -40,16 +39,9 @@ module _ {S X : Type 0} (made : ℕ → List ScriptKey → List S → X) (read :
       through (list_of (rule 0 3) 1 16 (get (codes "keys") d)) _ after _ (λ items.
       through (keys_after [] items) (λ keys. Ok (members, keys)) after _ (λ keys. refl))))
 
-abbrev pub script_with : ℕ → List ScriptKey → List Step → Script
+abbrev pub script_with : ℕ → List ScriptKey → List RunStep → Script
 script_with members keys steps = record { members = members; keys = keys; steps = steps }
 
-abbrev pub run_script_with : ℕ → List ScriptKey → List RunStep → RunScript
-run_script_with members keys steps = record { members = members; keys = keys; steps = steps }
-
-pub script_opens : (d : Data) → script_of d ≡ (opening_of d >>= with_steps script_with (steps_after []) d)
+pub script_opens : (clients : Clients) (d : Data) → script_of clients d ≡ (opening_of d >>= with_steps script_with (steps_after clients []) d)
 unfolding script_of
-script_opens d = opens script_with (steps_after []) d
-
-pub run_script_opens : (d : Data) → run_script_of d ≡ (opening_of d >>= with_steps run_script_with (run_steps_after []) d)
-unfolding run_script_of
-run_script_opens d = opens run_script_with (run_steps_after []) d
+script_opens clients d = opens script_with (steps_after clients []) d

@@ -11,12 +11,12 @@ use Rattle.model_kinds.specs.declared.kind.Kind.{Kind}
 use Rattle.script_reading.specs.declared.fault.Rule.{Rule}
 use Rattle.script_reading.specs.declared.clients.RunStep.{RunStep}
 use Rattle.script_reading.specs.declared.script.ScriptKey.{ScriptKey}
-use Rattle.script_reading.specs.declared.script.Step.{Step}
+use Rattle.script_reading.specs.declared.clients.Clients.{Clients}
 use Rattle.script_reading.specs.Fields.{rule, ◌>>=◌, guard, required, within, whole_of, flag_of, text_of, if_key_name, is_key_name, key_of, if_count, array_of, list_of, has_names, are_objects}
 use Rattle.serde_json.specs.Events.{items_len}
-use Rattle.script_reading.specs.Reading.{step_of, steps_after, run_step_of, run_steps_after, kind_named, kind_of, key_decl, keys_after, if_objects, step_list_of, script_of, run_script_of}
-use Rattle.script_reading.specs.Rules.{HoldBelow, IsFirstBroken, IsFirstRunBroken}
-use Rattle.script_reading.proofs.Openings.{with_steps, whole, script_with, run_script_with}
+use Rattle.script_reading.specs.Reading.{step_of, steps_after, kind_named, kind_of, key_decl, keys_after, if_objects, step_list_of, script_of}
+use Rattle.script_reading.specs.Rules.{HoldBelow, IsFirstBroken}
+use Rattle.script_reading.proofs.Openings.{with_steps, whole, script_with}
 
 -- WHICH RULES ARE TOLD
 
@@ -108,27 +108,16 @@ split C (Ok a) f e h first second = second a refl h
 split C (Err r) f e h first second = first (let same : r ≡ e = cc h in ap Err same)
 
 -- the steps before the first that is broken are read
-first_broken : (before : List Step) (items : Items) (e : Rule) → steps_after before items ≡ Err e → (k : ℕ) × IsFirstBroken (length before + 1) k e items
+first_broken : (clients : Clients) (before : List RunStep) (items : Items) (e : Rule) → steps_after clients before items ≡ Err e → (k : ℕ) × IsFirstBroken clients (length before + 1) k e items
 unfolding steps_after IsFirstBroken
-first_broken before no_items e h = absurd (cc h)
-first_broken before (item d ds) e h =
-    split ((k : ℕ) × IsFirstBroken (length before + 1) k e (item d ds)) (step_of (length before + 1) d) (λ step. steps_after (before ++ step ∷ []) ds) e h
+first_broken clients before no_items e h = absurd (cc h)
+first_broken clients before (item d ds) e h =
+    split ((k : ℕ) × IsFirstBroken clients (length before + 1) k e (item d ds)) (step_of clients (length before + 1) d) (λ step. steps_after clients (before ++ step ∷ []) ds) e h
     (λ here. (zero, here))
     (λ step read later.
-    let rest = first_broken (before ++ step ∷ []) ds e later in
+    let rest = first_broken clients (before ++ step ∷ []) ds e later in
     let longer : length (before ++ step ∷ []) + 1 ≡ suc (length before + 1) = let n = length-append before (step ∷ []) in omega (arith, n) in
-    (suc rest.0, ((step, read), subst (λ n. IsFirstBroken n rest.0 e ds) longer rest.1)))
-
-first_run_broken : (before : List RunStep) (items : Items) (e : Rule) → run_steps_after before items ≡ Err e → (k : ℕ) × IsFirstRunBroken (length before + 1) k e items
-unfolding run_steps_after IsFirstRunBroken
-first_run_broken before no_items e h = absurd (cc h)
-first_run_broken before (item d ds) e h =
-    split ((k : ℕ) × IsFirstRunBroken (length before + 1) k e (item d ds)) (run_step_of (length before + 1) d) (λ step. run_steps_after (before ++ step ∷ []) ds) e h
-    (λ here. (zero, here))
-    (λ step read later.
-    let rest = first_run_broken (before ++ step ∷ []) ds e later in
-    let longer : length (before ++ step ∷ []) + 1 ≡ suc (length before + 1) = let n = length-append before (step ∷ []) in omega (arith, n) in
-    (suc rest.0, ((step, read), subst (λ n. IsFirstRunBroken n rest.0 e ds) longer rest.1)))
+    (suc rest.0, ((step, read), subst (λ n. IsFirstBroken clients n rest.0 e ds) longer rest.1)))
 
 -- THE SCRIPT
 
@@ -192,16 +181,9 @@ module _ {S X : Type 0} (made : ℕ → List ScriptKey → List S → X) (read :
       })
       (λ all read h. absurd (cc h)))))))
 
-abbrev pub SaysFirst : Items → Rule → Type 0
-SaysFirst items e = (k : ℕ) × IsFirstBroken 1 k e items
+abbrev pub SaysFirst : Clients → Items → Rule → Type 0
+SaysFirst clients items e = (k : ℕ) × IsFirstBroken clients 1 k e items
 
-abbrev pub SaysFirstRun : Items → Rule → Type 0
-SaysFirstRun items e = (k : ℕ) × IsFirstRunBroken 1 k e items
-
-pub least_of : (d : Data) (e : Rule) → script_of d ≡ Err e → IsLeast SaysFirst d e
+pub least_of : (clients : Clients) (d : Data) (e : Rule) → script_of clients d ≡ Err e → IsLeast (SaysFirst clients) d e
 unfolding script_of
-least_of d e h = least script_with (steps_after []) SaysFirst (first_broken []) d e h
-
-pub least_of_run : (d : Data) (e : Rule) → run_script_of d ≡ Err e → IsLeast SaysFirstRun d e
-unfolding run_script_of
-least_of_run d e h = least run_script_with (run_steps_after []) SaysFirstRun (first_run_broken []) d e h
+least_of clients d e h = least script_with (steps_after clients []) (SaysFirst clients) (first_broken clients []) d e h

@@ -5,7 +5,6 @@ use Rattle.serde_json.specs.Data.{Data, Items, no_items, item}
 use Rattle.serde_json.specs.Find.{get}
 use Rattle.script_reading.specs.declared.fault.Rule.{Rule}
 use Rattle.script_reading.specs.declared.clients.Command.{Command}
-use Rattle.script_reading.specs.declared.clients.Command.TheVariants as command
 use Rattle.script_reading.specs.declared.clients.Repeated.{Repeated}
 use Rattle.script_reading.specs.declared.script.Step.{Step}
 use Rattle.script_reading.specs.declared.script.Step.TheVariants as step
@@ -14,12 +13,7 @@ use Rattle.script_reading.specs.Forms.{plain_of}
 
 -- the command by which a client asks for a step, if one does
 abbrev pub command_in : Step → Option Command
-command_in (step.Update at key op level) = Some (command.Update at key op level)
-command_in (step.Get at key level) = Some (command.Get at key level)
-command_in (step.Flush at) = Some (command.Flush at)
-command_in (step.Gossip at to) = Some (command.Gossip at to)
-command_in (step.Tick at) = Some (command.Tick at)
-command_in (step.Install at view) = Some (command.Install at view)
+command_in (step.Ask at ask) = Some (record { at = at; ask = ask })
 command_in _ = None
 
 -- whatever rule is broken, this one is told

@@ -5,7 +5,8 @@ use Rattle.serde_json.specs.Data.{Data}
 use Rattle.serde_json.specs.Find.{get}
 use Rattle.script_reading.specs.declared.fault.Rule.{Rule}
 use Rattle.script_reading.specs.declared.script.Step.{Step}
-use Rattle.script_reading.specs.declared.script.Step.TheVariants.{Update, Get, Flush, Gossip, Deliver, Lose, Round, Tick, Timeout, Remove, Join, Restart, Install, Settle}
+use Rattle.script_reading.specs.declared.ask.Ask.TheVariants.{Update, Get, Flush, Gossip, Tick, Install}
+use Rattle.script_reading.specs.declared.script.Step.TheVariants.{Ask, Deliver, Lose, Round, Timeout, Remove, Join, Restart, Settle}
 use Rattle.script_reading.specs.Fields.{rule, ◌>>=◌, required, names_of, identity_of, place_of, number_of, if_given, text_of, key_of}
 use Rattle.script_reading.specs.Levels.{level_of}
 use Rattle.script_reading.specs.Operations.{op_named, update_names, op_of}
@@ -20,7 +21,7 @@ update_of more step d = do
   key ← key_of (rule step 8) (get (codes "key") d)
   op ← op_of step form d
   level ← level_of step (get (codes "level") d)
-  Ok (Update at key op level)
+  Ok (Ask at (Update key op level))
 
 unfoldable pub get_of : List (List ℕ) → ℕ → Data → Result Step Rule
 get_of more step d = do
@@ -28,20 +29,20 @@ get_of more step d = do
   at ← identity_of step (get (codes "at") d)
   key ← key_of (rule step 8) (get (codes "key") d)
   level ← level_of step (get (codes "level") d)
-  Ok (Get at key level)
+  Ok (Ask at (Get key level))
 
 unfoldable pub flush_of : List (List ℕ) → ℕ → Data → Result Step Rule
 flush_of more step d = do
   names ← names_of step (codes "at" ∷ codes "do" ∷ []) more d
   at ← identity_of step (get (codes "at") d)
-  Ok (Flush at)
+  Ok (Ask at Flush)
 
 unfoldable pub gossip_of : List (List ℕ) → ℕ → Data → Result Step Rule
 gossip_of more step d = do
   names ← names_of step (codes "at" ∷ codes "do" ∷ codes "to" ∷ []) more d
   at ← identity_of step (get (codes "at") d)
   to ← identity_of step (get (codes "to") d)
-  Ok (Gossip at to)
+  Ok (Ask at (Gossip to))
 
 unfoldable pub deliver_of : ℕ → Data → Result Step Rule
 deliver_of step d = do
@@ -67,7 +68,7 @@ unfoldable pub tick_of : List (List ℕ) → ℕ → Data → Result Step Rule
 tick_of more step d = do
   names ← names_of step (codes "at" ∷ codes "do" ∷ []) more d
   at ← identity_of step (get (codes "at") d)
-  Ok (Tick at)
+  Ok (Ask at Tick)
 
 unfoldable pub timeout_of : ℕ → Data → Result Step Rule
 timeout_of step d = do
@@ -99,7 +100,7 @@ install_of more step d = do
   names ← names_of step (codes "at" ∷ codes "do" ∷ codes "view" ∷ []) more d
   at ← identity_of step (get (codes "at") d)
   view ← number_of step (get (codes "view") d)
-  Ok (Install at view)
+  Ok (Ask at (Install view))
 
 unfoldable pub settle_of : ℕ → Data → Result Step Rule
 settle_of step d = do

@@ -7,3 +7,4 @@ pub mod Reading
 pub mod Refusals
 pub mod Rules
 pub mod WellFormed
+pub mod Meant

@@ -8,47 +8,42 @@ use Rattle.serde_json.specs.Read.{read}
 use Rattle.model_kinds.specs.declared.kind.Kind.{Kind}
 use Rattle.model_kinds.specs.declared.kind.Kind.TheVariants.{GCounter, PnCounter, GSet, Flag, LwwRegister, OrSet}
 use Rattle.script_reading.specs.declared.fault.Rule.{Rule}
-use Rattle.script_reading.specs.declared.clients.RunScript.{RunScript}
+use Rattle.script_reading.specs.declared.clients.Clients.{Clients}
+use Rattle.script_reading.specs.declared.clients.Clients.TheVariants.{Allowed, Refused}
 use Rattle.script_reading.specs.declared.clients.RunStep.{RunStep}
 use Rattle.script_reading.specs.declared.clients.RunStep.TheVariants.{Plain, Threads}
 use Rattle.script_reading.specs.declared.script.Script.{Script}
 use Rattle.script_reading.specs.declared.script.ScriptKey.{ScriptKey}
-use Rattle.script_reading.specs.declared.script.Step.{Step}
 use Rattle.script_reading.specs.Fields.{rule, ◌>>=◌, guard, required, are_objects, has_names, flag_of, whole_of, text_of, list_of, key_of}
 pub use Rattle.script_reading.specs.Forms.{update_of, get_of, flush_of, gossip_of, deliver_of, lose_of, round_of, tick_of, timeout_of, remove_of, join_of, restart_of, install_of, settle_of, plain_of}
 use Rattle.script_reading.specs.Clients.{threads_of}
 
 -- ---- steps
 
--- a step of a script that may have clients
-abbrev pub run_step_by : ℕ → Data → List ℕ → Result RunStep Rule
-run_step_by step d name =
+-- a step, with clients or without
+abbrev pub form_by : ℕ → Data → List ℕ → Result RunStep Rule
+form_by step d name =
     if bytes_eq name (codes "threads") then threads_of step d >>= (λ clients. Ok (Threads clients)) else
     plain_of [] step d >>= (λ plain. Ok (Plain plain))
 
-unfoldable pub run_step_of : ℕ → Data → Result RunStep Rule
-run_step_of step d = text_of (rule step 5) (get (codes "do") d) >>= run_step_by step d
+unfoldable pub form_of : ℕ → Data → Result RunStep Rule
+form_of step d = text_of (rule step 5) (get (codes "do") d) >>= form_by step d
 
--- a thread step stands in no other script
-abbrev pub if_plain : Rule → RunStep → Result Step Rule
-if_plain rule (Plain step) = Ok step
-if_plain rule (Threads clients) = Err rule
+-- a thread step stands in no script that may have no clients
+abbrev pub if_allowed : Clients → Rule → RunStep → Result RunStep Rule
+if_allowed clients rule (Plain step) = Ok (Plain step)
+if_allowed Allowed rule (Threads clients) = Ok (Threads clients)
+if_allowed Refused rule (Threads clients) = Err rule
 
-unfoldable pub step_of : ℕ → Data → Result Step Rule
-step_of step d = run_step_of step d >>= if_plain (rule step 14)
+unfoldable pub step_of : Clients → ℕ → Data → Result RunStep Rule
+step_of clients step d = form_of step d >>= if_allowed clients (rule step 14)
 
 -- the steps, after those before them
-unfoldable pub steps_after : List Step → Items → Result (List Step) Rule
-steps_after before no_items = Ok before
-steps_after before (item d ds) = do
-  step ← step_of (length before + 1) d
-  steps_after (before ++ step ∷ []) ds
-
-unfoldable pub run_steps_after : List RunStep → Items → Result (List RunStep) Rule
-run_steps_after before no_items = Ok before
-run_steps_after before (item d ds) = do
-  step ← run_step_of (length before + 1) d
-  run_steps_after (before ++ step ∷ []) ds
+unfoldable pub steps_after : Clients → List RunStep → Items → Result (List RunStep) Rule
+steps_after clients before no_items = Ok before
+steps_after clients before (item d ds) = do
+  step ← step_of clients (length before + 1) d
+  steps_after clients (before ++ step ∷ []) ds
 
 -- ---- keys
 
@@ -102,25 +97,14 @@ opening_of d = do
   Ok (members, keys)
 
 -- the rules of a script, in their order, and then those of its steps
-unfoldable pub script_of : Data → Result Script Rule
-script_of d = do
+unfoldable pub script_of : Clients → Data → Result Script Rule
+script_of clients d = do
   names ← guard (rule 0 1) (has_names (codes "keys" ∷ codes "members" ∷ codes "steps" ∷ []) [] d)
   members ← whole_of (rule 0 2) 1 8 (get (codes "members") d)
   keys_in ← list_of (rule 0 3) 1 16 (get (codes "keys") d)
   keys ← keys_after [] keys_in
   steps_in ← step_list_of d
-  steps ← steps_after [] steps_in
-  Ok (record { members = members; keys = keys; steps = steps })
-
--- the same of a script that may have clients
-unfoldable pub run_script_of : Data → Result RunScript Rule
-run_script_of d = do
-  names ← guard (rule 0 1) (has_names (codes "keys" ∷ codes "members" ∷ codes "steps" ∷ []) [] d)
-  members ← whole_of (rule 0 2) 1 8 (get (codes "members") d)
-  keys_in ← list_of (rule 0 3) 1 16 (get (codes "keys") d)
-  keys ← keys_after [] keys_in
-  steps_in ← step_list_of d
-  steps ← run_steps_after [] steps_in
+  steps ← steps_after clients [] steps_in
   Ok (record { members = members; keys = keys; steps = steps })
 
 -- ---- bytes
@@ -134,17 +118,9 @@ abbrev pub HasNoReading : List ℕ → Type 0
 HasNoReading bytes = IsUtf8 bytes → read bytes ≡ None
 
 -- these bytes spell this script
-abbrev pub Spells : List ℕ → Script → Type 0
-Spells bytes script = (d : Data) × Reads bytes d × (script_of d ≡ Ok script)
+abbrev pub Spells : Clients → List ℕ → Script → Type 0
+Spells clients bytes script = (d : Data) × Reads bytes d × (script_of clients d ≡ Ok script)
 
 -- these bytes are a JSON text, and this is the first rule of scripts that it breaks
-abbrev pub Breaks : List ℕ → Rule → Type 0
-Breaks bytes broken = (d : Data) × Reads bytes d × (script_of d ≡ Err broken)
-
--- these bytes spell this script, which may have clients
-abbrev pub SpellsRun : List ℕ → RunScript → Type 0
-SpellsRun bytes script = (d : Data) × Reads bytes d × (run_script_of d ≡ Ok script)
-
--- these bytes are a JSON text, and this is the first rule of scripts that may have clients that it breaks
-abbrev pub BreaksRun : List ℕ → Rule → Type 0
-BreaksRun bytes broken = (d : Data) × Reads bytes d × (run_script_of d ≡ Err broken)
+abbrev pub Breaks : Clients → List ℕ → Rule → Type 0
+Breaks clients bytes broken = (d : Data) × Reads bytes d × (script_of clients d ≡ Err broken)

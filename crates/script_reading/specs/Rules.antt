@@ -2,9 +2,10 @@
 use Rattle.std.specs.Prelude.{◌≡◌, ℕ, zero, suc, ◌<◌, [], ◌∷◌, codes, true, Result, Ok, Err}
 use Rattle.serde_json.specs.Data.{Data, Items, no_items, item}
 use Rattle.serde_json.specs.Find.{get}
+use Rattle.script_reading.specs.declared.clients.Clients.{Clients}
 use Rattle.script_reading.specs.declared.fault.Rule.{Rule}
 use Rattle.script_reading.specs.Fields.{rule, has_names, whole_of, list_of}
-use Rattle.script_reading.specs.Reading.{keys_after, step_list_of, step_of, run_step_of}
+use Rattle.script_reading.specs.Reading.{keys_after, step_list_of, step_of}
 
 abbrev pub IsRead : {X : Type 0} → Result X Rule → Type 0
 IsRead {X} read = (x : X) × (read ≡ Ok x)
@@ -17,13 +18,7 @@ pub record HoldBelow (n : ℕ) (d : Data) : Type 0 where
   pub steps : 4 < n → IsRead (step_list_of d)
 
 -- of these steps, the first of which has a number, so many are read, and the next one breaks the rule
-unfoldable pub IsFirstBroken : ℕ → ℕ → Rule → Items → Type 0
-IsFirstBroken first k broken no_items = ⊥
-IsFirstBroken first zero broken (item d ds) = step_of first d ≡ Err broken
-IsFirstBroken first (suc k) broken (item d ds) = IsRead (step_of first d) × IsFirstBroken (suc first) k broken ds
-
--- the same of the steps of a script that may have clients
-unfoldable pub IsFirstRunBroken : ℕ → ℕ → Rule → Items → Type 0
-IsFirstRunBroken first k broken no_items = ⊥
-IsFirstRunBroken first zero broken (item d ds) = run_step_of first d ≡ Err broken
-IsFirstRunBroken first (suc k) broken (item d ds) = IsRead (run_step_of first d) × IsFirstRunBroken (suc first) k broken ds
+unfoldable pub IsFirstBroken : Clients → ℕ → ℕ → Rule → Items → Type 0
+IsFirstBroken clients first k broken no_items = ⊥
+IsFirstBroken clients first zero broken (item d ds) = step_of clients first d ≡ Err broken
+IsFirstBroken clients first (suc k) broken (item d ds) = IsRead (step_of clients first d) × IsFirstBroken clients (suc first) k broken ds

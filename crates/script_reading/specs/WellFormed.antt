@@ -6,15 +6,17 @@ use Rattle.member_quorum.specs.declared.level.Level.{Level}
 use Rattle.member_quorum.specs.declared.level.Level.TheVariants as level
 use Rattle.script_reading.specs.Clients.{count_of}
 use Rattle.script_reading.specs.declared.clients.Command.{Command}
-use Rattle.script_reading.specs.declared.clients.Command.TheVariants as command
 use Rattle.script_reading.specs.declared.clients.Repeated.{Repeated}
-use Rattle.script_reading.specs.declared.clients.RunScript.{RunScript}
+use Rattle.script_reading.specs.declared.clients.Clients.{Clients}
+use Rattle.script_reading.specs.declared.clients.Clients.TheVariants.{Allowed, Refused}
 use Rattle.script_reading.specs.declared.clients.RunStep.{RunStep}
 use Rattle.script_reading.specs.declared.clients.RunStep.TheVariants.{Plain, Threads}
 use Rattle.script_reading.specs.declared.script.Script.{Script}
 use Rattle.script_reading.specs.declared.script.ScriptKey.{ScriptKey}
 use Rattle.script_reading.specs.declared.script.Step.{Step}
-use Rattle.script_reading.specs.declared.script.Step.TheVariants.{Update, Get, Flush, Gossip, Deliver, Lose, Round, Tick, Timeout, Remove, Join, Restart, Install, Settle}
+use Rattle.script_reading.specs.declared.ask.Ask as asks
+use Rattle.script_reading.specs.declared.ask.Ask.TheVariants.{Update, Get, Flush, Gossip, Tick, Install}
+use Rattle.script_reading.specs.declared.script.Step.TheVariants.{Ask, Deliver, Lose, Round, Timeout, Remove, Join, Restart, Settle}
 
 -- what a counter takes at once
 abbrev pub IsAmount : ℕ → Type 0
@@ -55,29 +57,25 @@ IsPlace place = place < 8
 abbrev pub IsNumber : ℕ → Type 0
 IsNumber op = op < 2 ^ 32
 
+abbrev pub IsAsk : asks.Ask → Type 0
+IsAsk (Update key op level) = IsOperation op × IsLevel level
+IsAsk (Get key level) = IsLevel level
+IsAsk (Gossip to) = IsIdentity to
+IsAsk _ = ⊤
+
 abbrev pub IsStep : Step → Type 0
-IsStep (Update at key op level) = IsIdentity at × IsOperation op × IsLevel level
-IsStep (Get at key level) = IsIdentity at × IsLevel level
-IsStep (Flush at) = IsIdentity at
-IsStep (Gossip at to) = IsIdentity at × IsIdentity to
+IsStep (Ask at ask) = IsIdentity at × IsAsk ask
 IsStep (Deliver from to index) = IsIdentity from × IsIdentity to
 IsStep (Lose from to) = IsIdentity from × IsIdentity to
 IsStep Round = ⊤
-IsStep (Tick at) = IsIdentity at
 IsStep (Timeout at op) = IsIdentity at × IsNumber op
 IsStep (Remove id) = IsIdentity id
 IsStep (Join place) = IsPlace place
 IsStep (Restart id) = IsIdentity id
-IsStep (Install at view) = IsIdentity at
 IsStep Settle = ⊤
 
 abbrev pub IsCommand : Command → Type 0
-IsCommand (command.Update at key op level) = IsIdentity at × IsOperation op × IsLevel level
-IsCommand (command.Get at key level) = IsIdentity at × IsLevel level
-IsCommand (command.Flush at) = IsIdentity at
-IsCommand (command.Gossip at to) = IsIdentity at × IsIdentity to
-IsCommand (command.Tick at) = IsIdentity at
-IsCommand (command.Install at view) = IsIdentity at
+IsCommand command = IsIdentity command.at × IsAsk command.ask
 
 abbrev pub IsRepeated : Repeated → Type 0
 IsRepeated c = IsCommand c.command × (1 ≤ c.times) × (c.times ≤ 1024)
@@ -97,6 +95,15 @@ abbrev pub IsRunStep : RunStep → Type 0
 IsRunStep (Plain step) = IsStep step
 IsRunStep (Threads clients) = AreClients clients
 
+-- it has no clients, where none are allowed
+abbrev pub IsAllowed : Clients → RunStep → Type 0
+IsAllowed clients (Plain step) = ⊤
+IsAllowed Allowed (Threads clients) = ⊤
+IsAllowed Refused (Threads clients) = ⊥
+
+abbrev pub HasNoClients : Script → Type 0
+HasNoClients script = All (IsAllowed Refused) script.steps
+
 -- members and keys within their bounds, and names that differ
 pub record IsOpening (opening : ℕ × List ScriptKey) : Type 0 where
   pub members : (1 ≤ opening.0) × (opening.0 ≤ 8)
@@ -105,14 +112,6 @@ pub record IsOpening (opening : ℕ × List ScriptKey) : Type 0 where
 
 -- members and keys within their bounds, names that differ, and steps within their bounds
 pub record IsWellFormed (script : Script) : Type 0 where
-  pub members : (1 ≤ script.members) × (script.members ≤ 8)
-  pub key_count : (1 ≤ length script.keys) × (length script.keys ≤ 16)
-  pub key_names : AllPairs (λ a b. a.key ≢ b.key) script.keys
-  pub step_count : length script.steps ≤ 4096
-  pub steps : All IsStep script.steps
-
--- the same of a script that may have clients
-pub record IsWellFormedRun (script : RunScript) : Type 0 where
   pub members : (1 ≤ script.members) × (script.members ≤ 8)
   pub key_count : (1 ≤ length script.keys) × (length script.keys ≤ 16)
   pub key_names : AllPairs (λ a b. a.key ≢ b.key) script.keys

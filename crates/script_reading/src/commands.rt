@@ -16,13 +16,13 @@ use serde_json::Value;
 use std::alloc::Global;
 
 /// The most clients of a thread step.
-const MOST_CLIENTS: usize = 8;
+pub const MOST_CLIENTS: usize = 8;
 
 /// The most commands of a client.
-const MOST_COMMANDS: usize = 1024;
+pub const MOST_COMMANDS: usize = 1024;
 
 /// The most times that a command stands.
-const MOST_TIMES: u64 = 1024;
+pub const MOST_TIMES: u64 = 1024;
 
 /// The most commands of a client, counted with their times.
 const MOST_COUNTED: u32 = 1024;
@@ -33,25 +33,19 @@ fn command_in(step: Step) -> Option<Command>
     ensures bounds { IsStep step → (command : Command) → result ≡ Some command → IsCommand command }
 {
     match step {
-        Step::Update { at, key, op, level } => Some(Command::Update { at, key, op, level }),
-        Step::Get { at, key, level } => Some(Command::Get { at, key, level }),
-        Step::Flush { at } => Some(Command::Flush { at }),
-        Step::Gossip { at, to } => Some(Command::Gossip { at, to }),
-        Step::Tick { at } => Some(Command::Tick { at }),
-        Step::Install { at, view } => Some(Command::Install { at, view }),
+        Step::Ask { at, ask } => Some(Command { at, ask }),
         _ => None,
     }
 }
 
 /// The step that a command is like. Whatever rule it breaks, this one is told.
-fn asked(alloc: Global, step: u32, value: &Value, rule: Rule) -> Result<Step, Fault>
-    ensures value { Gives (λ s. s) result (told_as rule (plain_of (codes "times" ∷ []) step (view value.now))) }
+fn asked(step: u32, value: &Value, rule: Rule) -> Result<Step, Rule>
+    ensures value { result ≡ told_as rule (plain_of (codes "times" ∷ []) step (view value.now)) }
     ensures bounds { IfOk result IsStep }
 {
-    match plain(alloc, step, value, &["times"]) {
+    match plain(step, value, &["times"]) {
         Ok(form) => Ok(form),
-        Err(Fault::Breaks(_)) => Err(Fault::Breaks(rule)),
-        Err(Fault::Memory) => Err(Fault::Memory),
+        Err(_) => Err(rule),
     }
 }
 
@@ -68,14 +62,14 @@ fn times(value: &Value, rule: Rule) -> Result<u32, Rule>
 
 /// One command of a client.
 #[tactic(auto, unfolding(crate::specs::Clients::command_of))]
-fn one_command(alloc: Global, step: u32, value: &Value) -> Result<Repeated, Fault>
-    ensures value { Gives (λ c. c) result (command_of step (view value.now)) }
+fn one_command(step: u32, value: &Value) -> Result<Repeated, Rule>
+    ensures value { result ≡ command_of step (view value.now) }
     ensures bounds { IfOk result IsRepeated }
 {
     let rule = Rule { step, number: 13 };
-    let form = asked(alloc, step, value, rule)?;
+    let form = asked(step, value, rule)?;
     let Some(command) = command_in(form) else {
-        return Err(Fault::Breaks(rule));
+        return Err(rule);
     };
     let times = times(value, rule)?;
     Ok(Repeated { command, times })
@@ -90,7 +84,7 @@ fn all_commands(alloc: Global, step: u32, list: &[Value]) -> Result<Client, Faul
 {
     let mut commands = Items::new(alloc);
     for value in list {
-        let command = one_command(alloc, step, value)?;
+        let command = one_command(step, value)?;
         commands.push(command)?;
     }
     Ok(commands)

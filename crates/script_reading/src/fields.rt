@@ -3,30 +3,29 @@ ghost use Rattle.std.specs.List.{list_all, count_by};
 ghost use Rattle.serde_json.specs.Find.{get, as_object};
 ghost use Rattle.serde_json.specs.Events.{items_len};
 ghost use Rattle.serde_json.specs.View.{view, items_view};
-ghost use Rattle.script_reading.specs.Fields.{Finds, Gives, whole_of, identity_of, place_of, number_of, amount_of, moment_of, text_of, if_short, array_of, list_of, key_of, is_key_byte, is_key_name, are_objects, is_given, if_given, flag_of, has_names, names_of, name_count};
+ghost use Rattle.script_reading.specs.Fields.{Finds, whole_of, identity_of, place_of, number_of, amount_of, moment_of, text_of, if_short, array_of, list_of, key_of, is_key_byte, is_key_name, are_objects, is_given, if_given, flag_of, has_names, names_of, name_count};
 ghost use Rattle.script_reading.specs.WellFormed.{IsIdentity, IsPlace, IsAmount, IsMoment, IsShort};
 
-use crate::fault::{Fault, Rule};
-use base_bytes::{Text, TextError};
+use crate::fault::Rule;
+use base_bytes::Text;
 use base_vectors::Id;
 use model_kinds::Moment;
 use serde_json::Value;
-use std::alloc::Global;
 
 /// The greatest amount that is added or taken at once.
-const MOST_ADDED: u64 = 0x7fff_ffff_ffff_ffff;
+pub const MOST_ADDED: u64 = 0x7fff_ffff_ffff_ffff;
 
 /// The greatest moment of a writer's clock.
-const LAST_MOMENT: u64 = 0x7fff_ffff_ffff_ffff;
+pub const LAST_MOMENT: u64 = 0x7fff_ffff_ffff_ffff;
 
 /// The greatest identity.
-const LAST_IDENTITY: u64 = 63;
+pub const LAST_IDENTITY: u64 = 63;
 
 /// The last place.
-const LAST_PLACE: u64 = 7;
+pub const LAST_PLACE: u64 = 7;
 
 /// The greatest number of a message on a link, of a view, and of an operation that a step names.
-const LAST_NUMBER: u64 = 0xffff_ffff;
+pub const LAST_NUMBER: u64 = 0xffff_ffff;
 
 /// The whole number under a name, if it is within the bounds.
 pub fn whole(value: &Value, name: &str, low: u64, high: u64, rule: Rule) -> Result<u64, Rule>
@@ -122,14 +121,13 @@ pub fn text<'v>(value: &'v Value, name: &str, rule: Rule) -> Result<&'v str, Rul
 }
 
 /// The text itself, if it is short enough for an element.
-pub fn short(alloc: Global, text: &str, rule: Rule) -> Result<Text, Fault>
-    ensures value { Gives (λ t. t) result (if_short rule text.now) }
+pub fn short(text: &str, rule: Rule) -> Result<Text, Rule>
+    ensures value { result ≡ if_short rule text.now }
     ensures bounds { IfOk result IsShort }
 {
-    match Text::new(alloc, text) {
+    match Text::new(text) {
         Ok(short) => Ok(short),
-        Err(TextError::TooLong) => Err(Fault::Breaks(rule)),
-        Err(TextError::Memory) => Err(Fault::Memory),
+        Err(_) => Err(rule),
     }
 }
 
@@ -145,7 +143,8 @@ fn has_key_bytes(text: &str) -> bool
     text.as_bytes().iter().all(|b| is_key_byte(*b))
 }
 
-fn is_key_name(text: &str) -> bool
+/// Whether the text is a key name: 1 to 32 bytes of `a` to `z`, `0` to `9`, `_` and `-`.
+pub fn is_key_name(text: &str) -> bool
     ensures { result ≡ is_key_name text.now }
 {
     let count = text.len();
@@ -153,16 +152,16 @@ fn is_key_name(text: &str) -> bool
 }
 
 /// The key's name under a name.
-pub fn key(alloc: Global, value: &Value, name: &str, rule: Rule) -> Result<Text, Fault>
-    ensures { Gives (λ key. key) result (key_of rule (get name.now (view value.now))) }
+pub fn key(value: &Value, name: &str, rule: Rule) -> Result<Text, Rule>
+    ensures { result ≡ key_of rule (get name.now (view value.now)) }
 {
     let text = text(value, name, rule)?;
     if !is_key_name(text) {
-        return Err(Fault::Breaks(rule));
+        return Err(rule);
     }
-    match Text::new(alloc, text) {
+    match Text::new(text) {
         Ok(key) => Ok(key),
-        Err(_) => Err(Fault::Memory),
+        Err(_) => unreachable!(),
     }
 }
 

@@ -1,70 +1,75 @@
 ghost use Rattle.std.specs.Prelude.{◌≡◌, map, IfOk};
 ghost use Rattle.serde_json.specs.View.{view};
-ghost use Rattle.script_reading.specs.Fields.{Gives};
 ghost use Rattle.script_reading.specs.Forms.{update_of, get_of, flush_of, gossip_of, deliver_of, lose_of, round_of, tick_of, timeout_of, remove_of, join_of, restart_of, install_of, settle_of, plain_of};
 ghost use Rattle.script_reading.specs.WellFormed.{IsStep};
 
-use crate::fault::{Fault, Rule};
+use crate::ask::Ask;
+use crate::fault::Rule;
 use crate::fields::{identity, index, key, number, place, step_names, text};
 use crate::levels::level;
 use crate::operations::{op_named, operation, update_names};
 use crate::script::Step;
 use serde_json::Value;
-use std::alloc::Global;
 
 #[tactic(auto, unfolding(crate::specs::Forms::update_of))]
-fn update(alloc: Global, step: u32, value: &Value, more: &[&str]) -> Result<Step, Fault>
-    ensures value { Gives (λ s. s) result (update_of (map (λ name. name.now) more.now) step (view value.now)) }
+fn update(step: u32, value: &Value, more: &[&str]) -> Result<Step, Rule>
+    ensures value { result ≡ update_of (map (λ name. name.now) more.now) step (view value.now) }
     ensures bounds { IfOk result IsStep }
 {
     let name = text(value, "op", Rule { step, number: 5 })?;
     let Some(form) = op_named(name) else {
-        return Err(Fault::Breaks(Rule { step, number: 5 }));
+        return Err(Rule { step, number: 5 });
     };
     update_names(value, form, more, step)?;
     let at = identity(value, "at", step)?;
-    let key = key(alloc, value, "key", Rule { step, number: 8 })?;
-    let op = operation(alloc, step, form, value)?;
+    let key = key(value, "key", Rule { step, number: 8 })?;
+    let op = operation(step, form, value)?;
     let level = level(value, step)?;
-    Ok(Step::Update { at, key, op, level })
+    let ask = Ask::Update { key, op, level };
+    Ok(Step::Ask { at, ask })
 }
 
 #[tactic(auto, unfolding(crate::specs::Forms::get_of))]
-fn get(alloc: Global, step: u32, value: &Value, more: &[&str]) -> Result<Step, Fault>
-    ensures value { Gives (λ s. s) result (get_of (map (λ name. name.now) more.now) step (view value.now)) }
+fn get(step: u32, value: &Value, more: &[&str]) -> Result<Step, Rule>
+    ensures value { result ≡ get_of (map (λ name. name.now) more.now) step (view value.now) }
     ensures bounds { IfOk result IsStep }
 {
     step_names(value, &["at", "do", "key"], &["level"], more, step)?;
     let at = identity(value, "at", step)?;
-    let key = key(alloc, value, "key", Rule { step, number: 8 })?;
+    let key = key(value, "key", Rule { step, number: 8 })?;
     let level = level(value, step)?;
-    Ok(Step::Get { at, key, level })
+    let ask = Ask::Get { key, level };
+    Ok(Step::Ask { at, ask })
 }
 
 #[tactic(auto, unfolding(crate::specs::Forms::flush_of))]
-fn flush(step: u32, value: &Value, more: &[&str]) -> Result<Step, Fault>
-    ensures value { Gives (λ s. s) result (flush_of (map (λ name. name.now) more.now) step (view value.now)) }
+fn flush(step: u32, value: &Value, more: &[&str]) -> Result<Step, Rule>
+    ensures value { result ≡ flush_of (map (λ name. name.now) more.now) step (view value.now) }
     ensures bounds { IfOk result IsStep }
 {
     step_names(value, &["at", "do"], &[], more, step)?;
     let at = identity(value, "at", step)?;
-    Ok(Step::Flush { at })
+    Ok(Step::Ask {
+        at,
+        ask: Ask::Flush,
+    })
 }
 
 #[tactic(auto, unfolding(crate::specs::Forms::gossip_of))]
-fn gossip(step: u32, value: &Value, more: &[&str]) -> Result<Step, Fault>
-    ensures value { Gives (λ s. s) result (gossip_of (map (λ name. name.now) more.now) step (view value.now)) }
+fn gossip(step: u32, value: &Value, more: &[&str]) -> Result<Step, Rule>
+    ensures value { result ≡ gossip_of (map (λ name. name.now) more.now) step (view value.now) }
     ensures bounds { IfOk result IsStep }
 {
     step_names(value, &["at", "do", "to"], &[], more, step)?;
     let at = identity(value, "at", step)?;
     let to = identity(value, "to", step)?;
-    Ok(Step::Gossip { at, to })
+    let ask = Ask::Gossip { to };
+    Ok(Step::Ask { at, ask })
 }
 
 #[tactic(auto, unfolding(crate::specs::Forms::deliver_of))]
-fn deliver(step: u32, value: &Value) -> Result<Step, Fault>
-    ensures value { Gives (λ s. s) result (deliver_of step (view value.now)) }
+fn deliver(step: u32, value: &Value) -> Result<Step, Rule>
+    ensures value { result ≡ deliver_of step (view value.now) }
     ensures bounds { IfOk result IsStep }
 {
     step_names(value, &["do", "from", "to"], &["index"], &[], step)?;
@@ -75,8 +80,8 @@ fn deliver(step: u32, value: &Value) -> Result<Step, Fault>
 }
 
 #[tactic(auto, unfolding(crate::specs::Forms::lose_of))]
-fn lose(step: u32, value: &Value) -> Result<Step, Fault>
-    ensures value { Gives (λ s. s) result (lose_of step (view value.now)) }
+fn lose(step: u32, value: &Value) -> Result<Step, Rule>
+    ensures value { result ≡ lose_of step (view value.now) }
     ensures bounds { IfOk result IsStep }
 {
     step_names(value, &["do", "from", "to"], &[], &[], step)?;
@@ -86,8 +91,8 @@ fn lose(step: u32, value: &Value) -> Result<Step, Fault>
 }
 
 #[tactic(auto, unfolding(crate::specs::Forms::round_of))]
-fn round(step: u32, value: &Value) -> Result<Step, Fault>
-    ensures value { Gives (λ s. s) result (round_of step (view value.now)) }
+fn round(step: u32, value: &Value) -> Result<Step, Rule>
+    ensures value { result ≡ round_of step (view value.now) }
     ensures bounds { IfOk result IsStep }
 {
     step_names(value, &["do"], &[], &[], step)?;
@@ -95,18 +100,18 @@ fn round(step: u32, value: &Value) -> Result<Step, Fault>
 }
 
 #[tactic(auto, unfolding(crate::specs::Forms::tick_of))]
-fn tick(step: u32, value: &Value, more: &[&str]) -> Result<Step, Fault>
-    ensures value { Gives (λ s. s) result (tick_of (map (λ name. name.now) more.now) step (view value.now)) }
+fn tick(step: u32, value: &Value, more: &[&str]) -> Result<Step, Rule>
+    ensures value { result ≡ tick_of (map (λ name. name.now) more.now) step (view value.now) }
     ensures bounds { IfOk result IsStep }
 {
     step_names(value, &["at", "do"], &[], more, step)?;
     let at = identity(value, "at", step)?;
-    Ok(Step::Tick { at })
+    Ok(Step::Ask { at, ask: Ask::Tick })
 }
 
 #[tactic(auto, unfolding(crate::specs::Forms::timeout_of))]
-fn timeout(step: u32, value: &Value) -> Result<Step, Fault>
-    ensures value { Gives (λ s. s) result (timeout_of step (view value.now)) }
+fn timeout(step: u32, value: &Value) -> Result<Step, Rule>
+    ensures value { result ≡ timeout_of step (view value.now) }
     ensures bounds { IfOk result IsStep }
 {
     step_names(value, &["at", "do", "op"], &[], &[], step)?;
@@ -116,8 +121,8 @@ fn timeout(step: u32, value: &Value) -> Result<Step, Fault>
 }
 
 #[tactic(auto, unfolding(crate::specs::Forms::remove_of))]
-fn remove(step: u32, value: &Value) -> Result<Step, Fault>
-    ensures value { Gives (λ s. s) result (remove_of step (view value.now)) }
+fn remove(step: u32, value: &Value) -> Result<Step, Rule>
+    ensures value { result ≡ remove_of step (view value.now) }
     ensures bounds { IfOk result IsStep }
 {
     step_names(value, &["do", "id"], &[], &[], step)?;
@@ -126,8 +131,8 @@ fn remove(step: u32, value: &Value) -> Result<Step, Fault>
 }
 
 #[tactic(auto, unfolding(crate::specs::Forms::join_of))]
-fn join(step: u32, value: &Value) -> Result<Step, Fault>
-    ensures value { Gives (λ s. s) result (join_of step (view value.now)) }
+fn join(step: u32, value: &Value) -> Result<Step, Rule>
+    ensures value { result ≡ join_of step (view value.now) }
     ensures bounds { IfOk result IsStep }
 {
     step_names(value, &["do", "place"], &[], &[], step)?;
@@ -136,8 +141,8 @@ fn join(step: u32, value: &Value) -> Result<Step, Fault>
 }
 
 #[tactic(auto, unfolding(crate::specs::Forms::restart_of))]
-fn restart(step: u32, value: &Value) -> Result<Step, Fault>
-    ensures value { Gives (λ s. s) result (restart_of step (view value.now)) }
+fn restart(step: u32, value: &Value) -> Result<Step, Rule>
+    ensures value { result ≡ restart_of step (view value.now) }
     ensures bounds { IfOk result IsStep }
 {
     step_names(value, &["do", "id"], &[], &[], step)?;
@@ -146,19 +151,20 @@ fn restart(step: u32, value: &Value) -> Result<Step, Fault>
 }
 
 #[tactic(auto, unfolding(crate::specs::Forms::install_of))]
-fn install(step: u32, value: &Value, more: &[&str]) -> Result<Step, Fault>
-    ensures value { Gives (λ s. s) result (install_of (map (λ name. name.now) more.now) step (view value.now)) }
+fn install(step: u32, value: &Value, more: &[&str]) -> Result<Step, Rule>
+    ensures value { result ≡ install_of (map (λ name. name.now) more.now) step (view value.now) }
     ensures bounds { IfOk result IsStep }
 {
     step_names(value, &["at", "do", "view"], &[], more, step)?;
     let at = identity(value, "at", step)?;
     let view = number(value, "view", step)?;
-    Ok(Step::Install { at, view })
+    let ask = Ask::Install { view };
+    Ok(Step::Ask { at, ask })
 }
 
 #[tactic(auto, unfolding(crate::specs::Forms::settle_of))]
-fn settle(step: u32, value: &Value) -> Result<Step, Fault>
-    ensures value { Gives (λ s. s) result (settle_of step (view value.now)) }
+fn settle(step: u32, value: &Value) -> Result<Step, Rule>
+    ensures value { result ≡ settle_of step (view value.now) }
     ensures bounds { IfOk result IsStep }
 {
     step_names(value, &["do"], &[], &[], step)?;
@@ -167,13 +173,13 @@ fn settle(step: u32, value: &Value) -> Result<Step, Fault>
 
 /// A step that a script makes by itself. One that clients may be given too may have more names.
 #[tactic(auto, unfolding(crate::specs::Forms::plain_of))]
-pub fn plain(alloc: Global, step: u32, value: &Value, more: &[&str]) -> Result<Step, Fault>
-    ensures value { Gives (λ s. s) result (plain_of (map (λ name. name.now) more.now) step (view value.now)) }
+pub fn plain(step: u32, value: &Value, more: &[&str]) -> Result<Step, Rule>
+    ensures value { result ≡ plain_of (map (λ name. name.now) more.now) step (view value.now) }
     ensures bounds { IfOk result IsStep }
 {
     match text(value, "do", Rule { step, number: 5 })? {
-        "update" => update(alloc, step, value, more),
-        "get" => get(alloc, step, value, more),
+        "update" => update(step, value, more),
+        "get" => get(step, value, more),
         "flush" => flush(step, value, more),
         "gossip" => gossip(step, value, more),
         "deliver" => deliver(step, value),
@@ -186,6 +192,6 @@ pub fn plain(alloc: Global, step: u32, value: &Value, more: &[&str]) -> Result<S
         "restart" => restart(step, value),
         "install" => install(step, value, more),
         "settle" => settle(step, value),
-        _ => Err(Fault::Breaks(Rule { step, number: 5 })),
+        _ => Err(Rule { step, number: 5 }),
     }
 }

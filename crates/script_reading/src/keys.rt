@@ -16,7 +16,8 @@ use std::alloc::Global;
 
 const KEYS: Rule = Rule { step: 0, number: 3 };
 
-fn kind_named(name: &str) -> Option<Kind>
+/// The kind of a name.
+pub fn kind_named(name: &str) -> Option<Kind>
     ensures { result ≡ kind_named name.now }
 {
     match name {
@@ -48,16 +49,16 @@ fn is_among(key: &Text, before: &[ScriptKey]) -> bool
 }
 
 #[tactic(auto, unfolding(crate::specs::Reading::key_decl))]
-fn one_key(alloc: Global, before: &[ScriptKey], value: &Value) -> Result<ScriptKey, Fault>
-    ensures value { Gives (λ k. k) result (key_decl before.now (view value.now)) }
+fn one_key(before: &[ScriptKey], value: &Value) -> Result<ScriptKey, Rule>
+    ensures value { result ≡ key_decl before.now (view value.now) }
     ensures new { IfOk result (λ k. list_any (λ other. bytes_eq other.key k.key) before.now ≡ false) }
 {
     if !has_names(value, &["key", "kind"], &["durable"]) {
-        return Err(Fault::Breaks(KEYS));
+        return Err(KEYS);
     }
-    let key = key(alloc, value, "key", KEYS)?;
+    let key = key(value, "key", KEYS)?;
     if is_among(&key, before) {
-        return Err(Fault::Breaks(KEYS));
+        return Err(KEYS);
     }
     let kind = kind(value)?;
     let durable = flag(value, "durable", KEYS)?;
@@ -73,7 +74,7 @@ pub fn all_keys(alloc: Global, list: &[Value]) -> Result<Items<ScriptKey>, Fault
 {
     let mut keys = Items::new(alloc);
     for value in list {
-        let key = one_key(alloc, keys.as_slice(), value)?;
+        let key = one_key(keys.as_slice(), value)?;
         keys.push(key)?;
     }
     Ok(keys)

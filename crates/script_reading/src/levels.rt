@@ -10,7 +10,7 @@ use member_quorum::Level;
 use serde_json::Value;
 
 /// The greatest number of members that a level names.
-const MOST_NAMED: u64 = 64;
+pub const MOST_NAMED: u64 = 64;
 
 /// The level of a word.
 fn level_named(name: &str) -> Option<Level>

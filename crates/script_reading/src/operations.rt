@@ -1,15 +1,14 @@
 ghost use Rattle.std.specs.Prelude.{◌≡◌, ◌∷◌, codes, map, IfOk};
 ghost use Rattle.serde_json.specs.View.{view};
-ghost use Rattle.script_reading.specs.Fields.{names_of, Gives};
+ghost use Rattle.script_reading.specs.Fields.{names_of};
 ghost use Rattle.script_reading.specs.Operations.{op_named, update_names, element_of, assign_of, op_of};
 ghost use Rattle.script_reading.specs.WellFormed.{IsOperation, IsShort};
 
-use crate::fault::{Fault, Rule};
+use crate::fault::Rule;
 use crate::fields::{amount, moment, short, step_names, text};
 use base_bytes::Text;
 use model_kinds::Op;
 use serde_json::Value;
-use std::alloc::Global;
 
 /// The name of an operation.
 #[derive(Clone, Copy, Debug, PartialEq, Eq)]
@@ -75,38 +74,38 @@ pub fn update_names(value: &Value, form: OpName, more: &[&str], step: u32) -> Re
 
 /// The element of an update.
 #[tactic(auto, unfolding(crate::specs::Operations::element_of))]
-fn element(alloc: Global, step: u32, value: &Value) -> Result<Text, Fault>
-    ensures value { Gives (λ e. e) result (element_of step (view value.now)) }
+fn element(step: u32, value: &Value) -> Result<Text, Rule>
+    ensures value { result ≡ element_of step (view value.now) }
     ensures bounds { IfOk result IsShort }
 {
     let text = text(value, "element", Rule { step, number: 9 })?;
-    short(alloc, text, Rule { step, number: 11 })
+    short(text, Rule { step, number: 11 })
 }
 
 /// The text of a register and the clock of its writer.
 #[tactic(auto, unfolding(crate::specs::Operations::assign_of))]
-fn assign(alloc: Global, step: u32, value: &Value) -> Result<Op, Fault>
-    ensures value { Gives (λ op. op) result (assign_of step (view value.now)) }
+fn assign(step: u32, value: &Value) -> Result<Op, Rule>
+    ensures value { result ≡ assign_of step (view value.now) }
     ensures bounds { IfOk result IsOperation }
 {
     let text = text(value, "text", Rule { step, number: 9 })?;
     let now = moment(value, "now", step)?;
-    let text = short(alloc, text, Rule { step, number: 11 })?;
+    let text = short(text, Rule { step, number: 11 })?;
     Ok(Op::Assign { text, now })
 }
 
 /// The operation of an update.
 #[tactic(auto, unfolding(crate::specs::Operations::op_of))]
-pub fn operation(alloc: Global, step: u32, form: OpName, value: &Value) -> Result<Op, Fault>
-    ensures value { Gives (λ op. op) result (op_of step form (view value.now)) }
+pub fn operation(step: u32, form: OpName, value: &Value) -> Result<Op, Rule>
+    ensures value { result ≡ op_of step form (view value.now) }
     ensures bounds { IfOk result IsOperation }
 {
     match form {
         OpName::Increment => Ok(Op::Increment(amount(value, "by", step)?)),
         OpName::Decrement => Ok(Op::Decrement(amount(value, "by", step)?)),
-        OpName::Add => Ok(Op::Add(element(alloc, step, value)?)),
-        OpName::Remove => Ok(Op::Remove(element(alloc, step, value)?)),
+        OpName::Add => Ok(Op::Add(element(step, value)?)),
+        OpName::Remove => Ok(Op::Remove(element(step, value)?)),
         OpName::Enable => Ok(Op::Enable),
-        OpName::Assign => assign(alloc, step, value),
+        OpName::Assign => assign(step, value),
     }
 }

@@ -1,17 +1,17 @@
-ghost use Rattle.std.specs.Prelude.{◌≡◌, ◌≤◌, length, IfOk, IfErr};
+ghost use Rattle.std.specs.Prelude.{◌≡◌, ◌≤◌, length, All, IfOk, IfErr};
 ghost use Rattle.serde_json.specs.Find.{get};
 ghost use Rattle.serde_json.specs.View.{view, items_view};
 ghost use Rattle.script_reading.specs.Fields.{Finds, Gives};
-ghost use Rattle.script_reading.specs.Reading.{step_list_of, opening_of, script_of, run_script_of, Reads, Spells, Breaks, SpellsRun, BreaksRun, HasNoReading};
+ghost use Rattle.script_reading.specs.Reading.{step_list_of, opening_of, script_of, Reads, Spells, Breaks, HasNoReading};
 ghost use Rattle.script_reading.specs.Refusals.{MatchError};
-ghost use Rattle.script_reading.specs.WellFormed.{IsOpening, IsWellFormed, IsWellFormedRun};
+ghost use Rattle.script_reading.specs.WellFormed.{IsOpening, IsAllowed, IsWellFormed};
 
-use crate::clients::RunScript;
+use crate::clients::Clients;
 use crate::fault::{Fault, Rule};
 use crate::fields::{are_objects, has_names, list, whole};
 use crate::keys::all_keys;
 use crate::script::{Script, ScriptKey};
-use crate::steps::{MOST_STEPS, all_run_steps, all_steps};
+use crate::steps::{MOST_STEPS, all_steps};
 use base_bytes::Items;
 use serde_json::Value;
 use std::alloc::Global;
@@ -31,11 +31,13 @@ const NAMES: Rule = Rule { step: 0, number: 1 };
 
 const MEMBERS: Rule = Rule { step: 0, number: 2 };
 
-const MOST_MEMBERS: u64 = 8;
+/// The most members that a script begins with.
+pub const MOST_MEMBERS: u64 = 8;
 
 const KEYS: Rule = Rule { step: 0, number: 3 };
 
-const MOST_KEYS: usize = 16;
+/// The most keys of a script.
+pub const MOST_KEYS: usize = 16;
 
 const STEPS: Rule = Rule { step: 0, number: 4 };
 
@@ -65,27 +67,14 @@ fn opening(alloc: Global, value: &Value) -> Result<(u8, Items<ScriptKey>), Fault
 }
 
 #[tactic(auto, using(crate::proofs::Openings::script_opens))]
-fn script(alloc: Global, value: &Value) -> Result<Script, Fault>
-    ensures value { Gives (λ s. s) result (script_of (view value.now)) }
+fn script(alloc: Global, clients: Clients, value: &Value) -> Result<Script, Fault>
+    ensures value { Gives (λ s. s) result (script_of clients (view value.now)) }
     ensures bounds { IfOk result IsWellFormed }
+    ensures allowed { IfOk result (λ script. All (IsAllowed clients) script.steps) }
 {
     let (members, keys) = opening(alloc, value)?;
-    let steps = all_steps(alloc, step_list(value)?)?;
+    let steps = all_steps(alloc, clients, step_list(value)?)?;
     Ok(Script {
-        members,
-        keys,
-        steps,
-    })
-}
-
-#[tactic(auto, using(crate::proofs::Openings::run_script_opens))]
-fn run_script(alloc: Global, value: &Value) -> Result<RunScript, Fault>
-    ensures value { Gives (λ s. s) result (run_script_of (view value.now)) }
-    ensures bounds { IfOk result IsWellFormedRun }
-{
-    let (members, keys) = opening(alloc, value)?;
-    let steps = all_run_steps(alloc, step_list(value)?)?;
-    Ok(RunScript {
         members,
         keys,
         steps,
@@ -122,31 +111,18 @@ fn json(alloc: Global, bytes: &[u8]) -> Result<Value, ScriptError>
     }
 }
 
-/// The script that the bytes spell.
+/// The script that the bytes spell, with clients where these are allowed.
 ///
 /// # Errors
 ///
 /// `NotJson` where the bytes are no JSON text, `NotAScript` with the first rule that they break and its step, and
 /// `Memory` where memory was refused.
-pub fn read_script(alloc: Global, bytes: &[u8]) -> Result<Script, ScriptError>
-    ensures script { IfOk result (Spells bytes.now) }
+pub fn read_script(alloc: Global, clients: Clients, bytes: &[u8]) -> Result<Script, ScriptError>
+    ensures script { IfOk result (Spells clients bytes.now) }
     ensures bounds { IfOk result IsWellFormed }
-    ensures refused { IfErr result (MatchError (HasNoReading bytes.now) (Breaks bytes.now)) }
+    ensures allowed { IfOk result (λ script. All (IsAllowed clients) script.steps) }
+    ensures refused { IfErr result (MatchError (HasNoReading bytes.now) (Breaks clients bytes.now)) }
 {
     let value = json(alloc, bytes)?;
-    Ok(script(alloc, &value)?)
-}
-
-/// The script that the bytes spell, which may have clients.
-///
-/// # Errors
-///
-/// As of `read_script`.
-pub fn read_run_script(alloc: Global, bytes: &[u8]) -> Result<RunScript, ScriptError>
-    ensures script { IfOk result (SpellsRun bytes.now) }
-    ensures bounds { IfOk result IsWellFormedRun }
-    ensures refused { IfErr result (MatchError (HasNoReading bytes.now) (BreaksRun bytes.now)) }
-{
-    let value = json(alloc, bytes)?;
-    Ok(run_script(alloc, &value)?)
+    Ok(script(alloc, clients, &value)?)
 }

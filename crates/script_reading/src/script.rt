@@ -1,7 +1,8 @@
+use crate::ask::Ask;
+use crate::clients::RunStep;
 use base_bytes::{Items, Text};
 use base_vectors::Id;
-use member_quorum::Level;
-use model_kinds::{Kind, Op};
+use model_kinds::Kind;
 
 /// A key that a script declares.
 #[derive(Drop)]
@@ -14,30 +15,13 @@ pub struct ScriptKey {
     pub durable: bool,
 }
 
-/// One step of a script.
+/// A step that a script makes by itself.
 #[derive(Drop)]
 pub enum Step {
-    /// A member is to change the value of a key, and so many members are to have the change.
-    Update {
+    /// A member is asked.
+    Ask {
         at: Id,
-        key: Text,
-        op: Op,
-        level: Level,
-    },
-    /// A member is to show the value of a key, with what so many members have of it.
-    Get {
-        at: Id,
-        key: Text,
-        level: Level,
-    },
-    /// A member is to send what its peers may lack.
-    Flush {
-        at: Id,
-    },
-    /// A member is to send another the digests of its entries.
-    Gossip {
-        at: Id,
-        to: Id,
+        ask: Ask,
     },
     /// The message of this number on a link is delivered, or the next one where no number is given.
     Deliver {
@@ -52,10 +36,6 @@ pub enum Step {
     },
     /// The messages that are due on all links are delivered.
     Round,
-    /// A member is to mark, or to prune, what is left of members that left, if it leads its view.
-    Tick {
-        at: Id,
-    },
     /// A member is to give up its open operation of this number, below `2^32`.
     Timeout {
         at: Id,
@@ -73,11 +53,6 @@ pub enum Step {
     Restart {
         id: Id,
     },
-    /// A member is to take up the view of this number.
-    Install {
-        at: Id,
-        view: u32,
-    },
     /// All members are to take up the last view and to tell each other what they have, and the leader is to prune what is left of
     /// members that left.
     Settle,
@@ -88,5 +63,5 @@ pub enum Step {
 pub struct Script {
     pub members: u8,
     pub keys: Items<ScriptKey>,
-    pub steps: Items<Step>,
+    pub steps: Items<RunStep>,
 }

@@ -5,7 +5,8 @@ use Rattle.model_members.specs.DataType.{Replication}
 use Rattle.model_members.specs.Node.{Node}
 use Rattle.model_members.specs.Node.Level.{Local}
 use Rattle.model_members.specs.Script.{ScriptStep, none_fails}
-use Rattle.model_members.specs.Script.ScriptStep.{Update, Flush, Deliver, Remove, Settle}
+use Rattle.model_members.specs.Script.Ask.{Update, Flush}
+use Rattle.model_members.specs.Script.ScriptStep.{Asks, Deliver, Remove, Settle}
 use Rattle.theorem_operations.specs.Borders.{small, small_keys, the_key}
 use Rattle.theorem_operations.specs.Scripts.{before_step}
 use Rattle.theorem_settling.specs.Settling.{BlockedStays}
@@ -18,7 +19,7 @@ spelled_whole = record small { digest = entry_spelled (λ kind. 1) (λ kind H. [
 
 -- of three members, the last writes, tells the first, and is removed; then the others settle
 abbrev pub left_and_settled : List (ScriptStep (Unit {0}))
-left_and_settled = Update 2 the_key tt Local ∷ Flush 2 ∷ Deliver 2 0 None ∷ Remove 2 ∷ Settle ∷ []
+left_and_settled = Asks 2 (Update the_key tt Local) ∷ Asks 2 Flush ∷ Deliver 2 0 None ∷ Remove 2 ∷ Settle ∷ []
 
 -- then the second member's history has a prune of the last one
 abbrev pub HasPruned : Type 0

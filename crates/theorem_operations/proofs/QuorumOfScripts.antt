@@ -10,9 +10,9 @@ use Rattle.model_members.specs.DataType.{Replication}
 use Rattle.model_members.specs.Node.{KeyDecl, Input, Level, Fate, Reply, Result, Finished, Output}
 use Rattle.model_members.specs.World.{World, Event, start, run, happens, output_of, IsLawful, AreLawful, IsRun}
 use Rattle.model_members.specs.World.Event.{InputAt, Delivery}
-use Rattle.model_members.specs.Script.{Playing, ScriptStep, IsStep, Told, Head, KeeperAnswers, opening, played, output_lines}
+use Rattle.model_members.specs.Script.{Ask, Playing, ScriptStep, IsStep, Told, Head, KeeperAnswers, opening, played, output_lines}
 use Rattle.model_members.specs.Script.Answer.{Replied}
-use Rattle.model_members.specs.Script.Head.{DeliverHead, UpdateHead, GetHead}
+use Rattle.model_members.specs.Script.Head.{Asked, DeliverHead}
 use Rattle.theorem_runs.proofs.Playing.{Appends, played_is_run, no_events}
 use Rattle.theorem_operations.specs.Quorum.{AllInstalled, KeepsMembers, HasSucceeded, MajorityWrite, HasWrite, WriteThenRead, IsUnchanged, ShowsWrite, Finishes, write_event, read_event, all_events, at_read, at_end, reply_in}
 use Rattle.theorem_operations.specs.Scripts.{UpdateThenGet, written, before_step, TellsLine, Replies, TellsEnd, SuccessIsTold, IsUnchangedUntil, IncludesUpdate, GetsInclude}
@@ -118,17 +118,17 @@ module _ {Kind Op Shown : Type 0} (D : Replication Kind Op Shown) (answers : Kee
     the_get = Input.Get r.key (Level.Majority r.read_cap)
 
     -- an update and a get that are answered
-    update_made : (line : Told Op Shown) (reply : Reply Shown) → slice_get steps r.update ≡ Some (ScriptStep.Update r.writer r.key r.operation (Level.Majority r.cap)) → Replies D answers members keys steps r.update line reply
+    update_made : (line : Told Op Shown) (reply : Reply Shown) → slice_get steps r.update ≡ Some (ScriptStep.Asks r.writer (Ask.Update r.key r.operation (Level.Majority r.cap))) → Replies D answers members keys steps r.update line reply
         → InputMade D (moment r.update) (moment (suc r.update)) r.writer the_update reply line
     update_made line reply is replies =
-        let made = input_made D (moment r.update) (silent_before D opened (take r.update steps) refl) (UpdateHead r.writer r.key) r.writer the_update line reply replies.1 (told_there r.update line (ScriptStep.Update r.writer r.key r.operation (Level.Majority r.cap)) is replies.0) in
-        record { fate = made.fate; events = next_events r.update (ScriptStep.Update r.writer r.key r.operation (Level.Majority r.cap)) is ∙ made.events; replies = made.replies; tells = made.tells }
+        let made = input_made D (moment r.update) (silent_before D opened (take r.update steps) refl) (Asked r.writer (Ask.Update r.key r.operation (Level.Majority r.cap))) r.writer the_update line reply replies.1 (told_there r.update line (ScriptStep.Asks r.writer (Ask.Update r.key r.operation (Level.Majority r.cap))) is replies.0) in
+        record { fate = made.fate; events = next_events r.update (ScriptStep.Asks r.writer (Ask.Update r.key r.operation (Level.Majority r.cap))) is ∙ made.events; replies = made.replies; tells = made.tells }
 
-    get_made : (line : Told Op Shown) (reply : Reply Shown) → slice_get steps r.get ≡ Some (ScriptStep.Get r.reader r.key (Level.Majority r.read_cap)) → Replies D answers members keys steps r.get line reply
+    get_made : (line : Told Op Shown) (reply : Reply Shown) → slice_get steps r.get ≡ Some (ScriptStep.Asks r.reader (Ask.Get r.key (Level.Majority r.read_cap))) → Replies D answers members keys steps r.get line reply
         → InputMade D (moment r.get) (moment (suc r.get)) r.reader the_get reply line
     get_made line reply is replies =
-        let made = input_made D (moment r.get) (silent_before D opened (take r.get steps) refl) (GetHead r.reader r.key) r.reader the_get line reply replies.1 (told_there r.get line (ScriptStep.Get r.reader r.key (Level.Majority r.read_cap)) is replies.0) in
-        record { fate = made.fate; events = next_events r.get (ScriptStep.Get r.reader r.key (Level.Majority r.read_cap)) is ∙ made.events; replies = made.replies; tells = made.tells }
+        let made = input_made D (moment r.get) (silent_before D opened (take r.get steps) refl) (Asked r.reader (Ask.Get r.key (Level.Majority r.read_cap))) r.reader the_get line reply replies.1 (told_there r.get line (ScriptStep.Asks r.reader (Ask.Get r.key (Level.Majority r.read_cap))) is replies.0) in
+        record { fate = made.fate; events = next_events r.get (ScriptStep.Asks r.reader (Ask.Get r.key (Level.Majority r.read_cap))) is ∙ made.events; replies = made.replies; tells = made.tells }
 
     module _ (last : ℕ) (u : IsUnchangedUntil D answers members keys steps r last) (past : r.get ≤ last) where
       -- the update's fate

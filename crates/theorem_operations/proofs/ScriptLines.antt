@@ -2,7 +2,7 @@
 --     LineFrom        a line comes from an event, or tells neither
 --     step_tells_lines        all lines of a step do
 --     input_made        an input that is answered with a reply is one event
-use Rattle.std.proofs.Common.{◌≡◌, ℕ, zero, suc, ◌+◌, List, [], ◌∷◌, ◌++◌, length, refl, sym, ap, subst, ◌∙◌, Option, Some, None, inl, inr, append_assoc}
+use Rattle.std.proofs.Common.{Bool, true, false, ◌≡◌, ℕ, zero, suc, ◌+◌, List, [], ◌∷◌, ◌++◌, length, refl, sym, ap, subst, ◌∙◌, Option, Some, None, inl, inr, append_assoc}
 use Rattle.std.specs.Prelude.{⊤, if◌then◌else◌, slice_get, nat_lt, not, is_some, option_map, fold}
 use Rattle.std.specs.List.{range_with_len}
 use Rattle.model_history.specs.Table.{identity_limit}
@@ -16,8 +16,8 @@ use Rattle.model_members.specs.Node.Fate.{NoStore}
 use Rattle.model_members.specs.Step.{is_full}
 use Rattle.model_members.specs.World.{World, Event, Turn, start, run, happens, turn_of, output_of, message_at, views_of, IsRun}
 use Rattle.model_members.specs.World.Event.{InputAt, Delivery, Loss, Removal, Joining, Restart}
-use Rattle.model_members.specs.Script.{Playing, ScriptStep, IsStep, Told, Head, Answer, Due, did, did_plainly, told, given, take_turn, output_lines, with_call, next_answer, called, deliver, deliver_due, due_now, round_of, lose, remove, join, restart, install, install_last, sweep, tick, settle, settle_line, has_met_full, posted, last_answer_blocked, played}
-use Rattle.model_members.specs.Script.Head.{DeliverHead, UpdateHead, GetHead, FlushHead, GossipHead, TickHead, TimeoutHead, RoundHead, LoseHead, RemoveHead, JoinHead, RestartHead, InstallHead, SettleHead}
+use Rattle.model_members.specs.Script.{Ask, Playing, ScriptStep, IsStep, Told, Head, Answer, Due, did, did_plainly, told, given, take_turn, output_lines, with_call, next_answer, called, deliver, deliver_due, due_now, round_of, lose, remove, join, restart, asked, asked_by, input_of, install_last, sweep, tick, settle, settle_line, has_met_full, posted, last_answer_blocked, played}
+use Rattle.model_members.specs.Script.Head.{Asked, DeliverHead, TimeoutHead, RoundHead, LoseHead, RemoveHead, JoinHead, RestartHead, SettleHead}
 use Rattle.model_members.specs.Script.Answer.{Replied, Gone, HistoryFull, NoSuchView, NoSuchMessage, Lost, Nothing, LastMember, PlaceTaken, TooManyIdentities, ClearFailed, LoadFailed, Stopped, NewView, NewIdentity, Settled}
 use Rattle.theorem_runs.proofs.Keeping.{if_holds, fold_all}
 use Rattle.theorem_runs.proofs.Playing.{Appends, step_is_run, played_appends}
@@ -206,13 +206,16 @@ module _ {Kind Op Shown : Type 0} (D : Replication Kind Op Shown) where
         if_holds IsTold (not (is_member view i)) (told p (RestartHead i) Gone) (if nat_lt view.given identity_limit then yes else many) (told_plainly p (RestartHead i) Gone (λ n. n) is)
         (if_holds IsTold (nat_lt view.given identity_limit) yes many (called_told p (place_of view i) (Restart i) (RestartHead i) (NewIdentity view.given (view.number + 1)) LoadFailed (λ n. n) (λ n. n) is) (told_plainly p (RestartHead i) TooManyIdentities (λ n. n) is))
 
-    install_told : (p : Playing Kind Op Shown) (i number : ℕ) → IsTold p → IsTold (install D p i number)
-    install_told p i number is =
-        if_holds IsTold (is_some (p.world.nodes i)) _ (told p (InstallHead i number) Gone) (by_view (slice_get (views_of p.world) number)) (told_plainly p (InstallHead i number) Gone (λ n. n) is)
+    asked_told : (p : Playing Kind Op Shown) (i : ℕ) (ask : Ask Op) → IsTold p → IsTold (asked D p i ask)
+    asked_told p i ask is = by_input (input_of (views_of p.world) ask)
       where
-        by_view : (o : Option View) → IsTold (elim o [ None ↦ told p (InstallHead i number) NoSuchView | Some view ↦ given D p (InstallHead i number) (InputAt i (Input.Install view)) ])
-        by_view None = told_plainly p (InstallHead i number) NoSuchView (λ n. n) is
-        by_view (Some view) = given_told p (InstallHead i number) (InputAt i (Input.Install view)) (λ fate. tt) is
+        no_reply : (b : Bool) → IsReply {Shown = Shown} (if b then NoSuchView else Gone) → ⊥
+        no_reply true n = n
+        no_reply false n = n
+
+        by_input : (o : Option (Input Op)) → IsTold (asked_by D p i ask o)
+        by_input None = told_plainly p (Asked i ask) (if is_some (p.world.nodes i) then NoSuchView else Gone) (no_reply (is_some (p.world.nodes i))) is
+        by_input (Some input) = given_told p (Asked i ask) (InputAt i input) (λ fate. tt) is
 
   -- A STEP
 
@@ -239,20 +242,15 @@ module _ {Kind Op Shown : Type 0} (D : Replication Kind Op Shown) where
     }
 
     pub step_told : (s : ScriptStep Op) → IsStep s → Starts (played D p s)
-    step_told (ScriptStep.Update i key op level) ok = given_told (start members keys) p.events p (UpdateHead i key) (InputAt i (Input.Update key op level)) (λ fate. tt) begins
-    step_told (ScriptStep.Get i key level) ok = given_told (start members keys) p.events p (GetHead i key) (InputAt i (Input.Get key level)) (λ fate. tt) begins
-    step_told (ScriptStep.Flush i) ok = given_told (start members keys) p.events p (FlushHead i) (InputAt i Input.Flush) (λ fate. tt) begins
-    step_told (ScriptStep.Gossip i to) ok = given_told (start members keys) p.events p (GossipHead i to) (InputAt i (Input.GossipTo to)) (λ fate. tt) begins
+    step_told (ScriptStep.Asks i ask) ok = asked_told (start members keys) p.events p i ask begins
     step_told (ScriptStep.Deliver from to None) ok = deliver_told (start members keys) p.events p from to (p.world.links from to).next begins
     step_told (ScriptStep.Deliver from to (Some index)) ok = deliver_told (start members keys) p.events p from to index begins
     step_told (ScriptStep.Lose from to) ok = lose_told (start members keys) p.events p from to begins
     step_told ScriptStep.Round ok = round_told (start members keys) p.events p (due_now D p) begins
-    step_told (ScriptStep.Tick i) ok = given_told (start members keys) p.events p (TickHead i) (InputAt i Input.PruneTick) (λ fate. tt) begins
     step_told (ScriptStep.Timeout i op) ok = given_told (start members keys) p.events p (TimeoutHead i op) (InputAt i (Input.Timeout op)) (λ fate. tt) begins
     step_told (ScriptStep.Remove i) ok = remove_told (start members keys) p.events p i begins
     step_told (ScriptStep.Join place) ok = join_told (start members keys) p.events p place begins
     step_told (ScriptStep.Restart i) ok = restart_told (start members keys) p.events p i begins
-    step_told (ScriptStep.Install i view) ok = install_told (start members keys) p.events p i view begins
     step_told ScriptStep.Settle ok = settled
 
   -- AN INPUT THAT IS ANSWERED

@@ -11,7 +11,8 @@ use Rattle.model_members.specs.Node.Reply.{Done, Pending, Taken, Installed, Alre
 use Rattle.model_members.specs.World.Event.{Delivery}
 use Rattle.model_members.specs.Script.{ScriptStep, Told, Answer, none_fails, opening, lines_of}
 use Rattle.model_members.specs.Script.Answer.{Replied, NewIdentity}
-use Rattle.model_members.specs.Script.ScriptStep.{Update, Get, Deliver, Join, Install}
+use Rattle.model_members.specs.Script.Ask.{Update, Get, Install}
+use Rattle.model_members.specs.Script.ScriptStep.{Asks, Deliver, Join}
 use Rattle.theorem_operations.specs.Quorum.{WriteThenRead, IsUnchanged}
 use Rattle.theorem_operations.specs.Finishing.{TwoRounds, IsUndisturbed}
 use Rattle.theorem_operations.specs.Scripts.{UpdateThenGet, IsUnchangedUntil}
@@ -41,10 +42,10 @@ abbrev pub finished_at : ℕ → List (ScriptStep (Unit {0})) → List (Finished
 finished_at members steps = flat_map (λ (t : Told (Unit {0}) ℕ). one_or_none t.ended) (lines_at members steps)
 
 abbrev pub write_at : ℕ → ℕ → ScriptStep (Unit {0})
-write_at i cap = Update i the_key tt (Majority cap)
+write_at i cap = Asks i (Update the_key tt (Majority cap))
 
 abbrev pub read_at : ℕ → ℕ → ScriptStep (Unit {0})
-read_at i cap = Get i the_key (Majority cap)
+read_at i cap = Asks i (Get the_key (Majority cap))
 
 abbrev pub next : ℕ → ℕ → ScriptStep (Unit {0})
 next from to = Deliver from to None
@@ -63,7 +64,7 @@ BegunBeforeSuccess = finished_at 3 (write_at 0 0 ∷ read_at 1 0 ∷ next 1 2 �
 
 abbrev pub OneOnAnOldView : Type 0
 OneOnAnOldView =
-    let steps : List (ScriptStep (Unit {0})) = Join 1 ∷ Join 2 ∷ Install 1 2 ∷ write_at 0 0 ∷ read_at 2 0 ∷ next 2 1 ∷ next 1 2 ∷ [] in
+    let steps : List (ScriptStep (Unit {0})) = Join 1 ∷ Join 2 ∷ Asks 1 (Install 2) ∷ write_at 0 0 ∷ read_at 2 0 ∷ next 2 1 ∷ next 1 2 ∷ [] in
     (answers_at 1 steps ≡ NewIdentity 1 1 ∷ NewIdentity 2 2 ∷ Replied Installed ∷ Replied Done ∷ Replied (Pending 0) ∷ Replied Taken ∷ Replied Already ∷ []) × (finished_at 1 steps ≡ record { op = 0; result = ReadNothing } ∷ [])
 
 -- A CAP LOWERS NOTHING: of four members three are needed, whatever the cap says, and four where it says so

@@ -11,7 +11,7 @@ use Rattle.model_members.specs.Message.{Message}
 use Rattle.model_members.specs.Node.{KeyDecl, Node, Fate, Reply, Result, Finished}
 use Rattle.model_members.specs.Node.Level.{Majority}
 use Rattle.model_members.specs.World.{Event, start, run, output_of}
-use Rattle.model_members.specs.Script.{Playing, ScriptStep, Told, KeeperAnswers, opening, played_all, lines_of, output_lines}
+use Rattle.model_members.specs.Script.{Ask, Playing, ScriptStep, Told, KeeperAnswers, opening, played_all, lines_of, output_lines}
 use Rattle.model_members.specs.Script.Answer.{Replied}
 use Rattle.model_members.specs.Script.Head.{DeliverHead}
 use Rattle.theorem_operations.specs.Quorum.{AllInstalled, MajorityWrite, HasWrite}
@@ -60,8 +60,8 @@ module _ {Kind Op Shown : Type 0} (D : Replication Kind Op Shown) (answers : Kee
 
     -- UNCHANGED MEMBERSHIP, AND A SUCCESS THAT WAS TOLD: before the update all running members have the last view installed, this view is still the last one when the step of a later number is done, and the update's success was told before the get
     pub record IsUnchangedUntil (last : ℕ) : Type 0 where
-      pub updates : slice_get steps r.update ≡ Some (ScriptStep.Update r.writer r.key r.operation (Majority r.cap))
-      pub gets : slice_get steps r.get ≡ Some (ScriptStep.Get r.reader r.key (Majority r.read_cap))
+      pub updates : slice_get steps r.update ≡ Some (ScriptStep.Asks r.writer (Ask.Update r.key r.operation (Majority r.cap)))
+      pub gets : slice_get steps r.get ≡ Some (ScriptStep.Asks r.reader (Ask.Get r.key (Majority r.read_cap)))
       pub in_order : r.update < r.get
       pub installed : AllInstalled (before_step r.update).world
       pub unchanged : (before_step (suc last)).world.view ≡ (before_step r.update).world.view

@@ -13,7 +13,7 @@ use Rattle.model_members.specs.Node.Fate.{NoStore, Stored, StoreFailed}
 use Rattle.model_members.specs.Step.{is_full}
 use Rattle.model_members.specs.World.{World, Event, Turn, views_of, message_at, turn_at, turn_of, output_of, stores, start, happens, run, IsLawful, AreLawful, IsGiven, StepsAt, FitsFate, IsRun}
 use Rattle.model_members.specs.World.Event.{InputAt, Delivery, Loss, Removal, Joining}
-use Rattle.model_members.specs.Script.{IsStep, called, ScriptStep, Head, Answer, Told, KeeperAnswers, Playing, Due, opening, did, did_plainly, output_lines, told, given, take_turn, next_answer, with_call, deliver, deliver_due, due_now, round_of, lose, remove, join, restart, install, unless_full, has_met_full, deliver_last, exchange, sweep, tick, install_last, is_older, settle, played, played_all, posted, last_number}
+use Rattle.model_members.specs.Script.{Ask, IsStep, called, ScriptStep, Head, Answer, Told, KeeperAnswers, Playing, Due, opening, did, did_plainly, output_lines, told, given, take_turn, next_answer, with_call, deliver, deliver_due, due_now, round_of, lose, remove, join, restart, asked, asked_by, unless_full, has_met_full, deliver_last, exchange, sweep, tick, install_last, is_older, settle, played, played_all, posted, last_number}
 use Rattle.model_members.specs.Script.Head.{DeliverHead}
 use Rattle.model_members.specs.Script.Answer.{HistoryFull}
 use Rattle.theorem_runs.proofs.Keeping.{if_holds, if_tells, fold_all}
@@ -61,7 +61,7 @@ module _ {Kind Op Shown : Type 0} (D : Replication Kind Op Shown) where
 
   -- the step brings no prune tick, or these are allowed
   abbrev pub AllowsStep : (Event Op → Type 0) → ScriptStep Op → Type 0
-  AllowsStep Allowed (ScriptStep.Tick i) = (j : ℕ) (fate : Fate) → Allowed (InputAt j Input.PruneTick fate)
+  AllowsStep Allowed (ScriptStep.Asks i Ask.Tick) = (j : ℕ) (fate : Fate) → Allowed (InputAt j Input.PruneTick fate)
   AllowsStep Allowed ScriptStep.Settle = (j : ℕ) (fate : Fate) → Allowed (InputAt j Input.PruneTick fate)
   AllowsStep Allowed _ = ⊤
 
@@ -164,12 +164,12 @@ module _ {Kind Op Shown : Type 0} (D : Replication Kind Op Shown) where
         (λ member. if_tells (λ q. Q q.events q.world) (nat_lt view.given identity_limit) yes no
         (λ room. called_plays p (place_of view i) (Event.Restart i) (Head.RestartHead i) (Answer.NewIdentity view.given (view.number + 1)) Answer.LoadFailed (going.quiet (Event.Restart i) tt) (not-false (is_member view i) member, ltb-true view.given identity_limit room) plays) (λ e. plays))
 
-    install_plays : (p : Playing Kind Op Shown) (i number : ℕ) → Plays p → Plays (install D p i number)
-    install_plays p i number plays = if_holds (λ q. Q q.events q.world) (is_some (p.world.nodes i)) _ (told p (Head.InstallHead i number) Answer.Gone) (by_view (slice_get (views_of p.world) number) refl) plays
+    install_plays : (p : Playing Kind Op Shown) (i number : ℕ) → Plays p → Plays (asked D p i (Ask.Install number))
+    install_plays p i number plays = by_view (slice_get (views_of p.world) number) refl
       where
-        by_view : (o : Option View) → slice_get (views_of p.world) number ≡ o → Plays (elim o [ None ↦ told p (Head.InstallHead i number) Answer.NoSuchView | Some view ↦ given D p (Head.InstallHead i number) (InputAt i (Input.Install view)) ])
+        by_view : (o : Option View) → slice_get (views_of p.world) number ≡ o → Plays (asked_by D p i (Ask.Install number) (option_map Input.Install o))
         by_view None e = plays
-        by_view (Some view) e = input_plays p (Head.InstallHead i number) i (Input.Install view) (λ fate. going.quiet (InputAt i (Input.Install view) fate) tt) (number, e) plays
+        by_view (Some view) e = input_plays p (Head.Asked i (Ask.Install number)) i (Input.Install view) (λ fate. going.quiet (InputAt i (Input.Install view) fate) tt) (number, e) plays
 
     -- SETTLING
 
@@ -183,13 +183,13 @@ module _ {Kind Op Shown : Type 0} (D : Replication Kind Op Shown) where
 
     exchange_plays : (lead : ℕ) (p : Playing Kind Op Shown) (i : ℕ) → Plays p → Plays (exchange D lead p i)
     exchange_plays lead p i plays =
-        let gossip = λ (q : Playing Kind Op Shown). given D q (Head.GossipHead i lead) (InputAt i (Input.GossipTo lead)) in
+        let gossip = λ (q : Playing Kind Op Shown). given D q (Head.Asked i (Ask.Gossip lead)) (InputAt i (Input.GossipTo lead)) in
         let one = unless_full D gossip p in
         let two = deliver_last D (posted p) i lead one in
         let three = deliver_last D (posted one) lead i two in
         last_plays (posted two) i lead three
         (last_plays (posted one) lead i two
-        (last_plays (posted p) i lead one (unless_plays gossip p (input_plays p (Head.GossipHead i lead) i (Input.GossipTo lead) (λ fate. going.quiet (InputAt i (Input.GossipTo lead) fate) tt) tt plays) plays)))
+        (last_plays (posted p) i lead one (unless_plays gossip p (input_plays p (Head.Asked i (Ask.Gossip lead)) i (Input.GossipTo lead) (λ fate. going.quiet (InputAt i (Input.GossipTo lead) fate) tt) tt plays) plays)))
 
     sweep_plays : (p : Playing Kind Op Shown) → Plays p → Plays (sweep D p)
     sweep_plays p plays =
@@ -198,8 +198,8 @@ module _ {Kind Op Shown : Type 0} (D : Replication Kind Op Shown) where
 
     tick_plays : ((j : ℕ) (fate : Fate) → Allowed (InputAt j Input.PruneTick fate)) → (p : Playing Kind Op Shown) → Plays p → Plays (tick D p)
     tick_plays ticks p plays =
-        let f = λ (q : Playing Kind Op Shown). given D q (Head.TickHead (leader q.world.view)) (InputAt (leader q.world.view) Input.PruneTick) in
-        unless_plays f p (input_plays p (Head.TickHead (leader p.world.view)) (leader p.world.view) Input.PruneTick (ticks (leader p.world.view)) tt plays) plays
+        let f = λ (q : Playing Kind Op Shown). given D q (Head.Asked (leader q.world.view) Ask.Tick) (InputAt (leader q.world.view) Input.PruneTick) in
+        unless_plays f p (input_plays p (Head.Asked (leader p.world.view) Ask.Tick) (leader p.world.view) Input.PruneTick (ticks (leader p.world.view)) tt plays) plays
 
     last_is_there : (views : List View) (view : View) → slice_get (views ++ view ∷ []) (length views) ≡ Some view
     last_is_there [] view = refl
@@ -208,9 +208,9 @@ module _ {Kind Op Shown : Type 0} (D : Replication Kind Op Shown) where
     install_last_plays : (p : Playing Kind Op Shown) (i : ℕ) → Plays p → Plays (install_last D p i)
     install_last_plays p i plays =
         let view = p.world.view in
-        let f = λ (q : Playing Kind Op Shown). given D q (Head.InstallHead i view.number) (InputAt i (Input.Install view)) in
+        let f = λ (q : Playing Kind Op Shown). given D q (Head.Asked i (Ask.Install view.number)) (InputAt i (Input.Install view)) in
         if_holds (λ q. Q q.events q.world) (is_older D view (p.world.nodes i)) (unless_full D f p) p
-        (unless_plays f p (input_plays p (Head.InstallHead i view.number) i (Input.Install view) (λ fate. going.quiet (InputAt i (Input.Install view) fate) tt) (length p.world.earlier, last_is_there p.world.earlier view) plays) plays) plays
+        (unless_plays f p (input_plays p (Head.Asked i (Ask.Install view.number)) i (Input.Install view) (λ fate. going.quiet (InputAt i (Input.Install view) fate) tt) (length p.world.earlier, last_is_there p.world.earlier view) plays) plays) plays
 
     settle_plays : ((j : ℕ) (fate : Fate) → Allowed (InputAt j Input.PruneTick fate)) → (p : Playing Kind Op Shown) → Plays p → Plays (settle D p)
     settle_plays ticks p plays =
@@ -224,20 +224,20 @@ module _ {Kind Op Shown : Type 0} (D : Replication Kind Op Shown) where
     -- A STEP OF A SCRIPT, AND ALL
 
     pub played_plays : (p : Playing Kind Op Shown) (s : ScriptStep Op) → IsStep s → AllowsStep Allowed s → Plays p → Plays (played D p s)
-    played_plays p (ScriptStep.Update i key op level) ok allows plays = input_plays p (Head.UpdateHead i key) i (Input.Update key op level) (λ fate. going.quiet (InputAt i (Input.Update key op level) fate) tt) tt plays
-    played_plays p (ScriptStep.Get i key level) ok allows plays = input_plays p (Head.GetHead i key) i (Input.Get key level) (λ fate. going.quiet (InputAt i (Input.Get key level) fate) tt) tt plays
-    played_plays p (ScriptStep.Flush i) ok allows plays = input_plays p (Head.FlushHead i) i Input.Flush (λ fate. going.quiet (InputAt i Input.Flush fate) tt) tt plays
-    played_plays p (ScriptStep.Gossip i to) ok allows plays = input_plays p (Head.GossipHead i to) i (Input.GossipTo to) (λ fate. going.quiet (InputAt i (Input.GossipTo to) fate) tt) tt plays
+    played_plays p (ScriptStep.Asks i (Ask.Update key op level)) ok allows plays = input_plays p (Head.Asked i (Ask.Update key op level)) i (Input.Update key op level) (λ fate. going.quiet (InputAt i (Input.Update key op level) fate) tt) tt plays
+    played_plays p (ScriptStep.Asks i (Ask.Get key level)) ok allows plays = input_plays p (Head.Asked i (Ask.Get key level)) i (Input.Get key level) (λ fate. going.quiet (InputAt i (Input.Get key level) fate) tt) tt plays
+    played_plays p (ScriptStep.Asks i Ask.Flush) ok allows plays = input_plays p (Head.Asked i Ask.Flush) i Input.Flush (λ fate. going.quiet (InputAt i Input.Flush fate) tt) tt plays
+    played_plays p (ScriptStep.Asks i (Ask.Gossip to)) ok allows plays = input_plays p (Head.Asked i (Ask.Gossip to)) i (Input.GossipTo to) (λ fate. going.quiet (InputAt i (Input.GossipTo to) fate) tt) tt plays
     played_plays p (ScriptStep.Deliver from to None) ok allows plays = deliver_plays p from to (p.world.links from to).next plays
     played_plays p (ScriptStep.Deliver from to (Some index)) ok allows plays = deliver_plays p from to index plays
     played_plays p (ScriptStep.Lose from to) ok allows plays = lose_plays p from to plays
     played_plays p ScriptStep.Round ok allows plays = round_plays p (due_now D p) plays
-    played_plays p (ScriptStep.Tick i) ok allows plays = input_plays p (Head.TickHead i) i Input.PruneTick (allows i) tt plays
+    played_plays p (ScriptStep.Asks i Ask.Tick) ok allows plays = input_plays p (Head.Asked i Ask.Tick) i Input.PruneTick (allows i) tt plays
     played_plays p (ScriptStep.Timeout i op) ok allows plays = input_plays p (Head.TimeoutHead i op) i (Input.Timeout op) (λ fate. going.quiet (InputAt i (Input.Timeout op) fate) tt) tt plays
     played_plays p (ScriptStep.Remove i) ok allows plays = remove_plays p i plays
     played_plays p (ScriptStep.Join place) ok allows plays = join_plays p place ok plays
     played_plays p (ScriptStep.Restart i) ok allows plays = restart_plays p i plays
-    played_plays p (ScriptStep.Install i view) ok allows plays = install_plays p i view plays
+    played_plays p (ScriptStep.Asks i (Ask.Install view)) ok allows plays = install_plays p i view plays
     played_plays p ScriptStep.Settle ok allows plays = settle_plays allows p plays
 
     pub all_play : (p : Playing Kind Op Shown) (steps : List (ScriptStep Op)) → AllByRecursion IsStep steps → AllByRecursion (AllowsStep Allowed) steps → Plays p → Plays (played_all D p steps)
@@ -247,19 +247,19 @@ module _ {Kind Op Shown : Type 0} (D : Replication Kind Op Shown) where
   -- EACH STEP IS ALLOWED WHERE TICKS ARE
 
   allows_any : (Allowed : Event Op → Type 0) → ((event : Event Op) → Allowed event) → (s : ScriptStep Op) → AllowsStep Allowed s
-  allows_any Allowed all (ScriptStep.Update i key op level) = tt
-  allows_any Allowed all (ScriptStep.Get i key level) = tt
-  allows_any Allowed all (ScriptStep.Flush i) = tt
-  allows_any Allowed all (ScriptStep.Gossip i to) = tt
+  allows_any Allowed all (ScriptStep.Asks i (Ask.Update key op level)) = tt
+  allows_any Allowed all (ScriptStep.Asks i (Ask.Get key level)) = tt
+  allows_any Allowed all (ScriptStep.Asks i Ask.Flush) = tt
+  allows_any Allowed all (ScriptStep.Asks i (Ask.Gossip to)) = tt
   allows_any Allowed all (ScriptStep.Deliver from to index) = tt
   allows_any Allowed all (ScriptStep.Lose from to) = tt
   allows_any Allowed all ScriptStep.Round = tt
-  allows_any Allowed all (ScriptStep.Tick i) = λ j fate. all (InputAt j Input.PruneTick fate)
+  allows_any Allowed all (ScriptStep.Asks i Ask.Tick) = λ j fate. all (InputAt j Input.PruneTick fate)
   allows_any Allowed all (ScriptStep.Timeout i op) = tt
   allows_any Allowed all (ScriptStep.Remove i) = tt
   allows_any Allowed all (ScriptStep.Join place) = tt
   allows_any Allowed all (ScriptStep.Restart i) = tt
-  allows_any Allowed all (ScriptStep.Install i view) = tt
+  allows_any Allowed all (ScriptStep.Asks i (Ask.Install view)) = tt
   allows_any Allowed all ScriptStep.Settle = λ j fate. all (InputAt j Input.PruneTick fate)
 
   allows_all : (Allowed : Event Op → Type 0) → ((event : Event Op) → Allowed event) → (steps : List (ScriptStep Op)) → AllByRecursion (AllowsStep Allowed) steps
@@ -337,19 +337,19 @@ module _ {Kind Op Shown : Type 0} (D : Replication Kind Op Shown) where
   IsQuietStep s = AllowsStep (λ event. ⊥) s
 
   allows_quiet : (s : ScriptStep Op) → IsQuietStep s → AllowsStep IsNoTick s
-  allows_quiet (ScriptStep.Update i key op level) calm = tt
-  allows_quiet (ScriptStep.Get i key level) calm = tt
-  allows_quiet (ScriptStep.Flush i) calm = tt
-  allows_quiet (ScriptStep.Gossip i to) calm = tt
+  allows_quiet (ScriptStep.Asks i (Ask.Update key op level)) calm = tt
+  allows_quiet (ScriptStep.Asks i (Ask.Get key level)) calm = tt
+  allows_quiet (ScriptStep.Asks i Ask.Flush) calm = tt
+  allows_quiet (ScriptStep.Asks i (Ask.Gossip to)) calm = tt
   allows_quiet (ScriptStep.Deliver from to index) calm = tt
   allows_quiet (ScriptStep.Lose from to) calm = tt
   allows_quiet ScriptStep.Round calm = tt
-  allows_quiet (ScriptStep.Tick i) calm = λ j fate. absurd (calm j fate)
+  allows_quiet (ScriptStep.Asks i Ask.Tick) calm = λ j fate. absurd (calm j fate)
   allows_quiet (ScriptStep.Timeout i op) calm = tt
   allows_quiet (ScriptStep.Remove i) calm = tt
   allows_quiet (ScriptStep.Join place) calm = tt
   allows_quiet (ScriptStep.Restart i) calm = tt
-  allows_quiet (ScriptStep.Install i view) calm = tt
+  allows_quiet (ScriptStep.Asks i (Ask.Install view)) calm = tt
   allows_quiet ScriptStep.Settle calm = λ j fate. absurd (calm j fate)
 
   all_quiet : (steps : List (ScriptStep Op)) → AllByRecursion IsQuietStep steps → AllByRecursion (AllowsStep IsNoTick) steps

@@ -11,7 +11,7 @@ use Rattle.model_members.specs.World.{World, run}
 use Rattle.model_members.specs.World.Event.{InputAt}
 use Rattle.model_members.specs.Script.{Playing, Told, Head, Answer, played, last_of, told}
 use Rattle.theorem_sections.proofs.Givens.{given_to}
-use Rattle.theorem_sections.specs.Sections.{Command, Client, Made, Section, Move, step_of, member_of, pending_op, node_full, world_of, goes_on, may_command, may_come, may_all_come, is_over, made_by, with_client, commanded, commanded_by, moved, moved_all, client_line, client_lines, section_lines, has_ended}
+use Rattle.theorem_sections.specs.Sections.{Command, Client, Made, Section, Move, step_of, pending_op, node_full, world_of, goes_on, may_command, may_come, may_all_come, is_over, made_by, with_client, commanded, commanded_by, moved, moved_all, client_line, client_lines, section_lines, has_ended}
 use Rattle.theorem_sections.specs.Sections.Move.{NextCommand}
 use Rattle.theorem_sections.specs.Histories.{Entry, Placed, entries_at, events_of, sent_so_far, replayed, AreHistories}
 use Rattle.theorem_sections.specs.Paths.{ClientStep, IsInputOf, head_of, LacksView, IsAnsweredBy, answered_in, TimesOut}
@@ -114,23 +114,23 @@ module _ {Kind Op Shown : Type 0} (D : Replication Kind Op Shown) (world : World
       → (answer : Answer Shown) → IsAnsweredBy D world histories c command step answer → played D s.playing (step_of command) ≡ told s.playing (head_of command) answer
   none_played s done rest along c command step none late (Answer.Replied reply) h = absurd (let e = sym none ∙ h.at in cc e)
   none_played s done rest along c command step none late Answer.Gone h =
-      command_gone D s.playing command (along.nodes (member_of command) ∙ ap (option_map (λ b. replayed D b (entries_at (member_of command) done))) h.2)
+      command_gone D s.playing command (along.nodes command.at ∙ ap (option_map (λ b. replayed D b (entries_at command.at done))) h.2)
   none_played s done rest along c command step none late Answer.NoSuchView h =
-      command_lacks D s.playing command (subst (λ vs. LacksView vs command) (sym along.going.same_views) h.3) (ap is_some (along.nodes (member_of command)) ∙ still (world.nodes (member_of command)) h.2)
+      command_lacks D s.playing command (subst (λ vs. LacksView vs command) (sym along.going.same_views) h.3) (ap is_some (along.nodes command.at) ∙ still (world.nodes command.at) h.2)
     where
-      still : (o : Option (Node Kind Op Shown)) → is_some o ≡ true → is_some (option_map (λ b. replayed D b (entries_at (member_of command) done)) o) ≡ true
+      still : (o : Option (Node Kind Op Shown)) → is_some o ≡ true → is_some (option_map (λ b. replayed D b (entries_at command.at done)) o) ≡ true
       still None e = e
       still (Some b) e = refl
   none_played s done rest along c command step none late Answer.HistoryFull h =
-      let i = member_of command in
+      let i = command.at in
       let full = some_of node_full ((world_of s).nodes i) refl (full_now D world histories placed keeping all runs_in s done rest along step.upto i late h.3) in
-      command_plays D s.playing command h.2.0 (subst (λ vs. IsInputOf vs command h.2.0) (sym along.going.same_views) h.2.1) (ap is_some full.1)
+      command_plays D s.playing command h.2.0 (subst (λ vs. IsInputOf vs command h.2.0) (sym along.going.same_views) h.2.1)
       ∙ ap (given_to D s.playing (head_of command) (InputAt i h.2.0) i h.2.0) full.1
       ∙ given_full D s.playing (head_of command) (InputAt i h.2.0) i h.2.0 full.0 (subst (λ o. node_full o ≡ true) full.1 (full_now D world histories placed keeping all runs_in s done rest along step.upto i late h.3))
   none_played s done rest along c command step none late answer h = absurd h
 
-  pub no_more : (c : ℕ) (command : Command Op) (step : ClientStep Op Shown) (mid after : List (Placed Op Shown)) (o : Option ℕ) (p : Option ℕ) → p ≡ None → TimesOut D world histories c (member_of command) step p o
-      → Stands D world histories placed keeping all runs_in (member_of command) o mid after → mid ≡ after
+  pub no_more : (c : ℕ) (command : Command Op) (step : ClientStep Op Shown) (mid after : List (Placed Op Shown)) (o : Option ℕ) (p : Option ℕ) → p ≡ None → TimesOut D world histories c command.at step p o
+      → Stands D world histories placed keeping all runs_in command.at o mid after → mid ≡ after
   no_more c command step mid after None p none t st = st
   no_more c command step mid after (Some k) None none t st = absurd t
   no_more c command step mid after (Some k) (Some op) none t st = absurd (cc none)
@@ -185,7 +185,7 @@ module _ {Kind Op Shown : Type 0} (D : Replication Kind Op Shown) (world : World
         (λ s' state' others' client' get' to_come' past' whole' lines' u' goes' left'. ahead steps commands s' state' others' client' get' to_come' past' whole' lines' u' goes' left')
       where
         i : ℕ
-        i = member_of command
+        i = command.at
 
         NextAhead : Type 0
         NextAhead = (s' : Section Kind Op Shown) → State s' done rest → ((d : ℕ) → d ≢ c → slice_get s'.clients d ≡ slice_get first.clients d)
@@ -218,7 +218,7 @@ module _ {Kind Op Shown : Type 0} (D : Replication Kind Op Shown) (world : World
             → (client' : Client Op Shown) → slice_get s'.clients c ≡ Some client' → client'.to_come ≡ commands → (past' : List (ClientStep Op Shown)) → all_steps ≡ past' ++ steps → AllTold D world histories placed keeping all runs_in c client'.made past'
             → (u' : ℕ) → GoesFrom client'.made u' → Lefts c u' (own c rest) commands steps → Ends s') → Ends s
         go none posts waits answered next =
-            let entries_same : own c rest ≡ left.2 = subst (λ o. Stands D world histories placed keeping all runs_in (member_of command) o (own c rest) left.2) none left.4 in
+            let entries_same : own c rest ≡ left.2 = subst (λ o. Stands D world histories placed keeping all runs_in command.at o (own c rest) left.2) none left.4 in
             let mid_same : left.2 ≡ left.3 = no_more c command step left.2 left.3 step.timeout (pending_op step.line.answer) waits left.1.timed_out left.5 in
             let left' : Lefts c step.upto (own c rest) commands steps = subst (λ es. Lefts c step.upto es commands steps) (sym (entries_same ∙ mid_same)) left.6 in
             let late' = late step.upto commands steps left' in

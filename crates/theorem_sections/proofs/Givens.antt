@@ -11,7 +11,7 @@ use Rattle.model_members.specs.Step.{is_full}
 use Rattle.model_members.specs.World.{Event, Turn, message_at, turn_at}
 use Rattle.model_members.specs.World.Event.{InputAt, Delivery}
 use Rattle.model_members.specs.Script.{Playing, Told, Head, told, did, given, take_turn}
-use Rattle.model_members.specs.Script.Head.{DeliverHead, InstallHead}
+use Rattle.model_members.specs.Script.Head.{DeliverHead}
 use Rattle.model_members.specs.Script.Answer.{Replied, Gone, HistoryFull, NoSuchMessage, NoSuchView}
 use Rattle.theorem_operations.proofs.PlayedInputs.{turn_by}
 
@@ -35,9 +35,6 @@ module _ {Kind Op Shown : Type 0} (D : Replication Kind Op Shown) where
 
   abbrev pub deliver_message : Playing Kind Op Shown → (from to index : ℕ) → Option (Message Op) → Playing Kind Op Shown
   deliver_message p from to index o = elim o [ None ↦ told p (DeliverHead from to index None) NoSuchMessage | Some message ↦ given D p (DeliverHead from to index (Some message)) (Delivery from to index) ]
-
-  abbrev pub install_view : Playing Kind Op Shown → (i number : ℕ) → Option View → Playing Kind Op Shown
-  install_view p i number o = elim o [ None ↦ told p (InstallHead i number) NoSuchView | Some view ↦ given D p (InstallHead i number) (InputAt i (Install view)) ]
 
   -- a message that is there
   pub message_given : (p : Playing Kind Op Shown) (from to index : ℕ) (message : Message Op) → message_at p.world from to index ≡ Some message

@@ -14,7 +14,7 @@ use Rattle.model_members.specs.Step.{is_full}
 use Rattle.model_members.specs.World.{World}
 use Rattle.model_members.specs.Script.{Answer}
 use Rattle.theorem_operations.proofs.Lists.{all_first, any_more, both_true, or_left, or_right}
-use Rattle.theorem_sections.specs.Sections.{Command, Ending, answers, member_of, node_full, is_open, running, pending_op, finished_at, ending_by, ending_of}
+use Rattle.theorem_sections.specs.Sections.{Command, Ending, answers, node_full, is_open, running, pending_op, finished_at, ending_by, ending_of}
 use Rattle.theorem_sections.specs.Sections.Ending.{TimedOut, LeftOpen}
 use Rattle.theorem_sections.specs.Histories.{Entry, Passed, posted_to, taken_from, AreSteps, replayed, AreHistories}
 use Rattle.theorem_sections.specs.Paths.{until, member_until, some_full_until, has_taken, are_posts_taken, are_answers_taken, has_ended_until, IsReplied, IsAnsweredBy, TimesOut, IsStepOf, IsPath, ArePaths}
@@ -174,78 +174,78 @@ module _ {Kind Op Shown : Type 0} (D : Replication Kind Op Shown) (world : World
 
   module _ (c : ℕ) (command : Command Op) (k : KnownStep Op Shown) (is : IsKnownStepOf D world histories c command k) where
     i : ℕ
-    i = member_of command
+    i = command.at
 
     upto : ℕ
     upto = k.step.upto
 
     -- the entry that a timeout is for
     pub record Pends (op index : ℕ) (e : Entry Op Shown) : Type 0 where
-      pub stands : slice_get (histories (member_of command)) index ≡ Some e
+      pub stands : slice_get (histories command.at) index ≡ Some e
       pub reply : e.output.reply ≡ Reply.Pending op
       pub of : e.client ≡ c
-      pub member : Is (member_of command)
-      pub known : index < k.known (member_of command)
+      pub member : Is command.at
+      pub known : index < k.known command.at
 
-    pends : (op index : ℕ) → pending_op k.step.line.answer ≡ Some op → k.step.index ≡ Some index → (e : Entry Op Shown) → slice_get (histories (member_of command)) index ≡ Some e → Pends op index e
+    pends : (op index : ℕ) → pending_op k.step.line.answer ≡ Some op → k.step.index ≡ Some index → (e : Entry Op Shown) → slice_get (histories command.at) index ≡ Some e → Pends op index e
     pends op index waits at e stands =
         let r = replied_at D world histories c command k is index at in
         let same : r.2.index ≡ index = cc (sym r.2.at ∙ at) in
-        let same_e : r.2.entry ≡ e = (let s : Some r.2.entry ≡ Some e = sym r.2.made.stands ∙ ap (slice_get (histories (member_of command))) same ∙ stands in cc s) in
+        let same_e : r.2.entry ≡ e = (let s : Some r.2.entry ≡ Some e = sym r.2.made.stands ∙ ap (slice_get (histories command.at)) same ∙ stands in cc s) in
         record {
           stands = stands;
           reply = ap (λ (x : Entry Op Shown). x.output.reply) (sym same_e) ∙ r.2.replied ∙ pending_reply r.0 op (sym (ap pending_op r.1) ∙ waits);
           of = ap (λ (x : Entry Op Shown). x.client) (sym same_e) ∙ r.2.made.of;
-          member = member_at (member_of command) r.2.runs;
-          known = subst (λ n. n < k.known (member_of command)) same r.2.known;
+          member = member_at command.at r.2.runs;
+          known = subst (λ n. n < k.known command.at) same r.2.known;
         }
 
     -- WHERE ITS TIMEOUT WAS CALLED
 
     abbrev at_known : Option (Node Kind Op Shown)
-    at_known = member_after D world histories (member_of command) (k.known (member_of command))
+    at_known = member_after D world histories command.at (k.known command.at)
 
-    steps_known : (b : Node Kind Op Shown) → world.nodes (member_of command) ≡ Some b → AreSteps D b (take (k.known (member_of command)) (histories (member_of command)))
+    steps_known : (b : Node Kind Op Shown) → world.nodes command.at ≡ Some b → AreSteps D b (take (k.known command.at) (histories command.at))
     steps_known b runs =
-        steps_first D b (take (k.known (member_of command)) (histories (member_of command))) (drop (k.known (member_of command)) (histories (member_of command)))
-        (subst (AreSteps D b) (sym (take_and_drop (histories (member_of command)) (k.known (member_of command)))) (steps_of_node D world histories all runs_in (member_of command) b runs))
+        steps_first D b (take (k.known command.at) (histories command.at)) (drop (k.known command.at) (histories command.at))
+        (subst (AreSteps D b) (sym (take_and_drop (histories command.at) (k.known command.at))) (steps_of_node D world histories all runs_in command.at b runs))
 
-    module _ (op number : ℕ) (waits : pending_op k.step.line.answer ≡ Some op) (t : TimesOutKnown D world histories c (member_of command) k (Some op) (Some number)) where
+    module _ (op number : ℕ) (waits : pending_op k.step.line.answer ≡ Some op) (t : TimesOutKnown D world histories c command.at k (Some op) (Some number)) where
       p : Pends op t.0 t.1
       p = pends op t.0 waits t.2 t.1 t.3
 
       timeout_later : t.0 < number
       timeout_later =
-          let stamps = t.4.early.1 (member_of command) t.0 t.1 t.3 t.4.own in
+          let stamps = t.4.early.1 command.at t.0 t.1 t.3 t.4.own in
           let later = t.4.early.2 in
-          before_by_stamp 0 t.0 number (histories (member_of command)) t.1 t.4.timeout (all.rise (member_of command)) t.3 t.4.made.stands (omega (arith, stamps, later))
+          before_by_stamp 0 t.0 number (histories command.at) t.1 t.4.timeout (all.rise command.at) t.3 t.4.made.stands (omega (arith, stamps, later))
 
       -- the operation is closed
       closed_then : is_open op at_known ≡ false
-      closed_then = by (world.nodes (member_of command)) refl
+      closed_then = by (world.nodes command.at) refl
         where
-          by : (o : Option (Node Kind Op Shown)) → world.nodes (member_of command) ≡ o → is_open op (option_map (λ b. replayed D b (take (k.known (member_of command)) (histories (member_of command)))) o) ≡ false
+          by : (o : Option (Node Kind Op Shown)) → world.nodes command.at ≡ o → is_open op (option_map (λ b. replayed D b (take (k.known command.at) (histories command.at))) o) ≡ false
           by None none = refl
           by (Some b) runs =
-              closed_after D op t.0 number b (take (k.known (member_of command)) (histories (member_of command))) t.1 t.4.timeout (steps_known b runs) (stands_first (k.known (member_of command)) t.0 (histories (member_of command)) t.1 t.3 p.known) p.reply
-              (stands_first (k.known (member_of command)) number (histories (member_of command)) t.4.timeout t.4.made.stands t.4.known) t.4.made.asks timeout_later
+              closed_after D op t.0 number b (take (k.known command.at) (histories command.at)) t.1 t.4.timeout (steps_known b runs) (stands_first (k.known command.at) t.0 (histories command.at) t.1 t.3 p.known) p.reply
+              (stands_first (k.known command.at) number (histories command.at) t.4.timeout t.4.made.stands t.4.known) t.4.made.asks timeout_later
 
       -- and has no result, if it was found open
       none_then : t.4.timeout.output.reply ≡ Reply.TimedOut → finished_at op at_known ≡ None
-      none_then found = by (world.nodes (member_of command)) refl
+      none_then found = by (world.nodes command.at) refl
         where
-          by : (o : Option (Node Kind Op Shown)) → world.nodes (member_of command) ≡ o → finished_at op (option_map (λ b. replayed D b (take (k.known (member_of command)) (histories (member_of command)))) o) ≡ None
+          by : (o : Option (Node Kind Op Shown)) → world.nodes command.at ≡ o → finished_at op (option_map (λ b. replayed D b (take (k.known command.at) (histories command.at))) o) ≡ None
           by None none = refl
           by (Some b) runs =
-              none_after_timeout D op t.4.timeout t.4.made.asks found t.0 number b (take (k.known (member_of command)) (histories (member_of command))) t.1 (below (member_of command) b runs) (steps_known b runs)
-              (stands_first (k.known (member_of command)) t.0 (histories (member_of command)) t.1 t.3 p.known) p.reply (stands_first (k.known (member_of command)) number (histories (member_of command)) t.4.timeout t.4.made.stands t.4.known) timeout_later
+              none_after_timeout D op t.4.timeout t.4.made.asks found t.0 number b (take (k.known command.at) (histories command.at)) t.1 (below command.at b runs) (steps_known b runs)
+              (stands_first (k.known command.at) t.0 (histories command.at) t.1 t.3 p.known) p.reply (stands_first (k.known command.at) number (histories command.at) t.4.timeout t.4.made.stands t.4.known) timeout_later
 
-    ended_now : (pending timeout : Option ℕ) → pending_op k.step.line.answer ≡ pending → TimesOutKnown D world histories c (member_of command) k pending timeout → (timeout ≡ None → KnowsEnded D world histories (member_of command) k.known pending) → KnowsEnded D world histories (member_of command) k.known pending
+    ended_now : (pending timeout : Option ℕ) → pending_op k.step.line.answer ≡ pending → TimesOutKnown D world histories c command.at k pending timeout → (timeout ≡ None → KnowsEnded D world histories command.at k.known pending) → KnowsEnded D world histories command.at k.known pending
     ended_now pending None waits t ends = ends refl
     ended_now None (Some number) waits t ends = absurd t
     ended_now (Some op) (Some number) waits t ends = inl (closed_then op number waits t)
 
-    ends_known : (reply : Reply Shown) → IsKnownReply D world histories c command k reply → KnowsEnded D world histories (member_of command) k.known (pending_op k.step.line.answer)
+    ends_known : (reply : Reply Shown) → IsKnownReply D world histories c command k reply → KnowsEnded D world histories command.at k.known (pending_op k.step.line.answer)
     ends_known reply r = ended_now (pending_op k.step.line.answer) k.step.timeout refl is.timed_out r.ended
 
     replied : (reply : Reply Shown) → k.step.line.answer ≡ Answer.Replied reply → IsKnownReply D world histories c command k reply → IsReplied D world histories c command k.step reply
@@ -261,28 +261,28 @@ module _ {Kind Op Shown : Type 0} (D : Replication Kind Op Shown) (world : World
           replied = r.replied;
           posts = r.posts;
           later = r.later;
-          before = is.knows (member_of command) r.index r.entry r.made.stands r.known;
+          before = is.knows command.at r.index r.entry r.made.stands r.known;
           heard = ⊎_elim
-              (λ (h : KnowsHeard D world histories (member_of command) r.index r.entry k.known).
-              or_left (are_posts_taken D world histories (member_of command) r.entry k.step.upto) (some_full_until D world histories k.step.upto) (posts_taken k.known k.step.upto is.knows (member_of command) r.index r.entry (member_at (member_of command) r.runs) r.made.stands h))
-              (λ f. or_right (are_posts_taken D world histories (member_of command) r.entry k.step.upto) (some_full_until D world histories k.step.upto) (some_full k.known k.step.upto is.knows f))
+              (λ (h : KnowsHeard D world histories command.at r.index r.entry k.known).
+              or_left (are_posts_taken D world histories command.at r.entry k.step.upto) (some_full_until D world histories k.step.upto) (posts_taken k.known k.step.upto is.knows command.at r.index r.entry (member_at command.at r.runs) r.made.stands h))
+              (λ f. or_right (are_posts_taken D world histories command.at r.entry k.step.upto) (some_full_until D world histories k.step.upto) (some_full k.known k.step.upto is.knows f))
               r.heard;
-          ended = ended k.known k.step.upto is.knows (member_of command) r.index r.entry (pending_op k.step.line.answer) r.made.stands (λ op e. r.replied ∙ pending_reply reply op (sym (ap pending_op said) ∙ e)) r.known (ends_known reply r);
+          ended = ended k.known k.step.upto is.knows command.at r.index r.entry (pending_op k.step.line.answer) r.made.stands (λ op e. r.replied ∙ pending_reply reply op (sym (ap pending_op said) ∙ e)) r.known (ends_known reply r);
         }
 
     answered_by : (answer : Answer Shown) → k.step.line.answer ≡ answer → IsKnownAnswer D world histories c command k answer → IsAnsweredBy D world histories c command k.step answer
     answered_by (Answer.Replied reply) said h = replied reply said h
     answered_by Answer.Gone said h = h
     answered_by Answer.NoSuchView said h = h
-    answered_by Answer.HistoryFull said h = (h.0, h.1, h.2, one_full k.known k.step.upto is.knows (member_of command) h.3)
+    answered_by Answer.HistoryFull said h = (h.0, h.1, h.2, one_full k.known k.step.upto is.knows command.at h.3)
     answered_by answer said h = absurd h
 
     -- THE END OF ITS LINE
 
     abbrev at_end : Option (Node Kind Op Shown)
-    at_end = option_map (λ before. replayed D before (histories (member_of command))) (world.nodes (member_of command))
+    at_end = option_map (λ before. replayed D before (histories command.at)) (world.nodes command.at)
 
-    ends_as_known : (pending timeout : Option ℕ) → pending_op k.step.line.answer ≡ pending → TimesOutKnown D world histories c (member_of command) k pending timeout → EndsByTimeout D world histories (member_of command) k pending timeout → k.step.line.ended ≡ ending_of at_known pending
+    ends_as_known : (pending timeout : Option ℕ) → pending_op k.step.line.answer ≡ pending → TimesOutKnown D world histories c command.at k pending timeout → EndsByTimeout D world histories command.at k pending timeout → k.step.line.ended ≡ ending_of at_known pending
     ends_as_known None timeout waits t h = absurd h
     ends_as_known (Some op) None waits t h = absurd h
     ends_as_known (Some op) (Some number) waits t h =
@@ -290,47 +290,47 @@ module _ {Kind Op Shown : Type 0} (D : Replication Kind Op Shown) (world : World
         h.3 ∙ sym (ending_none op at_known (closed_then op number waits t) (none_then op number waits t (ap (λ (x : Entry Op Shown). x.output.reply) same ∙ h.2)))
 
     line_is : k.step.line.ended ≡ ending_of at_known (pending_op k.step.line.answer)
-    line_is = ⊎_elim (λ (h : EndsByTimeout D world histories (member_of command) k (pending_op k.step.line.answer) k.step.timeout). ends_as_known (pending_op k.step.line.answer) k.step.timeout refl is.timed_out h) (λ e. e) is.ends
+    line_is = ⊎_elim (λ (h : EndsByTimeout D world histories command.at k (pending_op k.step.line.answer) k.step.timeout). ends_as_known (pending_op k.step.line.answer) k.step.timeout refl is.timed_out h) (λ e. e) is.ends
 
     -- a closed operation stands at the end as it was known to stand, and a full member makes no more steps
-    stays : (op index : ℕ) (e : Entry Op Shown) → Pends op index e → KnowsEnded D world histories (member_of command) k.known (Some op) → ending_of at_known (Some op) ≡ ending_of at_end (Some op)
-    stays op index e p ends = ⊎_elim (λ (closed : is_open op at_known ≡ false). by_closed (world.nodes (member_of command)) refl closed) (λ f. by_full (world.nodes (member_of command)) refl f.0 f.1 f.2) ends
+    stays : (op index : ℕ) (e : Entry Op Shown) → Pends op index e → KnowsEnded D world histories command.at k.known (Some op) → ending_of at_known (Some op) ≡ ending_of at_end (Some op)
+    stays op index e p ends = ⊎_elim (λ (closed : is_open op at_known ≡ false). by_closed (world.nodes command.at) refl closed) (λ f. by_full (world.nodes command.at) refl f.0 f.1 f.2) ends
       where
         whole : List (Entry Op Shown)
-        whole = histories (member_of command)
+        whole = histories command.at
 
         firsts : List (Entry Op Shown)
-        firsts = take (k.known (member_of command)) (histories (member_of command))
+        firsts = take (k.known command.at) (histories command.at)
 
         others : List (Entry Op Shown)
-        others = drop (k.known (member_of command)) (histories (member_of command))
+        others = drop (k.known command.at) (histories command.at)
 
-        by_closed : (o : Option (Node Kind Op Shown)) → world.nodes (member_of command) ≡ o → is_open op (option_map (λ b. replayed D b (take (k.known (member_of command)) (histories (member_of command)))) o) ≡ false
-            → ending_of (option_map (λ b. replayed D b (take (k.known (member_of command)) (histories (member_of command)))) o) (Some op) ≡ ending_of (option_map (λ b. replayed D b (histories (member_of command))) o) (Some op)
+        by_closed : (o : Option (Node Kind Op Shown)) → world.nodes command.at ≡ o → is_open op (option_map (λ b. replayed D b (take (k.known command.at) (histories command.at))) o) ≡ false
+            → ending_of (option_map (λ b. replayed D b (take (k.known command.at) (histories command.at))) o) (Some op) ≡ ending_of (option_map (λ b. replayed D b (histories command.at)) o) (Some op)
         by_closed None none closed = refl
         by_closed (Some b) runs closed =
-            let split : firsts ++ others ≡ whole = take_and_drop (histories (member_of command)) (k.known (member_of command)) in
-            let steps : AreSteps D b (firsts ++ others) = subst (AreSteps D b) (sym split) (steps_of_node D world histories all runs_in (member_of command) b runs) in
-            let below = number_of_pending D op index b firsts e (steps_first D b firsts others steps) (stands_first (k.known (member_of command)) index (histories (member_of command)) e p.stands p.known) p.reply in
-            let same : replayed D b (histories (member_of command)) ≡ replayed D (replayed D b firsts) others = ap (replayed D b) (sym split) ∙ replayed-append D b firsts others in
-            same_ending op (Some (replayed D b firsts)) (Some (replayed D b (histories (member_of command))))
+            let split : firsts ++ others ≡ whole = take_and_drop (histories command.at) (k.known command.at) in
+            let steps : AreSteps D b (firsts ++ others) = subst (AreSteps D b) (sym split) (steps_of_node D world histories all runs_in command.at b runs) in
+            let below = number_of_pending D op index b firsts e (steps_first D b firsts others steps) (stands_first (k.known command.at) index (histories command.at) e p.stands p.known) p.reply in
+            let same : replayed D b (histories command.at) ≡ replayed D (replayed D b firsts) others = ap (replayed D b) (sym split) ∙ replayed-append D b firsts others in
+            same_ending op (Some (replayed D b firsts)) (Some (replayed D b (histories command.at)))
             (closed ∙ sym (ap (λ n. is_open op (Some n)) same ∙ closed_since D op (replayed D b firsts) others below closed))
             (sym (ap (λ n. finished_at op (Some n)) same ∙ finished_since D op (replayed D b firsts) others below closed))
 
-        by_full : (o : Option (Node Kind Op Shown)) → world.nodes (member_of command) ≡ o → (count : ℕ) → count ≤ k.known (member_of command) → node_full (member_after D world histories (member_of command) count) ≡ true
-            → ending_of (option_map (λ b. replayed D b (take (k.known (member_of command)) (histories (member_of command)))) o) (Some op) ≡ ending_of (option_map (λ b. replayed D b (histories (member_of command))) o) (Some op)
+        by_full : (o : Option (Node Kind Op Shown)) → world.nodes command.at ≡ o → (count : ℕ) → count ≤ k.known command.at → node_full (member_after D world histories command.at count) ≡ true
+            → ending_of (option_map (λ b. replayed D b (take (k.known command.at) (histories command.at))) o) (Some op) ≡ ending_of (option_map (λ b. replayed D b (histories command.at)) o) (Some op)
         by_full None none count few full = refl
         by_full (Some b) runs count few full =
-            let split : take count whole ++ drop count whole ≡ whole = take_and_drop (histories (member_of command)) count in
-            let steps : AreSteps D b (take count whole ++ drop count whole) = subst (AreSteps D b) (sym split) (steps_of_node D world histories all runs_in (member_of command) b runs) in
-            let is_over : is_full (replayed D b (take count whole)) ≡ true = sym (ap (λ o. node_full (option_map (λ b. replayed D b (take count (histories (member_of command)))) o)) runs) ∙ full in
+            let split : take count whole ++ drop count whole ≡ whole = take_and_drop (histories command.at) count in
+            let steps : AreSteps D b (take count whole ++ drop count whole) = subst (AreSteps D b) (sym split) (steps_of_node D world histories all runs_in command.at b runs) in
+            let is_over : is_full (replayed D b (take count whole)) ≡ true = sym (ap (λ o. node_full (option_map (λ b. replayed D b (take count (histories command.at))) o)) runs) ∙ full in
             let none = full_ends D (replayed D b (take count whole)) (drop count whole) (steps_after D b (take count whole) (drop count whole) steps) is_over in
-            ap (λ es. ending_of (Some (replayed D b es)) (Some op)) (take_whole_more count (k.known (member_of command)) (histories (member_of command)) none few)
+            ap (λ es. ending_of (Some (replayed D b es)) (Some op)) (take_whole_more count (k.known command.at) (histories command.at) none few)
 
     line_ends : (answer : Answer Shown) → k.step.line.answer ≡ answer → IsKnownAnswer D world histories c command k answer → (pending : Option ℕ) → pending_op k.step.line.answer ≡ pending → ending_of at_known pending ≡ ending_of at_end pending
     line_ends answer said h None waits = refl
     line_ends (Answer.Replied reply) said r (Some op) waits =
-        stays op r.index r.entry (pends op r.index waits r.at r.entry r.made.stands) (subst (KnowsEnded D world histories (member_of command) k.known) waits (ends_known reply r))
+        stays op r.index r.entry (pends op r.index waits r.at r.entry r.made.stands) (subst (KnowsEnded D world histories command.at k.known) waits (ends_known reply r))
     line_ends Answer.Gone said h (Some op) waits = absurd (let e = sym (ap pending_op said) ∙ waits in cc e)
     line_ends Answer.NoSuchView said h (Some op) waits = absurd (let e = sym (ap pending_op said) ∙ waits in cc e)
     line_ends Answer.HistoryFull said h (Some op) waits = absurd (let e = sym (ap pending_op said) ∙ waits in cc e)
@@ -341,7 +341,7 @@ module _ {Kind Op Shown : Type 0} (D : Replication Kind Op Shown) (world : World
   module _ (clients : List (List (Command Op))) (paths : List (List (KnownStep Op Shown))) (are : AreKnownPaths D world histories clients paths) where
     module _ (c n : ℕ) (commands : List (Command Op)) (ks : List (KnownStep Op Shown)) (command : Command Op) (k : KnownStep Op Shown) (of_client : slice_get clients c ≡ Some commands) (of_path : slice_get paths c ≡ Some ks) (e_command : slice_get commands n ≡ Some command) (e_step : slice_get ks n ≡ Some k)
         (is : IsKnownStepOf D world histories c command k) where
-      timed_out : (pending timeout : Option ℕ) → pending_op k.step.line.answer ≡ pending → k.step.timeout ≡ timeout → TimesOutKnown D world histories c (member_of command) k pending timeout → TimesOut D world histories c (member_of command) k.step pending timeout
+      timed_out : (pending timeout : Option ℕ) → pending_op k.step.line.answer ≡ pending → k.step.timeout ≡ timeout → TimesOutKnown D world histories c command.at k pending timeout → TimesOut D world histories c command.at k.step pending timeout
       timed_out pending None waits said t = tt
       timed_out None (Some number) waits said t = absurd t
       timed_out (Some op) (Some number) waits said t =
@@ -355,15 +355,15 @@ module _ {Kind Op Shown : Type 0} (D : Replication Kind Op Shown) (world : World
               timeout = o.timeout;
               seen = o.stamp;
               made = o.made;
-              later = (o.early.1 (member_of command) t.0 t.1 t.3 o.own, o.early.2);
-              before = is.knows (member_of command) number o.timeout o.made.stands o.known;
+              later = (o.early.1 command.at t.0 t.1 t.3 o.own, o.early.2);
+              before = is.knows command.at number o.timeout o.made.stands o.known;
               cause = ⊎_elim
-                  (λ (h : KnowsHeard D world histories (member_of command) t.0 t.1 o.asked × KnowsAnswered D world histories (member_of command) o.asked o.seen × IsUnfinished D world histories (member_of command) op (o.seen (member_of command))).
+                  (λ (h : KnowsHeard D world histories command.at t.0 t.1 o.asked × KnowsAnswered D world histories command.at o.asked o.seen × IsUnfinished D world histories command.at op (o.seen command.at)).
                   inl (
                     is_timed_out D world histories all none_own clients paths are c n commands ks command k of_client of_path e_command e_step op t.0 number t.1 t.2 said t.3 p.reply p.of p.member
                         o.asked o.seen o.stamp o.timeout o.early.1 o.early.2 o.own o.made.stands o.made.asks h.0 h.1 h.2,
-                    posts_taken o.asked o.stamp o.early.0 (member_of command) t.0 t.1 p.member t.3 h.0,
-                    answers_taken o.asked o.seen o.stamp o.early.0 o.early.1 (member_of command) t.0 op t.1 p.member t.3 p.reply h.0 h.1,
+                    posts_taken o.asked o.stamp o.early.0 command.at t.0 t.1 p.member t.3 h.0,
+                    answers_taken o.asked o.seen o.stamp o.early.0 o.early.1 command.at t.0 op t.1 p.member t.3 p.reply h.0 h.1,
                   ))
                   (λ f. inr (some_full o.seen o.stamp o.early.1 f))
                   o.cause;

@@ -10,8 +10,9 @@ use Rattle.model_members.specs.Message.{Post}
 use Rattle.model_members.specs.Node.{Node, Input, Reply}
 use Rattle.model_members.specs.World.{World, views_of}
 use Rattle.model_members.specs.Script.{Answer}
+use Rattle.theorem_sections.proofs.AskedInputs.{IsAsked, is_asked}
 use Rattle.theorem_operations.proofs.Lists.{all_last}
-use Rattle.theorem_sections.specs.Sections.{Command, answers, member_of, pending_op, is_open, finished_at}
+use Rattle.theorem_sections.specs.Sections.{Command, answers, pending_op, is_open, finished_at}
 use Rattle.theorem_sections.specs.Histories.{Entry, Passed, AreHeard, IsFromClients, posted_to, taken_from, AreSteps, replayed, AreHistories}
 use Rattle.theorem_sections.specs.Paths.{ClientStep, until, IsInputOf, IsTake, HasEntryAt}
 use Rattle.theorem_sections.specs.Knowing.{KnownStep, steps_of, IsKnownBy, member_after, KnowsHeard, KnowsAnswered, IsUnfinished, IsKnownReply, IsKnownAnswer, TimesOutKnown, IsKnownStepOf, IsKnownPath, AreKnownPaths}
@@ -44,12 +45,7 @@ none_heard [] h = refl
 none_heard (take ∷ takes) h = absurd h
 
 no_timeout_given : {Op : Type 0} (views : List View) (command : Command Op) (input : Input Op) (op : ℕ) → IsInputOf views command input → input ≢ Input.Timeout op
-no_timeout_given views (Command.Update i key x level) input op is = λ e. let f = sym is ∙ e in cc f
-no_timeout_given views (Command.Get i key level) input op is = λ e. let f = sym is ∙ e in cc f
-no_timeout_given views (Command.Flush i) input op is = λ e. let f = sym is ∙ e in cc f
-no_timeout_given views (Command.Gossip i to) input op is = λ e. let f = sym is ∙ e in cc f
-no_timeout_given views (Command.Tick i) input op is = λ e. let f = sym is ∙ e in cc f
-no_timeout_given views (Command.Install i number) input op is = λ e. let f = sym is.2 ∙ e in cc f
+no_timeout_given views command input op is = λ e. subst IsAsked e (is_asked views command.ask input is)
 
 same_timeout : {Op : Type 0} (a b : ℕ) → ◌≡◌ {A = Input Op} (Input.Timeout a) (Input.Timeout b) → a ≡ b
 same_timeout a b e = cc e
@@ -81,19 +77,19 @@ module _ {Kind Op Shown : Type 0} (D : Replication Kind Op Shown) (world : World
 
   -- it has a stamp between the client's two
   entry_within : (c : ℕ) (command : Command Op) (k : KnownStep Op Shown) → IsKnownStepOf D world histories c command k → (index : ℕ) → k.step.index ≡ Some index
-      → (e : Entry Op Shown) × (slice_get (histories (member_of command)) index ≡ Some e) × (k.step.since < e.stamp) × (e.stamp ≤ k.step.upto)
+      → (e : Entry Op Shown) × (slice_get (histories command.at) index ≡ Some e) × (k.step.since < e.stamp) × (e.stamp ≤ k.step.upto)
   entry_within c command k is index at =
       let r = (replied_at c command k is index at).2 in
       let same : r.index ≡ index = cc (sym r.at ∙ at) in (
         r.entry,
-        subst (λ n. slice_get (histories (member_of command)) n ≡ Some r.entry) same r.made.stands,
+        subst (λ n. slice_get (histories command.at) n ≡ Some r.entry) same r.made.stands,
         r.later,
-        is.knows (member_of command) r.index r.entry r.made.stands r.known,
+        is.knows command.at r.index r.entry r.made.stands r.known,
       )
 
   -- so no later command has it
   apart : (c stamp m i index : ℕ) (x : Command Op) (y : KnownStep Op Shown) (commands : List (Command Op)) (ks : List (KnownStep Op Shown)) (other : Command Op) (l : KnownStep Op Shown) → IsKnownPath D world histories c stamp (x ∷ commands) (y ∷ ks)
-      → slice_get commands m ≡ Some other → slice_get ks m ≡ Some l → member_of x ≡ i → member_of other ≡ i → y.step.index ≡ Some index → l.step.index ≡ Some index → ⊥
+      → slice_get commands m ≡ Some other → slice_get ks m ≡ Some l → x.at ≡ i → other.at ≡ i → y.step.index ≡ Some index → l.step.index ≡ Some index → ⊥
   apart c stamp m i index x y commands ks other l path g h at at' is is' =
       let first = entry_within c x y path.1 index is in
       let step = path_at c y.step.upto m commands ks other l path.2 g h in
@@ -104,15 +100,15 @@ module _ {Kind Op Shown : Type 0} (D : Replication Kind Op Shown) (world : World
 
   -- it stands for one command of a client
   one_step : (c stamp n m i index : ℕ) (commands : List (Command Op)) (ks : List (KnownStep Op Shown)) (command other : Command Op) (k l : KnownStep Op Shown) → IsKnownPath D world histories c stamp commands ks
-      → slice_get commands n ≡ Some command → slice_get ks n ≡ Some k → slice_get commands m ≡ Some other → slice_get ks m ≡ Some l → member_of command ≡ i → member_of other ≡ i → k.step.index ≡ Some index → l.step.index ≡ Some index → n ≡ m
+      → slice_get commands n ≡ Some command → slice_get ks n ≡ Some k → slice_get commands m ≡ Some other → slice_get ks m ≡ Some l → command.at ≡ i → other.at ≡ i → k.step.index ≡ Some index → l.step.index ≡ Some index → n ≡ m
   one_step c stamp n m i index [] ks command other k l path e f g h at at' is is' = absurd (cc e)
   one_step c stamp n m i index (x ∷ commands) [] command other k l path e f g h at at' is is' = absurd (cc f)
   one_step c stamp zero zero i index (x ∷ commands) (y ∷ ks) command other k l path e f g h at at' is is' = refl
   one_step c stamp (suc n) (suc m) i index (x ∷ commands) (y ∷ ks) command other k l path e f g h at at' is is' = ap suc (one_step c y.step.upto n m i index commands ks command other k l path.2 e f g h at at' is is')
   one_step c stamp zero (suc m) i index (x ∷ commands) (y ∷ ks) command other k l path e f g h at at' is is' =
-      absurd (apart c stamp m i index x y commands ks other l path g h (ap member_of (let s : x ≡ command = cc e in s) ∙ at) at' (ap (λ (z : KnownStep Op Shown). z.step.index) (let s : y ≡ k = cc f in s) ∙ is) is')
+      absurd (apart c stamp m i index x y commands ks other l path g h (ap (λ (c : Command _). c.at) (let s : x ≡ command = cc e in s) ∙ at) at' (ap (λ (z : KnownStep Op Shown). z.step.index) (let s : y ≡ k = cc f in s) ∙ is) is')
   one_step c stamp (suc n) zero i index (x ∷ commands) (y ∷ ks) command other k l path e f g h at at' is is' =
-      absurd (apart c stamp n i index x y commands ks command k path e f (ap member_of (let s : x ≡ other = cc g in s) ∙ at') at (ap (λ (z : KnownStep Op Shown). z.step.index) (let s : y ≡ l = cc h in s) ∙ is') is)
+      absurd (apart c stamp n i index x y commands ks command k path e f (ap (λ (c : Command _). c.at) (let s : x ≡ other = cc g in s) ∙ at') at (ap (λ (z : KnownStep Op Shown). z.step.index) (let s : y ≡ l = cc h in s) ∙ is') is)
 
   module _ (all : AreHistories D world histories) (none_own : (i : ℕ) → IsTrue (is_member world.view i) → posted_to i (histories i) ≡ []) (clients : List (List (Command Op))) (paths : List (List (KnownStep Op Shown))) (are : AreKnownPaths D world histories clients paths) where
     -- ONE TIMEOUT FOR AN OPERATION
@@ -124,13 +120,13 @@ module _ {Kind Op Shown : Type 0} (D : Replication Kind Op Shown) (world : World
       its_step : IsKnownStepOf D world histories c command k
       its_step = (path_at c 0 n commands ks command k its_path e_command e_step).0
 
-      module _ (op index number : ℕ) (e : Entry Op Shown) (at : k.step.index ≡ Some index) (timeout_at : k.step.timeout ≡ Some number) (stands : slice_get (histories (member_of command)) index ≡ Some e) (reply : e.output.reply ≡ Reply.Pending op) (of : e.client ≡ c) (mi : IsTrue (is_member world.view (member_of command))) where
+      module _ (op index number : ℕ) (e : Entry Op Shown) (at : k.step.index ≡ Some index) (timeout_at : k.step.timeout ≡ Some number) (stands : slice_get (histories command.at) index ≡ Some e) (reply : e.output.reply ≡ Reply.Pending op) (of : e.client ≡ c) (mi : IsTrue (is_member world.view command.at)) where
         abbrev i : ℕ
-        i = member_of command
+        i = command.at
 
         -- another step of a path that has the operation's timeout is this one
         same_timeout_step : (d m : ℕ) (others : List (Command Op)) (ls : List (KnownStep Op Shown)) (other : Command Op) (l : KnownStep Op Shown) → slice_get clients d ≡ Some others → slice_get paths d ≡ Some ls → slice_get others m ≡ Some other → slice_get ls m ≡ Some l
-            → member_of other ≡ i → d ≡ c → l.step.index ≡ Some index → (p : ℕ) → l.step.timeout ≡ Some p → p ≡ number
+            → other.at ≡ i → d ≡ c → l.step.index ≡ Some index → (p : ℕ) → l.step.timeout ≡ Some p → p ≡ number
         same_timeout_step d m others ls other l f g f' g' here same is p said =
             let same_commands : others ≡ commands = (let s : Some others ≡ Some commands = sym f ∙ ap (slice_get clients) same ∙ of_client in cc s) in
             let same_steps : ls ≡ ks = (let s : Some ls ≡ Some ks = sym g ∙ ap (slice_get paths) same ∙ of_path in cc s) in
@@ -141,8 +137,8 @@ module _ {Kind Op Shown : Type 0} (D : Replication Kind Op Shown) (world : World
             let s : Some p ≡ Some number = sym said ∙ ap (λ (z : KnownStep Op Shown). z.step.timeout) (sym same_k) ∙ timeout_at in cc s
 
         by_timeout : (d m : ℕ) (others : List (Command Op)) (ls : List (KnownStep Op Shown)) (other : Command Op) (l : KnownStep Op Shown) → slice_get clients d ≡ Some others → slice_get paths d ≡ Some ls → slice_get others m ≡ Some other → slice_get ls m ≡ Some l
-            → member_of other ≡ i → (p : ℕ) (x : Entry Op Shown) → slice_get (histories i) p ≡ Some x → x.input ≡ Input.Timeout op → l.step.timeout ≡ Some p
-            → IsKnownStepOf D world histories d other l → (pending : Option ℕ) → pending_op l.step.line.answer ≡ pending → TimesOutKnown D world histories d (member_of other) l pending (Some p) → p ≡ number
+            → other.at ≡ i → (p : ℕ) (x : Entry Op Shown) → slice_get (histories i) p ≡ Some x → x.input ≡ Input.Timeout op → l.step.timeout ≡ Some p
+            → IsKnownStepOf D world histories d other l → (pending : Option ℕ) → pending_op l.step.line.answer ≡ pending → TimesOutKnown D world histories d other.at l pending (Some p) → p ≡ number
         by_timeout d m others ls other l f g f' g' here p x at_x is said its None waits t = absurd t
         by_timeout d m others ls other l f g f' g' here p x at_x is said its (Some op') waits t =
             let o = t.4 in
@@ -175,7 +171,7 @@ module _ {Kind Op Shown : Type 0} (D : Replication Kind Op Shown) (world : World
             (λ (t_at : h.step.timeout ≡ Some p).
             let said : l.0.step.timeout ≡ Some p = ap (λ (z : ClientStep Op Shown). z.timeout) l.2 ∙ t_at in
             by_timeout h.client h.number h.commands ls.0 h.command l.0 h.of.0 ls.1 h.stands.0 l.1 h.at.0 p x at_x is said its (pending_op l.0.step.line.answer) refl
-            (subst (TimesOutKnown D world histories h.client (member_of h.command) l.0 (pending_op l.0.step.line.answer)) said its.timed_out))
+            (subst (TimesOutKnown D world histories h.client h.command.at l.0 (pending_op l.0.step.line.answer)) said its.timed_out))
             h.at.1)
             (are.whole i p x at_x)
 

@@ -11,6 +11,7 @@ pub mod Untils
 pub mod Moves
 pub mod Along
 pub mod Asked
+mod AskedInputs
 pub mod Asking
 pub mod Away
 pub mod Standing

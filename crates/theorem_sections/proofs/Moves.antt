@@ -12,10 +12,10 @@ use Rattle.model_members.specs.Node.Fate.{NoStore, Stored, StoreFailed}
 use Rattle.model_members.specs.Step.{step, is_full}
 use Rattle.model_members.specs.World.{Event, views_of, stores, FitsFate, Turn, turn_of, step_in, output_of}
 use Rattle.model_members.specs.World.Event.{InputAt}
-use Rattle.model_members.specs.Script.{Playing, Head, Answer, KeeperAnswers, played, next_answer, with_call, did, output_lines, told, answers_between}
+use Rattle.model_members.specs.Script.{asked_by, input_of, Playing, Head, Answer, KeeperAnswers, played, next_answer, with_call, did, output_lines, told, answers_between}
 use Rattle.theorem_operations.proofs.PlayedInputs.{turn_by}
-use Rattle.theorem_sections.proofs.Givens.{given_to, given_room, given_fate, install_view}
-use Rattle.theorem_sections.specs.Sections.{Command, step_of, member_of}
+use Rattle.theorem_sections.proofs.Givens.{given_to, given_room, given_fate}
+use Rattle.theorem_sections.specs.Sections.{Command, step_of}
 use Rattle.theorem_sections.specs.Histories.{Placed, taken_by, event_of, due_after}
 use Rattle.theorem_sections.specs.Paths.{answer_of, answered_in, IsInputOf, head_of, IsTake, LacksView}
 use Rattle.theorem_sections.proofs.NextDue.{same_or_not}
@@ -151,33 +151,19 @@ module _ {Kind Op Shown : Type 0} (D : Replication Kind Op Shown) where
 
   -- COMMANDS
 
-  pub command_plays : (p : Playing Kind Op Shown) (command : Command Op) (input : Input Op) → IsInputOf (views_of p.world) command input → is_some (p.world.nodes (member_of command)) ≡ true
-      → played D p (step_of command) ≡ given_to D p (head_of command) (InputAt (member_of command) input) (member_of command) input (p.world.nodes (member_of command))
-  command_plays p (Command.Update i key op level) input is runs = ap (λ n. given_to D p (Head.UpdateHead i key) (InputAt i n) i n (p.world.nodes i)) (sym is)
-  command_plays p (Command.Get i key level) input is runs = ap (λ n. given_to D p (Head.GetHead i key) (InputAt i n) i n (p.world.nodes i)) (sym is)
-  command_plays p (Command.Flush i) input is runs = ap (λ n. given_to D p (Head.FlushHead i) (InputAt i n) i n (p.world.nodes i)) (sym is)
-  command_plays p (Command.Gossip i to) input is runs = ap (λ n. given_to D p (Head.GossipHead i to) (InputAt i n) i n (p.world.nodes i)) (sym is)
-  command_plays p (Command.Tick i) input is runs = ap (λ n. given_to D p (Head.TickHead i) (InputAt i n) i n (p.world.nodes i)) (sym is)
-  command_plays p (Command.Install i number) input is runs =
-      ap (λ b. if b then install_view D p i number (slice_get (views_of p.world) number) else told p (Head.InstallHead i number) Answer.Gone) runs
-      ∙ ap (install_view D p i number) is.1 ∙ ap (λ n. given_to D p (Head.InstallHead i number) (InputAt i n) i n (p.world.nodes i)) (sym is.2)
+  pub command_plays : (p : Playing Kind Op Shown) (command : Command Op) (input : Input Op) → IsInputOf (views_of p.world) command input
+      → played D p (step_of command) ≡ given_to D p (head_of command) (InputAt command.at input) command.at input (p.world.nodes command.at)
+  command_plays p command input is = ap (asked_by D p command.at command.ask) is
 
-  pub command_gone : (p : Playing Kind Op Shown) (command : Command Op) → p.world.nodes (member_of command) ≡ None → played D p (step_of command) ≡ told p (head_of command) Answer.Gone
-  command_gone p (Command.Update i key op level) none = ap (given_to D p (Head.UpdateHead i key) (InputAt i (Input.Update key op level)) i (Input.Update key op level)) none
-  command_gone p (Command.Get i key level) none = ap (given_to D p (Head.GetHead i key) (InputAt i (Input.Get key level)) i (Input.Get key level)) none
-  command_gone p (Command.Flush i) none = ap (given_to D p (Head.FlushHead i) (InputAt i Input.Flush) i Input.Flush) none
-  command_gone p (Command.Gossip i to) none = ap (given_to D p (Head.GossipHead i to) (InputAt i (Input.GossipTo to)) i (Input.GossipTo to)) none
-  command_gone p (Command.Tick i) none = ap (given_to D p (Head.TickHead i) (InputAt i Input.PruneTick) i Input.PruneTick) none
-  command_gone p (Command.Install i number) none = ap (λ o. if is_some o then install_view D p i number (slice_get (views_of p.world) number) else told p (Head.InstallHead i number) Answer.Gone) none
+  pub command_gone : (p : Playing Kind Op Shown) (command : Command Op) → p.world.nodes command.at ≡ None → played D p (step_of command) ≡ told p (head_of command) Answer.Gone
+  command_gone p command none = by_input (input_of (views_of p.world) command.ask)
+    where
+      by_input : (o : Option (Input Op)) → asked_by D p command.at command.ask o ≡ told p (head_of command) Answer.Gone
+      by_input None = ap (λ o. told p (head_of command) (if is_some o then Answer.NoSuchView else Answer.Gone)) none
+      by_input (Some input) = ap (given_to D p (head_of command) (InputAt command.at input) command.at input) none
 
-  pub command_lacks : (p : Playing Kind Op Shown) (command : Command Op) → LacksView (views_of p.world) command → is_some (p.world.nodes (member_of command)) ≡ true → played D p (step_of command) ≡ told p (head_of command) Answer.NoSuchView
-  command_lacks p (Command.Update i key op level) lacks runs = absurd lacks
-  command_lacks p (Command.Get i key level) lacks runs = absurd lacks
-  command_lacks p (Command.Flush i) lacks runs = absurd lacks
-  command_lacks p (Command.Gossip i to) lacks runs = absurd lacks
-  command_lacks p (Command.Tick i) lacks runs = absurd lacks
-  command_lacks p (Command.Install i number) lacks runs =
-      ap (λ b. if b then install_view D p i number (slice_get (views_of p.world) number) else told p (Head.InstallHead i number) Answer.Gone) runs ∙ ap (install_view D p i number) lacks
+  pub command_lacks : (p : Playing Kind Op Shown) (command : Command Op) → LacksView (views_of p.world) command → is_some (p.world.nodes command.at) ≡ true → played D p (step_of command) ≡ told p (head_of command) Answer.NoSuchView
+  command_lacks p command lacks runs = ap (asked_by D p command.at command.ask) lacks ∙ ap (λ b. told p (head_of command) (if b then Answer.NoSuchView else Answer.Gone)) runs
 
 -- an input that takes no message
 pub record TakesNone {Op : Type 0} (input : Input Op) : Type 0 where

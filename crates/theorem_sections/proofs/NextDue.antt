@@ -14,10 +14,10 @@ use Rattle.model_members.specs.Node.Fate.{NoStore}
 use Rattle.model_members.specs.Step.{step, is_full}
 use Rattle.model_members.specs.World.{World, Event, Link, Links, views_of, message_at, with_link, with_post, with_posts, moved_on, happens}
 use Rattle.model_members.specs.World.Event.{InputAt, Delivery}
-use Rattle.model_members.specs.Script.{Playing, Head, played, deliver, told, Answer, last_of}
+use Rattle.model_members.specs.Script.{asked_by, input_of, Playing, Head, played, deliver, told, Answer, last_of}
 use Rattle.theorem_operations.proofs.Lists.{first_true, second_true}
 use Rattle.theorem_operations.proofs.PlayedInputs.{turn_by, turn_taken}
-use Rattle.theorem_sections.proofs.Givens.{given_to, given_room, deliver_message, install_view, message_given}
+use Rattle.theorem_sections.proofs.Givens.{given_to, given_room, deliver_message, message_given}
 use Rattle.model_members.proofs.Cases.{stepped_at, delivered}
 use Rattle.theorem_runs.proofs.Keeping.{if_holds, if_tells}
 use Rattle.theorem_sections.specs.Sections.{Command, Client, Made, Section, Move, step_of, pending_op, opened, commanded, commanded_by, heard, timed_out, timed_out_made, timed_out_op, moved, moved_all, may_come, may_all_come, has_room, running, world_of, IsSection}
@@ -109,19 +109,12 @@ module _ {Kind Op Shown : Type 0} (D : Replication Kind Op Shown) where
       if_holds (λ (q : Playing Kind Op Shown). next_in q.world a b ≡ next_in p.world a b) (is_full node) (told p head Answer.HistoryFull) (given_room D p head (InputAt i input) i input node) refl
       (room_next p head (InputAt i input) i input node a b (next_in p.world a b) (λ fate. stepped_next p.world i (p.world.nodes i) input fate a b))
 
-  view_next : (p : Playing Kind Op Shown) (i number : ℕ) (o : Option View) (a b : ℕ) → next_in (install_view D p i number o).world a b ≡ next_in p.world a b
-  view_next p i number None a b = refl
-  view_next p i number (Some view) a b = to_next p (Head.InstallHead i number) i (Input.Install view) (p.world.nodes i) a b
-
   pub command_next : (p : Playing Kind Op Shown) (command : Command Op) (a b : ℕ) → next_in (played D p (step_of command)).world a b ≡ next_in p.world a b
-  command_next p (Command.Update i key op level) a b = to_next p (Head.UpdateHead i key) i (Input.Update key op level) (p.world.nodes i) a b
-  command_next p (Command.Get i key level) a b = to_next p (Head.GetHead i key) i (Input.Get key level) (p.world.nodes i) a b
-  command_next p (Command.Flush i) a b = to_next p (Head.FlushHead i) i Input.Flush (p.world.nodes i) a b
-  command_next p (Command.Gossip i to) a b = to_next p (Head.GossipHead i to) i (Input.GossipTo to) (p.world.nodes i) a b
-  command_next p (Command.Tick i) a b = to_next p (Head.TickHead i) i Input.PruneTick (p.world.nodes i) a b
-  command_next p (Command.Install i number) a b =
-      if_holds (λ (q : Playing Kind Op Shown). next_in q.world a b ≡ next_in p.world a b) (is_some (p.world.nodes i)) (install_view D p i number (slice_get (views_of p.world) number)) (told p (Head.InstallHead i number) Answer.Gone)
-      (view_next p i number (slice_get (views_of p.world) number) a b) refl
+  command_next p command a b = by_input (input_of (views_of p.world) command.ask)
+    where
+      by_input : (o : Option (Input Op)) → next_in (asked_by D p command.at command.ask o).world a b ≡ next_in p.world a b
+      by_input None = refl
+      by_input (Some input) = to_next p (Head.Asked command.at command.ask) command.at input (p.world.nodes command.at) a b
 
   -- a message that is delivered
   happens_next : (world : World Kind Op Shown) (from to index : ℕ) (message : Message Op) (fate : Fate) (a b : ℕ) → message_at world from to index ≡ Some message

@@ -8,7 +8,7 @@ use Rattle.model_members.specs.View.{View, is_member, place_of}
 use Rattle.model_members.specs.DataType.{Replication}
 use Rattle.model_members.specs.Node.{Node, Reply}
 use Rattle.model_members.specs.World.{World}
-use Rattle.theorem_sections.specs.Sections.{Command, member_of, pending_op}
+use Rattle.theorem_sections.specs.Sections.{Command, pending_op}
 use Rattle.theorem_sections.specs.Histories.{Entry, Placed, entries_at, AreSorted, ComesBefore, AreHistories}
 use Rattle.theorem_sections.specs.Paths.{ClientStep, IsStepOf, IsReplied, IsTimedOut, TimesOut, IsPath}
 use Rattle.theorem_sections.proofs.NextDue.{same_or_not}
@@ -121,7 +121,7 @@ module _ {Kind Op Shown : Type 0} (D : Replication Kind Op Shown) (world : World
 
   -- an entry of a path
   abbrev pub EntryOf : Placed Op Shown → List (Command Op) → List (ClientStep Op Shown) → Type 0
-  EntryOf y (command ∷ commands) (step ∷ steps) = AtStep y (member_of command) step.index ⊎ (AtStep y (member_of command) step.timeout ⊎ EntryOf y commands steps)
+  EntryOf y (command ∷ commands) (step ∷ steps) = AtStep y command.at step.index ⊎ (AtStep y command.at step.timeout ⊎ EntryOf y commands steps)
   EntryOf y _ _ = ⊥
 
   at_entry : Placed Op Shown → ℕ → Entry Op Shown → Type 0
@@ -136,15 +136,15 @@ module _ {Kind Op Shown : Type 0} (D : Replication Kind Op Shown) (world : World
     pub entry : Entry Op Shown
     pub k : ℕ
     pub at : step.index ≡ Some k
-    pub stands : slice_get (histories (member_of command)) k ≡ Some entry
-    pub timed : IsTimedOut D world histories c (member_of command) op step entry k'
+    pub stands : slice_get (histories command.at) k ≡ Some entry
+    pub timed : IsTimedOut D world histories c command.at op step entry k'
 
-  timeout_of : (c : ℕ) (command : Command Op) (step : ClientStep Op Shown) (k' : ℕ) (o : Option ℕ) → step.timeout ≡ Some k' → (pending : Option ℕ) → step.timeout ≡ o → TimesOut D world histories c (member_of command) step pending o → TimeoutOf c command step k'
+  timeout_of : (c : ℕ) (command : Command Op) (step : ClientStep Op Shown) (k' : ℕ) (o : Option ℕ) → step.timeout ≡ Some k' → (pending : Option ℕ) → step.timeout ≡ o → TimesOut D world histories c command.at step pending o → TimeoutOf c command step k'
   timeout_of c command step k' None at pending is t = absurd (let e = sym is ∙ at in cc e)
   timeout_of c command step k' (Some j) at None is t = absurd t
   timeout_of c command step k' (Some j) at (Some op) is t =
       let same : j ≡ k' = cc (sym is ∙ at) in
-      record { op = op; entry = t.1; k = t.0; at = t.2; stands = t.3; timed = subst (λ n. IsTimedOut D world histories c (member_of command) op step t.1 n) same t.4 }
+      record { op = op; entry = t.1; k = t.0; at = t.2; stands = t.3; timed = subst (λ n. IsTimedOut D world histories c command.at op step t.1 n) same t.4 }
 
   pub timeout_is : (c : ℕ) (command : Command Op) (step : ClientStep Op Shown) → IsStep c command step → (k' : ℕ) → step.timeout ≡ Some k' → TimeoutOf c command step k'
   timeout_is c command step is k' at = timeout_of c command step k' step.timeout at (pending_op step.line.answer) refl is.timed_out
@@ -158,19 +158,19 @@ module _ {Kind Op Shown : Type 0} (D : Replication Kind Op Shown) (world : World
 
   -- STAMPS
 
-  entry_after : (c : ℕ) (command : Command Op) (step : ClientStep Op Shown) → IsStep c command step → (y : Placed Op Shown) → AtStep y (member_of command) step.index → (step.since < y.entry.stamp) × (y.entry.stamp ≤ step.upto)
+  entry_after : (c : ℕ) (command : Command Op) (step : ClientStep Op Shown) → IsStep c command step → (y : Placed Op Shown) → AtStep y command.at step.index → (step.since < y.entry.stamp) × (y.entry.stamp ≤ step.upto)
   entry_after c command step is y (k, at, here, stands) =
       let r = (replied_at c command step is k at).1 in
       let same_k : r.index ≡ k = cc (sym r.at ∙ at) in
-      let same : r.entry ≡ y.entry = cc (sym r.made.stands ∙ ap (slice_get (histories (member_of command))) same_k ∙ stands) in
+      let same : r.entry ≡ y.entry = cc (sym r.made.stands ∙ ap (slice_get (histories command.at)) same_k ∙ stands) in
       (subst (λ (e : Entry Op Shown). step.since < e.stamp) same r.later, subst (λ (e : Entry Op Shown). e.stamp ≤ step.upto) same r.before)
 
-  timeout_after : (c : ℕ) (command : Command Op) (step : ClientStep Op Shown) → IsStep c command step → (y : Placed Op Shown) → AtStep y (member_of command) step.timeout → (e : Entry Op Shown) (k : ℕ) → step.index ≡ Some k → slice_get (histories (member_of command)) k ≡ Some e
+  timeout_after : (c : ℕ) (command : Command Op) (step : ClientStep Op Shown) → IsStep c command step → (y : Placed Op Shown) → AtStep y command.at step.timeout → (e : Entry Op Shown) (k : ℕ) → step.index ≡ Some k → slice_get (histories command.at) k ≡ Some e
       → (e.stamp < y.entry.stamp) × (y.entry.stamp ≤ step.upto)
   timeout_after c command step is y (k', at, here, stands) e k at_k stands_k =
       let t = timeout_is c command step is k' at in
       let same_k : t.k ≡ k = cc (sym t.at ∙ at_k) in
-      let same_e : t.entry ≡ e = cc (sym t.stands ∙ ap (slice_get (histories (member_of command))) same_k ∙ stands_k) in
+      let same_e : t.entry ≡ e = cc (sym t.stands ∙ ap (slice_get (histories command.at)) same_k ∙ stands_k) in
       let same : t.timed.timeout ≡ y.entry = cc (sym t.timed.made.stands ∙ stands) in
       let a = ap (λ (f : Entry Op Shown). f.stamp) same_e in
       let b = ap (λ (f : Entry Op Shown). f.stamp) same in
@@ -187,7 +187,7 @@ module _ {Kind Op Shown : Type 0} (D : Replication Kind Op Shown) (world : World
   path_after c u (command ∷ commands) (step ∷ steps) path y (inr (inl h)) =
       let t = timeout_is c command step path.1 h.0 h.1 in
       let a = (timeout_after c command step path.1 y h t.entry t.k t.at t.stands).0 in
-      let d = (entry_after c command step path.1 (record { at = member_of command; entry = t.entry }) (t.k, t.at, refl, t.stands)).0 in
+      let d = (entry_after c command step path.1 (record { at = command.at; entry = t.entry }) (t.k, t.at, refl, t.stands)).0 in
       let b = path.0 in
       omega (arith, a, b, d)
   path_after c u (command ∷ commands) (step ∷ steps) path y (inr (inr h)) =
@@ -222,13 +222,13 @@ module _ {Kind Op Shown : Type 0} (D : Replication Kind Op Shown) (world : World
         by_index step.index refl (λ zs sorted' only' has'. path_left c step.upto commands steps zs path.2 sorted' only' has')
       where
         i : ℕ
-        i = member_of command
+        i = command.at
 
         Rest : Type 0
         Rest = (zs : List (Placed Op Shown)) → AreSorted view zs → ((y : Placed Op Shown) → IsIn zs y → EntryOf y commands steps) → ((y : Placed Op Shown) → EntryOf y commands steps → IsIn zs y) → Left D world histories placed keeping all runs_in c step.upto zs commands steps
 
-        by_timeout : (k : ℕ) (e : Entry Op Shown) (mid : List (Placed Op Shown)) → step.index ≡ Some k → slice_get (histories (member_of command)) k ≡ Some e → ys ≡ record { at = member_of command; entry = e } ∷ mid → AreSorted view mid
-            → ((y : Placed Op Shown) → IsIn mid y → AtStep y (member_of command) step.timeout ⊎ EntryOf y commands steps) → ((y : Placed Op Shown) → AtStep y (member_of command) step.timeout ⊎ EntryOf y commands steps → IsIn mid y)
+        by_timeout : (k : ℕ) (e : Entry Op Shown) (mid : List (Placed Op Shown)) → step.index ≡ Some k → slice_get (histories command.at) k ≡ Some e → ys ≡ record { at = command.at; entry = e } ∷ mid → AreSorted view mid
+            → ((y : Placed Op Shown) → IsIn mid y → AtStep y command.at step.timeout ⊎ EntryOf y commands steps) → ((y : Placed Op Shown) → AtStep y command.at step.timeout ⊎ EntryOf y commands steps → IsIn mid y)
             → ((zs : List (Placed Op Shown)) → AreSorted view zs → ((y : Placed Op Shown) → IsIn zs y → EntryOf y commands steps) → ((y : Placed Op Shown) → EntryOf y commands steps → IsIn zs y) → Left D world histories placed keeping all runs_in c step.upto zs commands steps)
             → (o : Option ℕ) → step.timeout ≡ o → Left D world histories placed keeping all runs_in c u ys (command ∷ commands) (step ∷ steps)
         by_timeout k e mid at stands is sorted' only' has' rest None none = (
@@ -236,15 +236,15 @@ module _ {Kind Op Shown : Type 0} (D : Replication Kind Op Shown) (world : World
           path.1,
           mid,
           mid,
-          stands_some (member_of command) k step.index e ys mid at stands is,
-          stands_none (member_of command) step.timeout mid none,
-          rest mid sorted' (λ y m. ⊎_elim (λ (t : AtStep y (member_of command) step.timeout). absurd (let f = sym none ∙ t.1 in cc f)) (λ h. h) (only' y m)) (λ y h. has' y (inr h)),
+          stands_some command.at k step.index e ys mid at stands is,
+          stands_none command.at step.timeout mid none,
+          rest mid sorted' (λ y m. ⊎_elim (λ (t : AtStep y command.at step.timeout). absurd (let f = sym none ∙ t.1 in cc f)) (λ h. h) (only' y m)) (λ y h. has' y (inr h)),
         )
         by_timeout k e mid at stands is sorted' only' has' rest (Some k') some =
             let t = timeout_is c command step path.1 k' some in
-            let ex : Placed Op Shown = record { at = member_of command; entry = t.timed.timeout } in
-            let split = split_first view (λ y. AtStep y (member_of command) step.timeout ⊎ EntryOf y commands steps) (λ y. EntryOf y commands steps) ex (inl (k', some, refl, t.timed.made.stands))
-            (λ z h. ⊎_elim (λ (a : AtStep z (member_of command) step.timeout). inl (placed_is z (member_of command) t.timed.timeout a.2 (let same_k : a.0 ≡ k' = cc (sym a.1 ∙ some) in cc (sym a.3 ∙ ap (slice_get (histories (member_of command))) same_k ∙ t.timed.made.stands)))) (λ h. inr h) h)
+            let ex : Placed Op Shown = record { at = command.at; entry = t.timed.timeout } in
+            let split = split_first view (λ y. AtStep y command.at step.timeout ⊎ EntryOf y commands steps) (λ y. EntryOf y commands steps) ex (inl (k', some, refl, t.timed.made.stands))
+            (λ z h. ⊎_elim (λ (a : AtStep z command.at step.timeout). inl (placed_is z command.at t.timed.timeout a.2 (let same_k : a.0 ≡ k' = cc (sym a.1 ∙ some) in cc (sym a.3 ∙ ap (slice_get (histories command.at)) same_k ∙ t.timed.made.stands)))) (λ h. inr h) h)
             (λ z h. inr h)
             (λ z h. let a = path_after c step.upto commands steps path.2 z h in let b = t.timed.before in omega (arith, a, b))
             mid sorted' only' has' in (
@@ -252,8 +252,8 @@ module _ {Kind Op Shown : Type 0} (D : Replication Kind Op Shown) (world : World
               path.1,
               mid,
               split.others,
-              stands_some (member_of command) k step.index e ys mid at stands is,
-              stands_some (member_of command) k' step.timeout t.timed.timeout mid split.others some t.timed.made.stands split.is,
+              stands_some command.at k step.index e ys mid at stands is,
+              stands_some command.at k' step.timeout t.timed.timeout mid split.others some t.timed.made.stands split.is,
               rest split.others split.sorted split.only split.has,
             )
 
@@ -266,20 +266,20 @@ module _ {Kind Op Shown : Type 0} (D : Replication Kind Op Shown) (world : World
               path.1,
               ys,
               ys,
-              stands_none (member_of command) step.index ys none,
-              stands_none (member_of command) step.timeout ys no_time,
+              stands_none command.at step.index ys none,
+              stands_none command.at step.timeout ys no_time,
               rest ys sorted
-                  (λ y m. ⊎_elim (λ (h : AtStep y (member_of command) step.index). absurd (let f = sym none ∙ h.1 in cc f)) (λ h. ⊎_elim (λ (t : AtStep y (member_of command) step.timeout). absurd (let f = sym no_time ∙ t.1 in cc f)) (λ h. h) h) (only y m))
+                  (λ y m. ⊎_elim (λ (h : AtStep y command.at step.index). absurd (let f = sym none ∙ h.1 in cc f)) (λ h. ⊎_elim (λ (t : AtStep y command.at step.timeout). absurd (let f = sym no_time ∙ t.1 in cc f)) (λ h. h) h) (only y m))
                   (λ y h. has y (inr (inr h))),
             )
         by_index (Some k) some rest =
             let r = (replied_at c command step path.1 k some).1 in
             let same_k : r.index ≡ k = cc (sym r.at ∙ some) in
-            let stands : slice_get (histories (member_of command)) k ≡ Some r.entry = ap (slice_get (histories (member_of command))) (sym same_k) ∙ r.made.stands in
-            let ex : Placed Op Shown = record { at = member_of command; entry = r.entry } in
-            let split = split_first view (λ y. EntryOf y (command ∷ commands) (step ∷ steps)) (λ y. AtStep y (member_of command) step.timeout ⊎ EntryOf y commands steps) ex (inl (k, some, refl, stands))
-            (λ z h. ⊎_elim (λ (a : AtStep z (member_of command) step.index). inl (placed_is z (member_of command) r.entry a.2 (let same : a.0 ≡ k = cc (sym a.1 ∙ some) in cc (sym a.3 ∙ ap (slice_get (histories (member_of command))) same ∙ stands)))) (λ h. inr h) h)
+            let stands : slice_get (histories command.at) k ≡ Some r.entry = ap (slice_get (histories command.at)) (sym same_k) ∙ r.made.stands in
+            let ex : Placed Op Shown = record { at = command.at; entry = r.entry } in
+            let split = split_first view (λ y. EntryOf y (command ∷ commands) (step ∷ steps)) (λ y. AtStep y command.at step.timeout ⊎ EntryOf y commands steps) ex (inl (k, some, refl, stands))
+            (λ z h. ⊎_elim (λ (a : AtStep z command.at step.index). inl (placed_is z command.at r.entry a.2 (let same : a.0 ≡ k = cc (sym a.1 ∙ some) in cc (sym a.3 ∙ ap (slice_get (histories command.at)) same ∙ stands)))) (λ h. inr h) h)
             (λ z h. inr h)
-            (λ z h. ⊎_elim (λ (t : AtStep z (member_of command) step.timeout). (timeout_after c command step path.1 z t r.entry k some stands).0) (λ h. let a = path_after c step.upto commands steps path.2 z h in let b = r.before in omega (arith, a, b)) h)
+            (λ z h. ⊎_elim (λ (t : AtStep z command.at step.timeout). (timeout_after c command step path.1 z t r.entry k some stands).0) (λ h. let a = path_after c step.upto commands steps path.2 z h in let b = r.before in omega (arith, a, b)) h)
             ys sorted only has in
             by_timeout k r.entry split.others some stands split.is split.sorted split.only split.has rest step.timeout refl

@@ -12,7 +12,8 @@ use Rattle.model_members.specs.DataType.{Replication}
 use Rattle.model_members.specs.Node.{Node, Input}
 use Rattle.model_members.specs.World.{World, views_of}
 use Rattle.model_members.specs.Script.{Playing}
-use Rattle.theorem_sections.specs.Sections.{Command, new_client, member_of, opened, moved_all}
+use Rattle.theorem_sections.proofs.AskedInputs.{IsAsked, is_asked}
+use Rattle.theorem_sections.specs.Sections.{Command, new_client, opened, moved_all}
 use Rattle.theorem_sections.specs.Histories.{Entry, Placed, entries_at, events_of, sent_so_far, replayed, AreHistories, IsRunOrder}
 use Rattle.theorem_sections.specs.Paths.{ClientStep, IsInputOf, IsTake, IsStepOf, IsPath, ArePaths, HasEntryAt, HasSection}
 use Rattle.theorem_sections.proofs.Exploring.{some_of}
@@ -32,14 +33,13 @@ taking : {Op : Type 0} (input : Input Op) → IsTake input → takes input ≡ t
 taking (Input.Take from message) t = refl
 taking input t = absurd t
 
+asked_takes_none : {Op : Type 0} (input : Input Op) → IsAsked input → takes input ≡ false
+asked_takes_none (Input.Take from message) h = absurd h
+asked_takes_none input h = refl
+
 module _ {Op : Type 0} where
   commands_take_none : (views : List View) (command : Command Op) (input : Input Op) → IsInputOf views command input → takes input ≡ false
-  commands_take_none views (Command.Update i key op level) input is = ap takes is
-  commands_take_none views (Command.Get i key level) input is = ap takes is
-  commands_take_none views (Command.Flush i) input is = ap takes is
-  commands_take_none views (Command.Gossip i to) input is = ap takes is
-  commands_take_none views (Command.Tick i) input is = ap takes is
-  commands_take_none views (Command.Install i number) input is = ap takes is.2
+  commands_take_none views command input is = asked_takes_none input (is_asked views command.ask input is)
 
 get_mapped : {X Y : Type 0} (f : X → Y) (xs : List X) (k : ℕ) (x : X) → slice_get xs k ≡ Some x → slice_get (map f xs) k ≡ Some (f x)
 get_mapped f [] k x e = absurd (cc e)
@@ -64,13 +64,13 @@ module _ {Kind Op Shown : Type 0} (D : Replication Kind Op Shown) (world : World
   path_at c u (suc n) (x ∷ commands) (y ∷ steps) command step path e f = path_at c y.upto n commands steps command step path.2 e f
 
   entry_at : (y : Placed Op Shown) (n : ℕ) (commands : List (Command Op)) (steps : List (ClientStep Op Shown)) (command : Command Op) (step : ClientStep Op Shown) → slice_get commands n ≡ Some command → slice_get steps n ≡ Some step
-      → StandsAt y (member_of command) step.index ⊎ StandsAt y (member_of command) step.timeout → EntryIn y commands steps
+      → StandsAt y command.at step.index ⊎ StandsAt y command.at step.timeout → EntryIn y commands steps
   entry_at y n [] steps command step e f h = absurd (cc e)
   entry_at y n (x ∷ commands) [] command step e f h = absurd (cc f)
   entry_at y zero (x ∷ commands) (z ∷ steps) command step e f h =
       let a : x ≡ command = cc e in let b : z ≡ step = cc f in
-      ⊎_elim (λ (i : StandsAt y (member_of command) step.index). inl (subst (λ q. StandsAt y (member_of q) z.index) (sym a) (subst (λ q. StandsAt y (member_of command) q.index) (sym b) i)))
-      (λ t. inr (inl (subst (λ q. StandsAt y (member_of q) z.timeout) (sym a) (subst (λ q. StandsAt y (member_of command) q.timeout) (sym b) t)))) h
+      ⊎_elim (λ (i : StandsAt y command.at step.index). inl (subst (λ q. StandsAt y q.at z.index) (sym a) (subst (λ q. StandsAt y command.at q.index) (sym b) i)))
+      (λ t. inr (inl (subst (λ q. StandsAt y q.at z.timeout) (sym a) (subst (λ q. StandsAt y command.at q.timeout) (sym b) t)))) h
   entry_at y (suc n) (x ∷ commands) (z ∷ steps) command step e f h = inr (inr (entry_at y n commands steps command step e f h))
 
   -- what stands at a step is of its client, takes nothing, and is there
@@ -86,15 +86,15 @@ module _ {Kind Op Shown : Type 0} (D : Replication Kind Op Shown) (world : World
   is_there y i k mi at stands =
       entries_in placed y (subst (λ j. IsIn (entries_at j placed) y.entry) (sym at) (subst (λ es. IsIn es y.entry) (sym (order.whole i mi)) (k, stands)))
 
-  stands_of : (c : ℕ) (command : Command Op) (step : ClientStep Op Shown) → IsStepOf D world histories c command step → (y : Placed Op Shown) → StandsAt y (member_of command) step.index ⊎ StandsAt y (member_of command) step.timeout → IsOf c y
+  stands_of : (c : ℕ) (command : Command Op) (step : ClientStep Op Shown) → IsStepOf D world histories c command step → (y : Placed Op Shown) → StandsAt y command.at step.index ⊎ StandsAt y command.at step.timeout → IsOf c y
   stands_of c command step is y (inl (k, at, here, stands)) =
       let r = (replied_at D world histories placed keeping all runs_in c command step is k at).1 in
       let same_k : r.index ≡ k = cc (sym r.at ∙ at) in
-      let same : r.entry ≡ y.entry = cc (sym r.made.stands ∙ ap (slice_get (histories (member_of command))) same_k ∙ stands) in
+      let same : r.entry ≡ y.entry = cc (sym r.made.stands ∙ ap (slice_get (histories command.at)) same_k ∙ stands) in
       record {
         client = ap (λ (e : Entry Op Shown). e.client) (sym same) ∙ r.made.of;
         takes_none = ap (λ (e : Entry Op Shown). takes e.input) (sym same) ∙ ap takes r.made.asks ∙ commands_take_none (views_of world) command r.input r.given;
-        there = is_there y (member_of command) k (running_at (member_of command) r.runs) here stands;
+        there = is_there y command.at k (running_at command.at r.runs) here stands;
       }
   stands_of c command step is y (inr (k', at, here, stands)) =
       let t = timeout_is D world histories placed keeping all runs_in c command step is k' at in
@@ -103,7 +103,7 @@ module _ {Kind Op Shown : Type 0} (D : Replication Kind Op Shown) (world : World
       record {
         client = ap (λ (e : Entry Op Shown). e.client) (sym same) ∙ t.timed.made.of;
         takes_none = ap (λ (e : Entry Op Shown). takes e.input) (sym same) ∙ ap takes t.timed.made.asks;
-        there = is_there y (member_of command) k' (running_at (member_of command) r.runs) here stands;
+        there = is_there y command.at k' (running_at command.at r.runs) here stands;
       }
 
   path_of : (c u : ℕ) (commands : List (Command Op)) (steps : List (ClientStep Op Shown)) → IsPath D world histories c u commands steps → (y : Placed Op Shown) → EntryIn y commands steps → IsOf c y
@@ -133,7 +133,7 @@ module _ {Kind Op Shown : Type 0} (D : Replication Kind Op Shown) (world : World
       found_by : (k : ℕ) → slice_get (histories y.at) k ≡ Some y.entry → HasEntryAt D world histories clients paths y.at k → Found y
       found_by k stands h =
           let at = h.at.0 in
-          let here : StandsAt y (member_of h.command) h.step.index ⊎ StandsAt y (member_of h.command) h.step.timeout =
+          let here : StandsAt y h.command.at h.step.index ⊎ StandsAt y h.command.at h.step.timeout =
           ⊎_elim (λ (i : h.step.index ≡ Some k). inl (k, i, sym at, subst (λ j. slice_get (histories j) k ≡ Some y.entry) (sym at) stands)) (λ t. inr (k, t, sym at, subst (λ j. slice_get (histories j) k ≡ Some y.entry) (sym at) stands)) h.at.1 in
           let path = are.each h.client h.commands h.steps h.of.0 h.of.1 in
           record {

@@ -6,7 +6,7 @@ use Rattle.model_members.specs.DataType.{Replication}
 use Rattle.model_members.specs.Node.{Node, Input, Reply}
 use Rattle.model_members.specs.World.{World}
 use Rattle.model_members.specs.Script.{Answer, last_of}
-use Rattle.theorem_sections.specs.Sections.{Command, Client, Made, Section, member_of, pending_op, ending_of, goes_on, gives_up}
+use Rattle.theorem_sections.specs.Sections.{Command, Client, Made, Section, pending_op, ending_of, goes_on, gives_up}
 use Rattle.theorem_sections.specs.Histories.{Entry, Placed, replayed, AreHistories}
 use Rattle.theorem_sections.specs.Paths.{ClientStep, IsStepOf, IsReplied, IsAnsweredBy, TimesOut, some_full_until, are_posts_taken, has_ended_until, HasGivenUp}
 use Rattle.theorem_sections.proofs.Along.{Along}
@@ -67,7 +67,7 @@ module _ {Kind Op Shown : Type 0} (D : Replication Kind Op Shown) (world : World
   abbrev pub Left : ℕ → ℕ → List (Placed Op Shown) → List (Command Op) → List (ClientStep Op Shown) → Type 0
   Left c u entries [] [] = entries ≡ []
   Left c u entries (command ∷ commands) (step ∷ steps) =
-      (u ≤ step.since) × IsStepOf D world histories c command step × (mid : List (Placed Op Shown)) × (after : List (Placed Op Shown)) × Stands (member_of command) step.index entries mid × Stands (member_of command) step.timeout mid after
+      (u ≤ step.since) × IsStepOf D world histories c command step × (mid : List (Placed Op Shown)) × (after : List (Placed Op Shown)) × Stands command.at step.index entries mid × Stands command.at step.timeout mid after
       × Left c step.upto after commands steps
   Left c u entries _ _ = ⊥
 
@@ -149,16 +149,16 @@ module _ {Kind Op Shown : Type 0} (D : Replication Kind Op Shown) (world : World
       pub by : IsMadeBy D world histories placed keeping all runs_in m i x.entry
 
     pub after_entry : (reply : Reply Shown) (r : IsReplied D world histories c command step reply) → IsStepOf D world histories c command step → step.line.answer ≡ Answer.Replied reply → r.entry ≡ x.entry → step.index ≡ Some k → r.index ≡ k
-        → IsNew (member_of command) reply r.input
-        → (mid after : List (Placed Op Shown)) (steps : List (ClientStep Op Shown)) → Stands (member_of command) step.timeout mid after → Left c step.upto after commands steps
+        → IsNew command.at reply r.input
+        → (mid after : List (Placed Op Shown)) (steps : List (ClientStep Op Shown)) → Stands command.at step.timeout mid after → Left c step.upto after commands steps
         → Position c (client_after client commands m) mid steps
     after_entry reply r is answered same at_k is_k new mid after steps stands later = by_timeout step.timeout stands is.timed_out
       where
         i : ℕ
-        i = member_of command
+        i = command.at
 
-        here : slice_get (histories (member_of command)) k ≡ Some x.entry
-        here = subst (λ j. slice_get (histories (member_of command)) j ≡ Some x.entry) is_k (r.made.stands ∙ ap Some same)
+        here : slice_get (histories command.at) k ≡ Some x.entry
+        here = subst (λ j. slice_get (histories command.at) j ≡ Some x.entry) is_k (r.made.stands ∙ ap Some same)
 
         reply_is : x.entry.output.reply ≡ reply
         reply_is = ap (λ (e : Entry Op Shown). e.output.reply) (sym same) ∙ r.replied
@@ -172,17 +172,17 @@ module _ {Kind Op Shown : Type 0} (D : Replication Kind Op Shown) (world : World
         goes : GoesOnFrom (client.made ++ m ∷ []) step.upto
         goes s done rest along late =
             ap (goes_on s) (last_pushed client.made m)
-            ∙ goes_on_now D world histories placed keeping all runs_in s done rest along step.upto (member_of command) k m x.entry new.by replied late here (subst (λ (e : Entry Op Shown). e.stamp ≤ step.upto) same r.before)
-            (subst (λ (e : Entry Op Shown). (are_posts_taken D world histories (member_of command) e step.upto || some_full_until D world histories step.upto) ≡ true) same r.heard)
-            (subst (λ p. has_ended_until D world histories (member_of command) step.upto p ≡ true) same_answer r.ended)
+            ∙ goes_on_now D world histories placed keeping all runs_in s done rest along step.upto command.at k m x.entry new.by replied late here (subst (λ (e : Entry Op Shown). e.stamp ≤ step.upto) same r.before)
+            (subst (λ (e : Entry Op Shown). (are_posts_taken D world histories command.at e step.upto || some_full_until D world histories step.upto) ≡ true) same r.heard)
+            (subst (λ p. has_ended_until D world histories command.at step.upto p ≡ true) same_answer r.ended)
 
-        by_op : (t : Placed Op Shown) (k' : ℕ) (o : Option ℕ) → pending_op step.line.answer ≡ o → mid ≡ t ∷ after → t.at ≡ member_of command → slice_get (histories (member_of command)) k' ≡ Some t.entry → TimesOut D world histories c (member_of command) step o (Some k') → Position c (client_after client commands m) mid steps
+        by_op : (t : Placed Op Shown) (k' : ℕ) (o : Option ℕ) → pending_op step.line.answer ≡ o → mid ≡ t ∷ after → t.at ≡ command.at → slice_get (histories command.at) k' ≡ Some t.entry → TimesOut D world histories c command.at step o (Some k') → Position c (client_after client commands m) mid steps
         by_op t k' None is_o first at stands' h = absurd h
         by_op t k' (Some op) is_o first at stands' h =
             let e = h.1 in
             let timed = h.4 in
             let same_k : h.0 ≡ k = cc (sym h.2 ∙ at_k) in
-            let same_e : e ≡ x.entry = cc (sym h.3 ∙ ap (slice_get (histories (member_of command))) same_k ∙ here) in
+            let same_e : e ≡ x.entry = cc (sym h.3 ∙ ap (slice_get (histories command.at)) same_k ∙ here) in
             let same_t : timed.timeout ≡ t.entry = cc (sym timed.made.stands ∙ stands') in
             Due (record {
               timeout = t;
@@ -197,14 +197,14 @@ module _ {Kind Op Shown : Type 0} (D : Replication Kind Op Shown) (world : World
               gives = ap (λ (f : Entry Op Shown). f.input) (sym same_t) ∙ timed.made.asks;
               once = refl;
               gives_up = λ s done rest along.
-                  gives_up_now D world histories placed keeping all runs_in s done t rest along timed.seen (member_of command) k op m x.entry at (ap (λ (f : Entry Op Shown). f.input) (sym same_t) ∙ timed.made.asks) new.by here (replied op (sym same_answer ∙ is_o))
+                  gives_up_now D world histories placed keeping all runs_in s done t rest along timed.seen command.at k op m x.entry at (ap (λ (f : Entry Op Shown). f.input) (sym same_t) ∙ timed.made.asks) new.by here (replied op (sym same_answer ∙ is_o))
                   (subst (λ (f : Entry Op Shown). timed.seen < f.stamp) same_t timed.later.1)
-                  (subst (λ (f : Entry Op Shown). HasGivenUp D world histories (member_of command) op x.entry f timed.seen) same_t
-                  (subst (λ (f : Entry Op Shown). HasGivenUp D world histories (member_of command) op f timed.timeout timed.seen) same_e timed.cause));
+                  (subst (λ (f : Entry Op Shown). HasGivenUp D world histories command.at op x.entry f timed.seen) same_t
+                  (subst (λ (f : Entry Op Shown). HasGivenUp D world histories command.at op f timed.timeout timed.seen) same_e timed.cause));
               goes = goes;
               then_left = later;
             })
 
-        by_timeout : (o : Option ℕ) → Stands (member_of command) o mid after → TimesOut D world histories c (member_of command) step (pending_op step.line.answer) o → Position c (client_after client commands m) mid steps
+        by_timeout : (o : Option ℕ) → Stands command.at o mid after → TimesOut D world histories c command.at step (pending_op step.line.answer) o → Position c (client_after client commands m) mid steps
         by_timeout None is_mid t = Ready step.upto goes (subst (λ es. Left c step.upto es commands steps) (sym is_mid) later)
         by_timeout (Some k') st t = by_op st.0 k' (pending_op step.line.answer) refl st.1 st.2 st.3 t

@@ -12,12 +12,7 @@ use Rattle.theorem_sections.specs.Sections.Move.{NextCommand, NextMessage, ItsTi
 use Rattle.theorem_sections.specs.Runs.{RunStep, IsRunStep, Plays, PlaysAll}
 
 pub command_is_step : {Op : Type 0} (command : Command Op) → IsStep (step_of command)
-command_is_step (Command.Update i key op level) = tt
-command_is_step (Command.Get i key level) = tt
-command_is_step (Command.Flush i) = tt
-command_is_step (Command.Gossip i to) = tt
-command_is_step (Command.Tick i) = tt
-command_is_step (Command.Install i view) = tt
+command_is_step command = tt
 
 module _ {Kind Op Shown : Type 0} (D : Replication Kind Op Shown) (members : ℕ) (keys : List (KeyDecl Kind)) where
   abbrev pub Runs : Playing Kind Op Shown → Type 0

@@ -13,7 +13,7 @@ use Rattle.model_members.specs.World.Event.{InputAt}
 use Rattle.model_members.specs.Script.{Playing, Head, Answer, played, last_of}
 use Rattle.model_members.specs.Step.{is_full}
 use Rattle.theorem_sections.proofs.Givens.{given_to}
-use Rattle.theorem_sections.specs.Sections.{Command, Client, Made, Section, step_of, member_of, pending_op, ending_of, has_room, running, world_of, goes_on, may_time_out, may_call_timeout, may_come, made_by, with_client, timed_out, timed_out_made, timed_out_op, heard, moved, client_line, gives_up}
+use Rattle.theorem_sections.specs.Sections.{Command, Client, Made, Section, step_of, pending_op, ending_of, has_room, running, world_of, goes_on, may_time_out, may_call_timeout, may_come, made_by, with_client, timed_out, timed_out_made, timed_out_op, heard, moved, client_line, gives_up}
 use Rattle.theorem_sections.specs.Sections.Move.{NextCommand, NextMessage, ItsTimeout}
 use Rattle.theorem_sections.specs.Histories.{Entry, Placed, Passed, posted_to, entries_at, RiseAbove, replayed, AreHistories, IsFromClients}
 use Rattle.theorem_sections.specs.Paths.{ClientStep, until, IsInputOf, head_of, IsTake, IsReplied}
@@ -128,7 +128,7 @@ module _ {Kind Op Shown : Type 0} (D : Replication Kind Op Shown) (world : World
           (λ (is : d ≡ m). (let same : r.client ≡ client' = cc (sym r.get ∙ ap (slice_get s'.clients) (sym is) ∙ get') in ap (λ (x : Client Op Shown). x.to_come) (sym same) ∙ r.to_come))
           (λ isnt. finished d (omega (arith, h, isnt)) client' (sym (r.others d isnt) ∙ get'))
           (same_or_not d m)))
-          (λ s' st. absurd (let stands = subst (λ o. Stands D world histories placed keeping all runs_in (member_of st.command) o [] st.left.2) st.enters st.left.4 in let f = stands.1 in cc f))
+          (λ s' st. absurd (let stands = subst (λ o. Stands D world histories placed keeping all runs_in st.command.at o [] st.left.2) st.enters st.left.4 in let f = stands.1 in cc f))
           at.left client.to_come s state (λ d isnt. refl) client get refl at.past at.whole at.lines u goes left
 
   -- AN ENTRY
@@ -155,7 +155,7 @@ module _ {Kind Op Shown : Type 0} (D : Replication Kind Op Shown) (world : World
     where
       by : Answers D world histories placed keeping all runs_in c command step → (left.3 ≡ x ∷ others → step.upto < x.entry.stamp) → u < x.entry.stamp
       by (ByEntry reply answered r) later =
-          let stands = subst (λ o. Stands D world histories placed keeping all runs_in (member_of command) o entries left.2) r.at left.4 in
+          let stands = subst (λ o. Stands D world histories placed keeping all runs_in command.at o entries left.2) r.at left.4 in
           let same : stands.0 ≡ x = cc (sym stands.1 ∙ e) in
           let same_e : r.entry ≡ stands.0.entry = cc (sym r.made.stands ∙ stands.3) in
           let a = r.later in
@@ -163,7 +163,7 @@ module _ {Kind Op Shown : Type 0} (D : Replication Kind Op Shown) (world : World
           let d = left.0 in
           omega (arith, a, b, d)
       by (ByNone none posts waits answered) later =
-          let entries_same : entries ≡ left.2 = subst (λ o. Stands D world histories placed keeping all runs_in (member_of command) o entries left.2) none left.4 in
+          let entries_same : entries ≡ left.2 = subst (λ o. Stands D world histories placed keeping all runs_in command.at o entries left.2) none left.4 in
           let mid_same : left.2 ≡ left.3 = no_more D world histories placed keeping all runs_in paths c command step left.2 left.3 step.timeout (pending_op step.line.answer) waits left.1.timed_out left.5 in
           let a = later (sym mid_same ∙ sym entries_same ∙ e) in
           let b = left.1.forward in
@@ -254,28 +254,28 @@ module _ {Kind Op Shown : Type 0} (D : Replication Kind Op Shown) (world : World
             let command = st.command in
             let step = st.step in
             let left = st.left in
-            let stands = subst (λ o. Stands D world histories placed keeping all runs_in (member_of command) o (own c (x ∷ rest)) left.2) st.enters left.4 in
+            let stands = subst (λ o. Stands D world histories placed keeping all runs_in command.at o (own c (x ∷ rest)) left.2) st.enters left.4 in
             let firsts : x ∷ own c rest ≡ stands.0 ∷ left.2 = sym own_first ∙ stands.1 in
             let is_x : x ≡ stands.0 = cc firsts in
             let is_rest : own c rest ≡ left.2 = cc firsts in
-            let place : x.at ≡ member_of command = ap (λ (y : Placed Op Shown). y.at) is_x ∙ stands.2 in
+            let place : x.at ≡ command.at = ap (λ (y : Placed Op Shown). y.at) is_x ∙ stands.2 in
             let is_k : r.index ≡ st.k = cc (sym r.at ∙ st.enters) in
-            let same : r.entry ≡ x.entry = cc (sym r.made.stands ∙ ap (slice_get (histories (member_of command))) is_k ∙ stands.3 ∙ ap (λ (y : Placed Op Shown). Some y.entry) (sym is_x)) in
+            let same : r.entry ≡ x.entry = cc (sym r.made.stands ∙ ap (slice_get (histories command.at)) is_k ∙ stands.3 ∙ ap (λ (y : Placed Op Shown). Some y.entry) (sym is_x)) in
             let input : x.entry.input ≡ r.input = ap (λ (e : Entry Op Shown). e.input) (sym same) ∙ r.made.asks in
             let tn = takes_nothing r.input (λ t. no_take (subst IsTake (sym input) t)) in
             let head = head_of command in
             let plays0 = input_plays D world histories placed keeping s.playing s.due done x rest st.state.along r.input input tn head in
-            let q = given_to D s.playing head (InputAt (member_of command) r.input) (member_of command) r.input ((world_of s).nodes (member_of command)) in
+            let q = given_to D s.playing head (InputAt command.at r.input) command.at r.input ((world_of s).nodes command.at) in
             let plays : PlaysEntry D world histories placed keeping s.playing s.due done x rest st.state.along head q s.due =
             subst (λ i. PlaysEntry D world histories placed keeping s.playing s.due done x rest st.state.along head (given_to D s.playing head (InputAt i r.input) i r.input ((world_of s).nodes i)) s.due) place plays0 in
-            let is_running : is_some ((world_of s).nodes (member_of command)) ≡ true = running_still st.state.along.nodes (member_of command) r.runs in
-            let plays_is : played D s.playing (step_of command) ≡ q = command_plays D s.playing command r.input (subst (λ vs. IsInputOf vs command r.input) (sym st.state.along.going.same_views) r.given) is_running in
+            let is_running : is_some ((world_of s).nodes command.at) ≡ true = running_still st.state.along.nodes command.at r.runs in
+            let plays_is : played D s.playing (step_of command) ≡ q = command_plays D s.playing command r.input (subst (λ vs. IsInputOf vs command r.input) (sym st.state.along.going.same_views) r.given) in
             let line = its_line D world histories placed keeping s.playing s.due done x rest st.state.along head in
             let m = made_by command q.world line in
-            let mi : IsTrue (is_member world.view (member_of command)) = subst (λ i. IsTrue (is_member world.view i)) place st.state.along.going.members.0 in
-            let by : IsMadeBy D world histories placed keeping all runs_in m (member_of command) x.entry =
-            record { at = refl; posts = refl; sent = λ to. sent_is plays.after (member_of command) place mi to } in
-            let new : IsNew D world histories placed keeping all runs_in c st.client command st.commands step x m st.k (member_of command) reply r.input = record { at = refl; answer = refl; by = by } in
+            let mi : IsTrue (is_member world.view command.at) = subst (λ i. IsTrue (is_member world.view i)) place st.state.along.going.members.0 in
+            let by : IsMadeBy D world histories placed keeping all runs_in m command.at x.entry =
+            record { at = refl; posts = refl; sent = λ to. sent_is plays.after command.at place mi to } in
+            let new : IsNew D world histories placed keeping all runs_in c st.client command st.commands step x m st.k command.at reply r.input = record { at = refl; answer = refl; by = by } in
             let position = after_entry D world histories placed keeping all runs_in c st.client command st.commands step x m st.k reply r left.1 answered same st.enters is_k new left.2 left.3 st.others left.5 left.6 in
             let client' = client_after st.client st.commands m in
             let tells : TellsLine D world histories placed keeping all runs_in c m step =
@@ -284,7 +284,7 @@ module _ {Kind Op Shown : Type 0} (D : Replication Kind Op Shown) (world : World
               head = left.1.told.1;
               answer = answered ∙ ap Answer.Replied (sym (ap (λ (e : Entry Op Shown). e.output.reply) (sym same) ∙ r.replied));
               posts = r.posts ∙ ap (λ (e : Entry Op Shown). e.output.posts) same;
-              ended = left.1.ends ∙ ap (λ a. ending_of (option_map (λ before. replayed D before (histories (member_of command))) (world.nodes (member_of command))) (pending_op a)) (answered ∙ ap Answer.Replied (sym (ap (λ (e : Entry Op Shown). e.output.reply) (sym same) ∙ r.replied)));
+              ended = left.1.ends ∙ ap (λ a. ending_of (option_map (λ before. replayed D before (histories command.at)) (world.nodes command.at)) (pending_op a)) (answered ∙ ap Answer.Replied (sym (ap (λ (e : Entry Op Shown). e.output.reply) (sym same) ∙ r.replied)));
             } in
             ends_more D world histories placed keeping all runs_in paths s (with_client s c client' q) (NextCommand c) (may_next D world histories placed keeping all runs_in paths s c st.client command st.commands st.get st.to_come (st.goes s done (x ∷ rest) st.state.along st.late))
             (command_moves D world histories placed keeping all runs_in paths s c st.client command st.commands q line st.get st.to_come plays_is plays.line)

@@ -3,7 +3,8 @@ use Rattle.std.proofs.Common.{◌≡◌, ◌≢◌, inl, ℕ, zero, suc, ◌<◌
 use Rattle.std.specs.Prelude.{◌==◌, if◌then◌else◌, slice_get, IsTrue}
 use Rattle.model_members.specs.View.{is_member}
 use Rattle.model_members.specs.Node.{Level}
-use Rattle.theorem_sections.specs.Sections.{Command}
+use Rattle.theorem_sections.specs.Sections.{Command, command_to}
+use Rattle.model_members.specs.Script.{Ask}
 use Rattle.theorem_sections.specs.Histories.{Entry}
 use Rattle.theorem_sections.specs.Paths.{ArePaths}
 use Rattle.theorem_sections.specs.Knowing.{KnownStep, steps_of, IsKnownBy, KnowsHeard, KnowsAnswered, KnowsTaken, IsKnownStepOf, IsKnownPath, AreKnownPaths, KnownPathsArePaths}
@@ -17,7 +18,7 @@ abbrev known : KnownStep (Unit {0}) ℕ
 known = record { step = the_step; known = first_of 3 1 }
 
 abbrev the_command : Command (Unit {0})
-the_command = Command.Update 0 (97 ∷ []) tt (Level.Majority 0)
+the_command = command_to 0 (Ask.Update (97 ∷ []) tt (Level.Majority 0))
 
 no_entry : (k : ℕ) (e : Entry (Unit {0}) ℕ) → slice_get {X = Entry (Unit {0}) ℕ} [] k ≡ Some e → ⊥
 no_entry k e at = cc at

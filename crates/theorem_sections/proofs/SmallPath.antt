@@ -8,8 +8,8 @@ use Rattle.model_members.specs.Message.{Message}
 use Rattle.model_members.specs.Node.{KeyDecl, Node, Level, Input, Fate, Reply, Stepped}
 use Rattle.model_members.specs.Step.{step}
 use Rattle.model_members.specs.World.{World, start, loaded_node, views_of, no_entries}
-use Rattle.model_members.specs.Script.{Playing, Head, Answer, answers_between}
-use Rattle.theorem_sections.specs.Sections.{Command, Ending}
+use Rattle.model_members.specs.Script.{Ask, Playing, Head, Answer, answers_between}
+use Rattle.theorem_sections.specs.Sections.{Command, command_to, Ending}
 use Rattle.theorem_sections.specs.Histories.{Entry, Placed, posted_to, taken_from, RiseAbove, AreHistories, IsRunOrder, IsFromClients, AreHeard, AreSteps, entries_at}
 use Rattle.theorem_sections.specs.Paths.{ClientStep, IsStepOf, IsPath, IsTake, ArePaths, HasEntryAt, HasSection, PathsHaveSections, answered_in, calls_after, HaveAnswered}
 use Rattle.theorem_sections.proofs.NextDue.{same_or_not}
@@ -68,12 +68,12 @@ abbrev placed : List (Placed (Unit {0}) ℕ)
 placed = record { at = 0; entry = e0 } ∷ record { at = 1; entry = e1 } ∷ record { at = 0; entry = e2 } ∷ record { at = 0; entry = e3 } ∷ []
 
 abbrev pub clients : List (List (Command (Unit {0})))
-clients = (Command.Update 0 (97 ∷ []) tt (Level.Majority 0) ∷ []) ∷ []
+clients = (command_to 0 (Ask.Update (97 ∷ []) tt (Level.Majority 0)) ∷ []) ∷ []
 
 abbrev pub the_step : ClientStep (Unit {0}) ℕ
 the_step =
     record {
-      line = record { client = Some 0; head = Head.UpdateHead 0 (97 ∷ []); answer = Answer.Replied (Reply.Pending 0); posts = e0.output.posts; ended = Some (Ending.TimedOut 0) };
+      line = record { client = Some 0; head = Head.Asked 0 (Ask.Update (97 ∷ []) tt (Level.Majority 0)); answer = Answer.Replied (Reply.Pending 0); posts = e0.output.posts; ended = Some (Ending.TimedOut 0) };
       index = Some 0;
       timeout = Some 2;
       since = 0;
@@ -117,7 +117,7 @@ is_order =
       members = (refl, (refl, (refl, (refl, tt))));
     }
 
-is_step : IsStepOf D world histories 0 (Command.Update 0 (97 ∷ []) tt (Level.Majority 0)) the_step
+is_step : IsStepOf D world histories 0 (command_to 0 (Ask.Update (97 ∷ []) tt (Level.Majority 0))) the_step
 is_step =
     record {
       told = (refl, refl);
@@ -165,15 +165,15 @@ are_paths =
   where
     one : (c : ℕ) (commands : List (Command (Unit {0}))) (steps : List (ClientStep (Unit {0}) ℕ)) → slice_get clients c ≡ Some commands → slice_get paths c ≡ Some steps → IsPath D world histories c 0 commands steps
     one zero commands steps e f =
-        let a : (Command.Update 0 (97 ∷ []) tt (Level.Majority 0) ∷ []) ≡ commands = cc e in
+        let a : (command_to 0 (Ask.Update (97 ∷ []) tt (Level.Majority 0)) ∷ []) ≡ commands = cc e in
         let b : (the_step ∷ []) ≡ steps = cc f in
-        subst (λ cs. IsPath D world histories 0 0 cs steps) a (subst (λ ss. IsPath D world histories 0 0 (Command.Update 0 (97 ∷ []) tt (Level.Majority 0) ∷ []) ss) b (omega arith, is_step, tt))
+        subst (λ cs. IsPath D world histories 0 0 cs steps) a (subst (λ ss. IsPath D world histories 0 0 (command_to 0 (Ask.Update (97 ∷ []) tt (Level.Majority 0)) ∷ []) ss) b (omega arith, is_step, tt))
     one (suc c) commands steps e f = absurd (cc e)
 
     at_zero : (k : ℕ) (e : Entry (Unit {0}) ℕ) → slice_get (histories 0) k ≡ Some e → IsTake e.input ⊎ HasEntryAt D world histories clients paths 0 k
-    at_zero zero e h = inr (record { client = 0; number = 0; commands = Command.Update 0 (97 ∷ []) tt (Level.Majority 0) ∷ []; steps = the_step ∷ []; command = Command.Update 0 (97 ∷ []) tt (Level.Majority 0); step = the_step; of = (refl, refl); stands = (refl, refl); at = (refl, inl refl) })
+    at_zero zero e h = inr (record { client = 0; number = 0; commands = command_to 0 (Ask.Update (97 ∷ []) tt (Level.Majority 0)) ∷ []; steps = the_step ∷ []; command = command_to 0 (Ask.Update (97 ∷ []) tt (Level.Majority 0)); step = the_step; of = (refl, refl); stands = (refl, refl); at = (refl, inl refl) })
     at_zero (suc zero) e h = let same : e2 ≡ e = cc h in inl (subst (λ (x : Entry (Unit {0}) ℕ). IsTake x.input) same tt)
-    at_zero (suc (suc zero)) e h = inr (record { client = 0; number = 0; commands = Command.Update 0 (97 ∷ []) tt (Level.Majority 0) ∷ []; steps = the_step ∷ []; command = Command.Update 0 (97 ∷ []) tt (Level.Majority 0); step = the_step; of = (refl, refl); stands = (refl, refl); at = (refl, inr refl) })
+    at_zero (suc (suc zero)) e h = inr (record { client = 0; number = 0; commands = command_to 0 (Ask.Update (97 ∷ []) tt (Level.Majority 0)) ∷ []; steps = the_step ∷ []; command = command_to 0 (Ask.Update (97 ∷ []) tt (Level.Majority 0)); step = the_step; of = (refl, refl); stands = (refl, refl); at = (refl, inr refl) })
     at_zero (suc (suc (suc k))) e h = absurd (cc h)
 
     at_one : (k : ℕ) (e : Entry (Unit {0}) ℕ) → slice_get (histories 1) k ≡ Some e → IsTake e.input ⊎ HasEntryAt D world histories clients paths 1 k

@@ -7,7 +7,7 @@ use Rattle.model_members.specs.Message.{Post}
 use Rattle.model_members.specs.Node.{KeyDecl, Node, Input, Reply}
 use Rattle.model_members.specs.World.{World, Event, views_of, IsRun}
 use Rattle.model_members.specs.Script.{Answer}
-use Rattle.theorem_sections.specs.Sections.{Command, Ending, member_of, node_full, is_open, pending_op, finished_at, ending_of}
+use Rattle.theorem_sections.specs.Sections.{Command, Ending, node_full, is_open, pending_op, finished_at, ending_of}
 use Rattle.theorem_sections.specs.Histories.{Entry, posted_to, taken_from, replayed, AreHistories}
 use Rattle.theorem_sections.specs.Paths.{ClientStep, IsInputOf, head_of, LacksView, IsEntryOf, IsTake, HasEntryAt, ArePaths}
 
@@ -63,22 +63,22 @@ module _ {Kind Op Shown : Type 0} (D : Replication Kind Op Shown) (world : World
     pub entry : Entry Op Shown
     pub input : Input Op
     pub at : k.step.index ≡ Some index
-    pub runs : is_some (world.nodes (member_of command)) ≡ true
+    pub runs : is_some (world.nodes command.at) ≡ true
     pub given : IsInputOf (views_of world) command input
-    pub made : IsEntryOf D world histories client (member_of command) index input entry
+    pub made : IsEntryOf D world histories client command.at index input entry
     pub replied : entry.output.reply ≡ reply
     pub posts : k.step.line.posts ≡ entry.output.posts
     pub later : k.step.since < entry.stamp
-    pub known : index < k.known (member_of command)
-    pub heard : KnowsHeard (member_of command) index entry k.known ⊎ KnowsFull k.known
-    pub ended : k.step.timeout ≡ None → KnowsEnded (member_of command) k.known (pending_op k.step.line.answer)
+    pub known : index < k.known command.at
+    pub heard : KnowsHeard command.at index entry k.known ⊎ KnowsFull k.known
+    pub ended : k.step.timeout ≡ None → KnowsEnded command.at k.known (pending_op k.step.line.answer)
 
   abbrev pub IsKnownAnswer : ℕ → Command Op → KnownStep Op Shown → Answer Shown → Type 0
   IsKnownAnswer client command k (Answer.Replied reply) = IsKnownReply client command k reply
-  IsKnownAnswer client command k Answer.Gone = (k.step.index ≡ None) × (k.step.line.posts ≡ []) × (world.nodes (member_of command) ≡ None)
-  IsKnownAnswer client command k Answer.NoSuchView = (k.step.index ≡ None) × (k.step.line.posts ≡ []) × (is_some (world.nodes (member_of command)) ≡ true) × LacksView (views_of world) command
+  IsKnownAnswer client command k Answer.Gone = (k.step.index ≡ None) × (k.step.line.posts ≡ []) × (world.nodes command.at ≡ None)
+  IsKnownAnswer client command k Answer.NoSuchView = (k.step.index ≡ None) × (k.step.line.posts ≡ []) × (is_some (world.nodes command.at) ≡ true) × LacksView (views_of world) command
   IsKnownAnswer client command k Answer.HistoryFull =
-      (k.step.index ≡ None) × (k.step.line.posts ≡ []) × ((input : Input Op) × IsInputOf (views_of world) command input) × IsKnownFull (member_of command) k.known
+      (k.step.index ≡ None) × (k.step.line.posts ≡ []) × ((input : Input Op) × IsInputOf (views_of world) command input) × IsKnownFull command.at k.known
   IsKnownAnswer client command k _ = ⊥
 
   -- WHEN A TIMEOUT WAS CALLED
@@ -121,8 +121,8 @@ module _ {Kind Op Shown : Type 0} (D : Replication Kind Op Shown) (world : World
     pub told : (k.step.line.client ≡ Some client) × (k.step.line.head ≡ head_of command)
     pub knows : IsKnownBy k.known k.step.upto
     pub answered : IsKnownAnswer client command k k.step.line.answer
-    pub timed_out : TimesOutKnown client (member_of command) k (pending_op k.step.line.answer) k.step.timeout
-    pub ends : EndsByTimeout (member_of command) k (pending_op k.step.line.answer) k.step.timeout ⊎ (k.step.line.ended ≡ ending_of (member_after (member_of command) (k.known (member_of command))) (pending_op k.step.line.answer))
+    pub timed_out : TimesOutKnown client command.at k (pending_op k.step.line.answer) k.step.timeout
+    pub ends : EndsByTimeout command.at k (pending_op k.step.line.answer) k.step.timeout ⊎ (k.step.line.ended ≡ ending_of (member_after command.at (k.known command.at)) (pending_op k.step.line.answer))
     pub forward : k.step.since ≤ k.step.upto
 
   -- a client's commands one after another, from a stamp on

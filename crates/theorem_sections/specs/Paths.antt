@@ -6,8 +6,8 @@ use Rattle.model_members.specs.DataType.{Replication}
 use Rattle.model_members.specs.Message.{Post}
 use Rattle.model_members.specs.Node.{KeyDecl, Node, Input, Fate, Reply}
 use Rattle.model_members.specs.World.{World, views_of, run, IsRun}
-use Rattle.model_members.specs.Script.{Playing, Answer, Head, answers_between}
-use Rattle.theorem_sections.specs.Sections.{Command, Section, Move, Line, answers, member_of, node_full, is_open, running, pending_op, ending_of, IsSection, section_lines}
+use Rattle.model_members.specs.Script.{Playing, input_of, Answer, Head, answers_between}
+use Rattle.theorem_sections.specs.Sections.{Command, Section, Move, Line, answers, node_full, is_open, running, pending_op, ending_of, IsSection, section_lines}
 use Rattle.theorem_sections.specs.Histories.{Entry, Placed, Passed, posted_to, taken_from, replayed, AreHistories, IsRunOrder, events_of, sent_so_far}
 
 -- one command of a client: its line, the indexes of its entry and of its timeout's in the history of its member, and the client's stamp before and after
@@ -21,20 +21,10 @@ pub record ClientStep (Op Shown : Type 0) : Type 0 where
 module _ {Op : Type 0} where
   -- the input that a command gives, where these are the views
   abbrev pub IsInputOf : List View → Command Op → Input Op → Type 0
-  IsInputOf views (Command.Update i key op level) input = input ≡ Input.Update key op level
-  IsInputOf views (Command.Get i key level) input = input ≡ Input.Get key level
-  IsInputOf views (Command.Flush i) input = input ≡ Input.Flush
-  IsInputOf views (Command.Gossip i to) input = input ≡ Input.GossipTo to
-  IsInputOf views (Command.Tick i) input = input ≡ Input.PruneTick
-  IsInputOf views (Command.Install i number) input = (view : View) × (slice_get views number ≡ Some view) × (input ≡ Input.Install view)
+  IsInputOf views command input = input_of views command.ask ≡ Some input
 
   abbrev pub head_of : Command Op → Head Op
-  head_of (Command.Update i key op level) = Head.UpdateHead i key
-  head_of (Command.Get i key level) = Head.GetHead i key
-  head_of (Command.Flush i) = Head.FlushHead i
-  head_of (Command.Gossip i to) = Head.GossipHead i to
-  head_of (Command.Tick i) = Head.TickHead i
-  head_of (Command.Install i number) = Head.InstallHead i number
+  head_of command = Head.Asked command.at command.ask
 
   abbrev pub IsTake : Input Op → Type 0
   IsTake (Input.Take from message) = ⊤
@@ -42,8 +32,7 @@ module _ {Op : Type 0} where
 
   -- it installs a view that the list lacks
   abbrev pub LacksView : List View → Command Op → Type 0
-  LacksView views (Command.Install i number) = slice_get views number ≡ None
-  LacksView views _ = ⊥
+  LacksView views command = input_of views command.ask ≡ None
 
 module _ {Op Shown : Type 0} where
   -- the entries up to a stamp, which begin a history whose stamps rise
@@ -88,22 +77,22 @@ module _ {Kind Op Shown : Type 0} (D : Replication Kind Op Shown) (world : World
     pub entry : Entry Op Shown
     pub input : Input Op
     pub at : step.index ≡ Some index
-    pub runs : is_some (world.nodes (member_of command)) ≡ true
+    pub runs : is_some (world.nodes (command.at)) ≡ true
     pub given : IsInputOf (views_of world) command input
-    pub made : IsEntryOf client (member_of command) index input entry
+    pub made : IsEntryOf client (command.at) index input entry
     pub replied : entry.output.reply ≡ reply
     pub posts : step.line.posts ≡ entry.output.posts
     pub later : step.since < entry.stamp
     pub before : entry.stamp ≤ step.upto
-    pub heard : (are_posts_taken (member_of command) entry step.upto || some_full_until step.upto) ≡ true
-    pub ended : has_ended_until (member_of command) step.upto (pending_op step.line.answer) ≡ true
+    pub heard : (are_posts_taken (command.at) entry step.upto || some_full_until step.upto) ≡ true
+    pub ended : has_ended_until (command.at) step.upto (pending_op step.line.answer) ≡ true
 
   abbrev pub IsAnsweredBy : ℕ → Command Op → ClientStep Op Shown → Answer Shown → Type 0
   IsAnsweredBy client command step (Answer.Replied reply) = IsReplied client command step reply
-  IsAnsweredBy client command step Answer.Gone = (step.index ≡ None) × (step.line.posts ≡ []) × (world.nodes (member_of command) ≡ None)
-  IsAnsweredBy client command step Answer.NoSuchView = (step.index ≡ None) × (step.line.posts ≡ []) × (is_some (world.nodes (member_of command)) ≡ true) × LacksView (views_of world) command
+  IsAnsweredBy client command step Answer.Gone = (step.index ≡ None) × (step.line.posts ≡ []) × (world.nodes (command.at) ≡ None)
+  IsAnsweredBy client command step Answer.NoSuchView = (step.index ≡ None) × (step.line.posts ≡ []) × (is_some (world.nodes (command.at)) ≡ true) × LacksView (views_of world) command
   IsAnsweredBy client command step Answer.HistoryFull =
-      (step.index ≡ None) × (step.line.posts ≡ []) × ((input : Input Op) × IsInputOf (views_of world) command input) × (node_full (member_until (member_of command) step.upto) ≡ true)
+      (step.index ≡ None) × (step.line.posts ≡ []) × ((input : Input Op) × IsInputOf (views_of world) command input) × (node_full (member_until (command.at) step.upto) ≡ true)
   IsAnsweredBy client command step _ = ⊥
 
   -- WHEN A TIMEOUT WAS CALLED
@@ -133,8 +122,8 @@ module _ {Kind Op Shown : Type 0} (D : Replication Kind Op Shown) (world : World
   pub record IsStepOf (client : ℕ) (command : Command Op) (step : ClientStep Op Shown) : Type 0 where
     pub told : (step.line.client ≡ Some client) × (step.line.head ≡ head_of command)
     pub answered : IsAnsweredBy client command step step.line.answer
-    pub timed_out : TimesOut client (member_of command) step (pending_op step.line.answer) step.timeout
-    pub ends : step.line.ended ≡ ending_of (option_map (λ before. replayed D before (histories (member_of command))) (world.nodes (member_of command))) (pending_op step.line.answer)
+    pub timed_out : TimesOut client (command.at) step (pending_op step.line.answer) step.timeout
+    pub ends : step.line.ended ≡ ending_of (option_map (λ before. replayed D before (histories (command.at))) (world.nodes (command.at))) (pending_op step.line.answer)
     pub forward : step.since ≤ step.upto
 
   -- a client's commands one after another, from a stamp on
@@ -153,7 +142,7 @@ module _ {Kind Op Shown : Type 0} (D : Replication Kind Op Shown) (world : World
     pub step : ClientStep Op Shown
     pub of : (slice_get clients client ≡ Some commands) × (slice_get paths client ≡ Some steps)
     pub stands : (slice_get commands number ≡ Some command) × (slice_get steps number ≡ Some step)
-    pub at : (member_of command ≡ i) × ((step.index ≡ Some k) ⊎ (step.timeout ≡ Some k))
+    pub at : (command.at ≡ i) × ((step.index ≡ Some k) ⊎ (step.timeout ≡ Some k))
 
   -- each client has a path, and each entry that is no take is one of its commands or timeouts
   pub record ArePaths (clients : List (List (Command Op))) (paths : List (List (ClientStep Op Shown))) : Type 0 where

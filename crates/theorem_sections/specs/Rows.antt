@@ -11,8 +11,8 @@ use Rattle.model_members.specs.Node.Level.{Local, Majority}
 use Rattle.model_members.specs.Report.{line_of}
 use Rattle.model_members.specs.Script.{none_fails, KeeperAnswers}
 use Rattle.model_rows.specs.Words.{data_type, key, durable_key, failing_at}
-use Rattle.theorem_sections.specs.Sections.{Command, commands_of}
-use Rattle.theorem_sections.specs.Sections.Command.{Update, Get, Flush, Gossip, Tick, Install}
+use Rattle.theorem_sections.specs.Sections.{Command, command_to, commands_of}
+use Rattle.model_members.specs.Script.Ask.{Update, Get, Flush, Gossip, Tick, Install}
 use Rattle.theorem_sections.specs.Runs.{RunStep, HasReport}
 use Rattle.theorem_sections.specs.Runs.RunStep.{Threads}
 
@@ -25,7 +25,7 @@ pub record HasOneReport (answers : KeeperAnswers) (members : ℕ) (keys : List (
   pub only : (other : Text) → has_report answers members keys steps other → other ≡ text
 
 abbrev pub pending_update : List (Command Op)
-pending_update = Update 0 (codes "n") (Increment 1) (Majority 0) ∷ Get 1 (codes "n") Local ∷ Get 0 (codes "n") Local ∷ []
+pending_update = command_to 0 (Update (codes "n") (Increment 1) (Majority 0)) ∷ command_to 1 (Get (codes "n") Local) ∷ command_to 0 (Get (codes "n") Local) ∷ []
 
 abbrev pub one_client_text : Text
 one_client_text =
@@ -46,7 +46,7 @@ abbrev pub OneClient : Type 0
 OneClient = HasOneReport none_fails 3 (key (codes "n") GCounter ∷ []) (Threads (pending_update ∷ []) ∷ []) one_client_text
 
 abbrev pub other_commands : List (Command Op)
-other_commands = Update 0 (codes "n") (Increment 2) Local ∷ Flush 0 ∷ Get 1 (codes "n") Local ∷ Gossip 1 0 ∷ Tick 0 ∷ Install 0 0 ∷ []
+other_commands = command_to 0 (Update (codes "n") (Increment 2) Local) ∷ command_to 0 Flush ∷ command_to 1 (Get (codes "n") Local) ∷ command_to 1 (Gossip 0) ∷ command_to 0 Tick ∷ command_to 0 (Install 0) ∷ []
 
 abbrev pub other_commands_text : Text
 other_commands_text =
@@ -68,7 +68,7 @@ abbrev pub OtherCommands : Type 0
 OtherCommands = HasOneReport none_fails 2 (key (codes "n") GCounter ∷ []) (Threads (other_commands ∷ []) ∷ []) other_commands_text
 
 abbrev pub timed_out_write : List (Command Op)
-timed_out_write = Update 0 (codes "d") (Increment 1) (Majority 0) ∷ []
+timed_out_write = command_to 0 (Update (codes "d") (Increment 1) (Majority 0)) ∷ []
 
 abbrev pub timed_out_text : Text
 timed_out_text =
@@ -86,7 +86,7 @@ abbrev pub TimedOutWrite : Type 0
 TimedOutWrite = HasOneReport (failing_at 1 (1 ∷ [])) 2 (durable_key (codes "d") GCounter ∷ []) (Threads (timed_out_write ∷ []) ∷ []) timed_out_text
 
 abbrev pub racing : List (List (Command Op))
-racing = (Update 0 (codes "n") (Increment 1) Local ∷ []) ∷ (Get 0 (codes "n") Local ∷ []) ∷ []
+racing = (command_to 0 (Update (codes "n") (Increment 1) Local) ∷ []) ∷ (command_to 0 (Get (codes "n") Local) ∷ []) ∷ []
 
 abbrev pub racing_text : Text → Text
 racing_text found =
@@ -105,7 +105,7 @@ Racing =
     × has_report none_fails 1 (key (codes "n") GCounter ∷ []) (Threads racing ∷ []) (racing_text (codes "value 1"))
 
 abbrev pub two_writers : List (List (Command Op))
-two_writers = commands_of (record { command = Update 0 (codes "n") (Increment 1) Local; times = 3 } ∷ []) ∷ commands_of (record { command = Update 1 (codes "n") (Increment 1) Local; times = 2 } ∷ []) ∷ []
+two_writers = commands_of (record { command = command_to 0 (Update (codes "n") (Increment 1) Local); times = 3 } ∷ []) ∷ commands_of (record { command = command_to 1 (Update (codes "n") (Increment 1) Local); times = 2 } ∷ []) ∷ []
 
 abbrev pub two_writers_text : Text
 two_writers_text =

@@ -12,17 +12,17 @@ use Rattle.model_members.specs.Node.{Node, Level, OpenOperation, Finished, Reply
 use Rattle.model_members.specs.Step.{is_full}
 use Rattle.model_members.specs.World.{World, message_at}
 use Rattle.model_members.specs.Script as script
-use Rattle.model_members.specs.Script.{Playing, ScriptStep, Told, Answer, played, last_of}
+use Rattle.model_members.specs.Script.{Ask, Playing, ScriptStep, Told, Answer, played, last_of}
 
 -- CLIENTS AND THEIR COMMANDS
 
-pub data Command (Op : Type 0) : Type 0 where
-  Update : (at : ℕ) (key : Text) (op : Op) (level : Level) → Command Op
-  Get : (at : ℕ) (key : Text) (level : Level) → Command Op
-  Flush : (at : ℕ) → Command Op
-  Gossip : (at to : ℕ) → Command Op
-  Tick : (at : ℕ) → Command Op
-  Install : (at view : ℕ) → Command Op
+-- what a client asks, and of which member
+pub record Command (Op : Type 0) : Type 0 where
+  pub at : ℕ
+  pub ask : Ask Op
+
+abbrev pub command_to : {Op : Type 0} → ℕ → Ask Op → Command Op
+command_to at ask = record { at = at; ask = ask }
 
 -- a command that stands so many times
 pub record Repeated (Op : Type 0) : Type 0 where
@@ -35,21 +35,7 @@ commands_of {Op} commands = flat_map (λ (c : Repeated Op). replicate c.times c.
 module _ {Op : Type 0} where
   -- the plain step that gives the member the same input
   abbrev pub step_of : Command Op → ScriptStep Op
-  step_of (Command.Update i key op level) = ScriptStep.Update i key op level
-  step_of (Command.Get i key level) = ScriptStep.Get i key level
-  step_of (Command.Flush i) = ScriptStep.Flush i
-  step_of (Command.Gossip i to) = ScriptStep.Gossip i to
-  step_of (Command.Tick i) = ScriptStep.Tick i
-  step_of (Command.Install i view) = ScriptStep.Install i view
-
-  -- the member that it is given to
-  abbrev pub member_of : Command Op → ℕ
-  member_of (Command.Update i key op level) = i
-  member_of (Command.Get i key level) = i
-  member_of (Command.Flush i) = i
-  member_of (Command.Gossip i to) = i
-  member_of (Command.Tick i) = i
-  member_of (Command.Install i view) = i
+  step_of command = ScriptStep.Asks command.at command.ask
 
   -- a message that answers an operation of its receiver
   abbrev pub answers : ℕ → Message Op → Bool
@@ -185,7 +171,7 @@ module _ {Kind Op Shown : Type 0} where
 
   abbrev pub made_by : Command Op → World Kind Op Shown → Told Op Shown → Made Op Shown
   made_by command world line =
-      let i = member_of command in
+      let i = command.at in
       record { at = i; line = line; sent = λ to. length (world.links i to).messages }
 
   -- the client after its next command

@@ -14,8 +14,8 @@ use Rattle.model_members.specs.Node.Input.{Take, GossipTo}
 use Rattle.model_members.specs.Node.Reply.{NotFromMember, NotAPeer, Done}
 use Rattle.model_members.specs.Step.{step, step_of_take, answered, sent, gossip_to, answer_to, status_of, named_entries, news_for, wanted_from, after_entries}
 use Rattle.model_members.specs.World.{World, Event}
-use Rattle.model_members.specs.Script.{Playing, given, exchange, unless_full, has_met_full, deliver_last, posted, last_number}
-use Rattle.model_members.specs.Script.Head.{GossipHead}
+use Rattle.model_members.specs.Script.{Ask, Playing, given, exchange, unless_full, has_met_full, deliver_last, posted, last_number}
+use Rattle.model_members.specs.Script.Head.{Asked}
 use Rattle.model_members.specs.World.Event.{InputAt}
 use Rattle.model_members.proofs.Taking.{taken_entry, after_entries-at}
 use Rattle.theorem_runs.specs.Pruning.HasEntry.{Held}
@@ -102,7 +102,7 @@ module _ {Kind Op Shown : Type 0} (D : Replication Kind Op Shown) where
         pub same_midway : lead_midway.entries ≡ b.entries
 
       q1 : Playing Kind Op Shown
-      q1 = unless_full D (λ q. given D q (GossipHead i lead) (InputAt i (GossipTo lead))) p
+      q1 = unless_full D (λ q. given D q (Asked i (Ask.Gossip lead)) (InputAt i (GossipTo lead))) p
 
       q2 : Playing Kind Op Shown
       q2 = deliver_last D (posted p) i lead q1
@@ -128,8 +128,8 @@ module _ {Kind Op Shown : Type 0} (D : Replication Kind Op Shown) where
       first : has_met_full q1 ≡ false → First q1
       unfolding q1
       first e =
-          let u = unless_is D members keys (λ q. given D q (GossipHead i lead) (InputAt i (GossipTo lead))) p e in
-          let s = given_steps D members keys p (GossipHead i lead) i (GossipTo lead) a tt runs_a (ap has_met_full (sym u.0) ∙ e) in
+          let u = unless_is D members keys (λ q. given D q (Asked i (Ask.Gossip lead)) (InputAt i (GossipTo lead))) p e in
+          let s = given_steps D members keys p (Asked i (Ask.Gossip lead)) i (GossipTo lead) a tt runs_a (ap has_met_full (sym u.0) ∙ e) in
           record { not_met = u.1; fate = s.fate; does = subst (λ (q : Playing Kind Op Shown). Did D members keys p q i (step D a (GossipTo lead) s.fate)) (sym u.0) s.does }
 
       -- a message that was sent by the step before is delivered

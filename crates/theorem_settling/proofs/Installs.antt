@@ -12,8 +12,8 @@ use Rattle.model_members.specs.Node.Reply.{OldView, NotStored, Installed}
 use Rattle.model_members.specs.Step.{step, answered, has_failed}
 use Rattle.model_members.specs.World.{World, Event, views_of}
 use Rattle.model_members.specs.World.Event.{InputAt}
-use Rattle.model_members.specs.Script.{Playing, given, unless_full, has_met_full, posted, install_last, is_older}
-use Rattle.model_members.specs.Script.Head.{InstallHead}
+use Rattle.model_members.specs.Script.{Ask, Playing, given, unless_full, has_met_full, posted, install_last, is_older}
+use Rattle.model_members.specs.Script.Head.{Asked}
 use Rattle.model_members.specs.Entry.{seen_by}
 use Rattle.theorem_runs.proofs.RunViews.{same_some, at_most_last}
 use Rattle.theorem_operations.proofs.Moments.{Stands, stands_next, safe_at, view_stays}
@@ -51,7 +51,7 @@ module _ {Kind Op Shown : Type 0} (D : Replication Kind Op Shown) (members : ℕ
       is = ap (λ b. if b then answered (one_step_later n) OldView else answered (record (one_step_later n) { view = V; entries = λ key. seen_by n.identity V.number (n.entries key) }) (if has_failed fate then NotStored else Installed)) (not_le older)
 
   abbrev inst : ℕ → View → Playing Kind Op Shown → Playing Kind Op Shown
-  inst i view q = given D q (InstallHead i view.number) (InputAt i (Install view))
+  inst i view q = given D q (Asked i (Ask.Install view.number)) (InputAt i (Install view))
 
   install_met : (p : Playing Kind Op Shown) (i : ℕ) → has_met_full (install_last D p i) ≡ false → has_met_full p ≡ false
   install_met p i = by (is_older D p.world.view (p.world.nodes i))
@@ -71,7 +71,7 @@ module _ {Kind Op Shown : Type 0} (D : Replication Kind Op Shown) (members : ℕ
       by n runs true older e =
           let u = unless_is D members keys (inst i V) p e in
           let listed : slice_get (views_of p.world) (length p.world.earlier) ≡ Some V = last_there p.world.earlier p.world.view ∙ ap Some lasts.view in
-          let s = given_steps D members keys p (InstallHead i V.number) i (Install V) n (length p.world.earlier, listed) runs (ap has_met_full (sym u.0) ∙ e) in
+          let s = given_steps D members keys p (Asked i (Ask.Install V.number)) i (Install V) n (length p.world.earlier, listed) runs (ap has_met_full (sym u.0) ∙ e) in
           let d : Did D members keys p (unless_full D (inst i V) p) i (step D n (Install V) s.fate) = subst (λ (q : Playing Kind Op Shown). Did D members keys p q i (step D n (Install V) s.fate)) (sym u.0) s.does in
           let does = install_step n s.fate older in
           record {

@@ -17,8 +17,8 @@ use Rattle.model_members.specs.DataType.{Replication}
 use Rattle.model_members.specs.Node.{KeyDecl, Node, Input, Fate, Stepped, HasKey, state_of, one_step_later, KeyState}
 use Rattle.model_members.specs.Step.{step, Ticking, tick_key}
 use Rattle.model_members.specs.World.{World, Event}
-use Rattle.model_members.specs.Script.{Playing, given, exchange, sweep, tick, has_met_full, posted}
-use Rattle.model_members.specs.Script.Head.{TickHead}
+use Rattle.model_members.specs.Script.{Ask, Playing, given, exchange, sweep, tick, has_met_full, posted}
+use Rattle.model_members.specs.Script.Head.{Asked}
 use Rattle.model_members.specs.World.Event.{InputAt}
 use Rattle.theorem_runs.proofs.Keeping.{same_text}
 use Rattle.theorem_runs.proofs.Growth.{step_no_fewer}
@@ -94,11 +94,11 @@ module _ {Kind Op Shown : Type 0} (D : Replication Kind Op Shown) (members : ℕ
 
     pub tick_done : (p : Playing Kind Op Shown) → Calm p.world → (b : Node Kind Op Shown) → p.world.nodes lead ≡ Some b → has_met_full (tick D p) ≡ false → TickDone p (tick D p) b
     tick_done p calm b runs e =
-        let f = λ (q : Playing Kind Op Shown). given D q (TickHead (leader q.world.view)) (InputAt (leader q.world.view) Input.PruneTick) in
+        let f = λ (q : Playing Kind Op Shown). given D q (Asked (leader q.world.view) Ask.Tick) (InputAt (leader q.world.view) Input.PruneTick) in
         let u = unless_is D members keys f p e in
         let here : leader p.world.view ≡ lead = ap leader calm.view in
-        let same : tick D p ≡ given D p (TickHead lead) (InputAt lead Input.PruneTick) = u.0 ∙ ap (λ j. given D p (TickHead j) (InputAt j Input.PruneTick)) here in
-        let s = given_steps D members keys p (TickHead lead) lead Input.PruneTick b tt runs (ap has_met_full (sym same) ∙ e) in
+        let same : tick D p ≡ given D p (Asked lead Ask.Tick) (InputAt lead Input.PruneTick) = u.0 ∙ ap (λ j. given D p (Asked j Ask.Tick) (InputAt j Input.PruneTick)) here in
+        let s = given_steps D members keys p (Asked lead Ask.Tick) lead Input.PruneTick b tt runs (ap has_met_full (sym same) ∙ e) in
         let with_event : (x : Did D members keys p (tick D p) lead (step D b Input.PruneTick s.fate)) × (x.event ≡ InputAt lead Input.PruneTick s.fate) =
         subst (λ (q : Playing Kind Op Shown). (x : Did D members keys p q lead (step D b Input.PruneTick s.fate)) × (x.event ≡ InputAt lead Input.PruneTick s.fate)) (sym same) (s.does, ticks_by p.world s.does.event s.fate s.makes) in
         let d = with_event.0 in
@@ -112,7 +112,7 @@ module _ {Kind Op Shown : Type 0} (D : Replication Kind Op Shown) (members : ℕ
         }
 
     tick_met : (p : Playing Kind Op Shown) → has_met_full (tick D p) ≡ false → has_met_full p ≡ false
-    tick_met p e = (unless_is D members keys (λ (q : Playing Kind Op Shown). given D q (TickHead (leader q.world.view)) (InputAt (leader q.world.view) Input.PruneTick)) p e).1
+    tick_met p e = (unless_is D members keys (λ (q : Playing Kind Op Shown). given D q (Asked (leader q.world.view) Ask.Tick) (InputAt (leader q.world.view) Input.PruneTick)) p e).1
 
     -- A SWEEP
 

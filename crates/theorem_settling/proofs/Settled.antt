@@ -9,8 +9,8 @@ use Rattle.model_members.specs.DataType.{Replication}
 use Rattle.model_members.specs.Node.{KeyDecl, Node, Input}
 use Rattle.model_members.specs.Step.{step}
 use Rattle.model_members.specs.World.{World, start, happens, IsRun}
-use Rattle.model_members.specs.Script.{Playing, Told, Answer, given, exchange, sweep, tick, settle, has_met_full, posted, last_answer_blocked, blocked_in_answer, last_of}
-use Rattle.model_members.specs.Script.Head.{TickHead}
+use Rattle.model_members.specs.Script.{Ask, Playing, Told, Answer, given, exchange, sweep, tick, settle, has_met_full, posted, last_answer_blocked, blocked_in_answer, last_of}
+use Rattle.model_members.specs.Script.Head.{Asked}
 use Rattle.model_members.specs.World.Event.{InputAt}
 use Rattle.theorem_runs.proofs.Happening.{all_of}
 use Rattle.theorem_settling.specs.Settling.{installed_all, swept_twice, ticked_once, swept_again, ticked_twice, swept_last, settle_answer, DigestsTell, DigestsTellFrom, BlockedStays, IsSettled, HasBlocked, tick_event}
@@ -40,7 +40,7 @@ module _ {Kind Op Shown : Type 0} (D : Replication Kind Op Shown) where
         sweep_met D members keys (its_view j) j (its_member j) (filter (λ i. not (i == j)) (identities_of p.world.view)) p e
 
     plain_tick_met : (p : Playing Kind Op Shown) → has_met_full (tick D p) ≡ false → has_met_full p ≡ false
-    plain_tick_met p e = (unless_is D members keys (λ (q : Playing Kind Op Shown). given D q (TickHead (leader q.world.view)) (InputAt (leader q.world.view) Input.PruneTick)) p e).1
+    plain_tick_met p e = (unless_is D members keys (λ (q : Playing Kind Op Shown). given D q (Asked (leader q.world.view) Ask.Tick) (InputAt (leader q.world.view) Input.PruneTick)) p e).1
 
     module _ (p : Playing Kind Op Shown) (ran_p : Runs D members keys p) (met : has_met_full (swept_last D p) ≡ false) where
       abbrev V : View

@@ -14,8 +14,8 @@ use Rattle.model_members.specs.DataType.{Replication}
 use Rattle.model_members.specs.Node.{KeyDecl, Node}
 use Rattle.model_members.specs.Node.Input.{GossipTo}
 use Rattle.model_members.specs.World.{World, Event}
-use Rattle.model_members.specs.Script.{Playing, exchange, given, unless_full, deliver_last, has_met_full, posted}
-use Rattle.model_members.specs.Script.Head.{GossipHead}
+use Rattle.model_members.specs.Script.{Ask, Playing, exchange, given, unless_full, deliver_last, has_met_full, posted}
+use Rattle.model_members.specs.Script.Head.{Asked}
 use Rattle.model_members.specs.World.Event.{InputAt}
 use Rattle.theorem_settling.specs.Settling.{DigestsTell}
 use Rattle.theorem_operations.proofs.Moments.{safe_at}
@@ -45,13 +45,13 @@ module _ {Kind Op Shown : Type 0} (D : Replication Kind Op Shown) (members : ℕ
 
   exchange_met : (p : Playing Kind Op Shown) (i : ℕ) → has_met_full (exchange D lead p i) ≡ false → has_met_full p ≡ false
   exchange_met p i e =
-      let one = unless_full D (λ q. given D q (GossipHead i lead) (InputAt i (GossipTo lead))) p in
+      let one = unless_full D (λ q. given D q (Asked i (Ask.Gossip lead)) (InputAt i (GossipTo lead))) p in
       let two = deliver_last D (posted p) i lead one in
       let three = deliver_last D (posted one) lead i two in
       let a = (last_is D members keys (posted two) i lead three e).1 in
       let b = (last_is D members keys (posted one) lead i two a).1 in
       let c = (last_is D members keys (posted p) i lead one b).1 in
-      (unless_is D members keys (λ q. given D q (GossipHead i lead) (InputAt i (GossipTo lead))) p c).1
+      (unless_is D members keys (λ q. given D q (Asked i (Ask.Gossip lead)) (InputAt i (GossipTo lead))) p c).1
 
   pub sweep_met : (is : List ℕ) (p : Playing Kind Op Shown) → has_met_full (swept p is) ≡ false → has_met_full p ≡ false
   sweep_met [] p e = e

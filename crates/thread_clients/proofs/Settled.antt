@@ -16,7 +16,7 @@ use Rattle.thread_cluster.specs.Knowing.{GoesOn, IsNowhere}
 use Rattle.thread_cluster.specs.declared.error.CallError.{CallError}
 use Rattle.thread_cluster.specs.declared.error.CallError.TheVariants as call
 use Rattle.script_reading.specs.declared.clients.Command.{Command}
-use Rattle.thread_clients.specs.Commands.{member_of, has_turn}
+use Rattle.thread_clients.specs.Commands.{has_turn}
 use Rattle.thread_clients.specs.Sessions.{Session, Receipted, Meaning}
 use Rattle.thread_clients.specs.Calls.{IsMade, IsCalled}
 use Rattle.thread_clients.specs.Turns.{IsHeardOrFull}
@@ -25,10 +25,10 @@ use Rattle.thread_clients.specs.Answers.{IsQuiet, Settles, IsAnsweredBy, HasMade
 
 module _ {T K Kind Delta : Type 0} {data_of : Data T Kind Op Delta} {keeping : Keeping K} (meaning : Meaning data_of keeping) (ids : ℕ → Option ℕ) where
   -- what was opened has ended
-  pub settled_end : (command : Command) (told : Reply) (posts : List (Post T Kind Op Delta data_of)) (old new : Session data_of keeping) (op : ℕ) (end : Ended) → told ≡ reply.Pending op → (at : ℕ) → at ≡ member_of command → Ends meaning ids at op old new end
+  pub settled_end : (command : Command) (told : Reply) (posts : List (Post T Kind Op Delta data_of)) (old new : Session data_of keeping) (op : ℕ) (end : Ended) → told ≡ reply.Pending op → Ends meaning ids command.at op old new end
       → Settles meaning ids command told posts old new (Some end)
-  settled_end command told posts old new op end is at same ends =
-      subst (λ (r : Reply). Settles meaning ids command r posts old new (Some end)) (sym is) (end, refl, subst (λ (who : ℕ). Ends meaning ids who op old new end) same ends)
+  settled_end command told posts old new op end is ends =
+      subst (λ (r : Reply). Settles meaning ids command r posts old new (Some end)) (sym is) (end, refl, ends)
 
   -- nothing was opened
   not_opened : (command : Command) (told : Reply) (posts : List (Post T Kind Op Delta data_of)) (old new : Session data_of keeping) → ((op : ℕ) → told ≡ reply.Pending op → ⊥)
@@ -41,7 +41,7 @@ module _ {T K Kind Delta : Type 0} {data_of : Data T Kind Op Delta} {keeping : K
   settled_turn command told posts old new other heard = not_opened command told posts old new other (inr heard)
 
   pub settled_quiet : (command : Command) (told : Reply) (posts : List (Post T Kind Op Delta data_of)) (old : Session data_of keeping) → ((op : ℕ) → told ≡ reply.Pending op → ⊥)
-      → has_turn command ≡ false → posts ≡ [] → Settles meaning ids command told posts old old None
+      → has_turn command.ask ≡ false → posts ≡ [] → Settles meaning ids command told posts old old None
   settled_quiet command told posts old other turns none = not_opened command told posts old old other (inl (record { turns = turns; posts_are = none; same = refl }))
 
   module _ (views : List View) (command : Command) (client : ℕ) (line : ClientLine) where
@@ -76,7 +76,7 @@ module _ {T K Kind Delta : Type 0} {data_of : Data T Kind Op Delta} {keeping : K
     }
 
   -- the member of a call that was answered runs, and the session goes on
-  pub runs_here : (views : List View) (command : Command) (old made : Session data_of keeping) (receipt : Receipted data_of keeping) → IsMade meaning ids views command old made receipt → IsNowhere ids (member_of command) → ⊥
+  pub runs_here : (views : List View) (command : Command) (old made : Session data_of keeping) (receipt : Receipted data_of keeping) → IsMade meaning ids views command old made receipt → IsNowhere ids command.at → ⊥
   runs_here views command old made receipt is nowhere = nowhere.nowhere receipt.place is.called.here
 
   pub made_on : (views : List View) (command : Command) (old made : Session data_of keeping) (receipt : Receipted data_of keeping) → IsMade meaning ids views command old made receipt → GoesOn old made

@@ -17,12 +17,13 @@ use Rattle.world_members.specs.declared.client_line.ClientLine.{ClientLine}
 use Rattle.world_members.specs.declared.client_line.Ended.{Ended}
 use Rattle.world_members.specs.declared.event.Answer.{Answer}
 use Rattle.world_members.specs.declared.event.Answer.TheVariants as answer
+use Rattle.world_members.specs.declared.event.Head.TheVariants.{Asked}
 use Rattle.world_members.specs.Sending.{told_of}
 use Rattle.thread_cluster.specs.Knowing.{Sees, IsNowhere}
 use Rattle.thread_cluster.specs.declared.error.CallError.{CallError}
 use Rattle.thread_cluster.specs.declared.error.CallError.TheVariants as call
 use Rattle.script_reading.specs.declared.clients.Command.{Command}
-use Rattle.thread_clients.specs.Commands.{member_of, head_of, has_turn}
+use Rattle.thread_clients.specs.Commands.{has_turn}
 use Rattle.thread_clients.specs.Calls.{IsMade, HasNoRoom, IsViewless}
 use Rattle.thread_clients.specs.Sessions.{Session, Receipted, Meaning}
 use Rattle.thread_clients.specs.Turns.{IsHeardOrFull}
@@ -31,13 +32,13 @@ use Rattle.thread_clients.specs.Endings.{Ends}
 module _ {T K Kind Delta : Type 0} {data_of : Data T Kind Op Delta} {keeping : Keeping K} (meaning : Meaning data_of keeping) (ids : ℕ → Option ℕ) where
   -- nothing was sent, and no turn follows
   pub record IsQuiet (command : Command) (posts : List (Post T Kind Op Delta data_of)) (old new : Session data_of keeping) : Type 0 where
-    pub turns : has_turn command ≡ false
+    pub turns : has_turn command.ask ≡ false
     pub posts_are : posts ≡ []
     pub same : new ≡ old
 
   -- an operation that was opened has ended; and else, where something was sent or a turn follows, what was sent is heard, or a history was full
   abbrev pub Settles : Command → Reply → List (Post T Kind Op Delta data_of) → Session data_of keeping → Session data_of keeping → Option Ended → Type 0
-  Settles command (reply.Pending op) posts old new told = (end : Ended) × (told ≡ Some end) × Ends meaning ids (member_of command) op old new end
+  Settles command (reply.Pending op) posts old new told = (end : Ended) × (told ≡ Some end) × Ends meaning ids command.at op old new end
   Settles command _ posts old new told = (told ≡ None) × (IsQuiet command posts old new ⊎ IsHeardOrFull meaning ids old new)
 
   module _ (views : List View) (command : Command) (old new : Session data_of keeping) (line : ClientLine) where
@@ -59,7 +60,7 @@ module _ {T K Kind Delta : Type 0} {data_of : Data T Kind Op Delta} {keeping : K
 
     abbrev pub IsAnsweredBy : Answer → Type 0
     IsAnsweredBy (answer.Reply told) = IsReplied told
-    IsAnsweredBy answer.Gone = IsUnmade (IsNowhere ids (member_of command))
+    IsAnsweredBy answer.Gone = IsUnmade (IsNowhere ids command.at)
     IsAnsweredBy answer.NoSuchView = IsUnmade (IsViewless meaning ids views command old new)
     IsAnsweredBy answer.HistoryFull = IsUnmade (HasNoRoom meaning ids views command old new)
     IsAnsweredBy _ = ⊥
@@ -67,14 +68,14 @@ module _ {T K Kind Delta : Type 0} {data_of : Data T Kind Op Delta} {keeping : K
     -- WHAT A COMMAND OF A CLIENT DID, and its line
     pub record HasMade (client : ℕ) : Type 0 where
       pub client_is : line.client ≡ client
-      pub head_is : line.head ≡ head_of command
+      pub head_is : line.head ≡ Asked command.at command.ask
       pub answered : IsAnsweredBy line.answer
       pub timed : IsTimed new.seen.known new.seen.stamp
 
   -- the line of a command that was answered so
   pub record IsLineOf (command : Command) (output : Output T Kind Op Delta data_of) (old new : Session data_of keeping) (client : ℕ) (line : ClientLine) : Type 0 where
     pub client_is : line.client ≡ client
-    pub head_is : line.head ≡ head_of command
+    pub head_is : line.head ≡ Asked command.at command.ask
     pub answer_is : line.answer ≡ answer.Reply output.reply
     pub sent : line.sent ≡ map told_of output.posts
     pub settles : Settles command output.reply output.posts old new line.ended
@@ -89,7 +90,7 @@ IsRefusal call.Memory told = ⊥
 -- the line of a command that made no step
 pub record IsRefusalLine (command : Command) (error : CallError) (client : ℕ) (line : ClientLine) : Type 0 where
   pub client_is : line.client ≡ client
-  pub head_is : line.head ≡ head_of command
+  pub head_is : line.head ≡ Asked command.at command.ask
   pub answer_is : IsRefusal error line.answer
   pub sent : line.sent ≡ []
   pub ended : line.ended ≡ None

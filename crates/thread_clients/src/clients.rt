@@ -2,7 +2,8 @@ ghost use Rattle.std.specs.Prelude.{◌≡◌, ℕ, ◌<◌, ◌≤◌, true, le
 ghost use Rattle.std.specs.List.{All};
 ghost use Rattle.thread_clients.specs.Playing.{HasPlayed, HavePlayed, AreAllPlayed, AreBack, job_of, played_of, session_of};
 
-use crate::client::{Lines, run_client};
+use crate::client::Lines;
+use crate::desk::Desk;
 use crate::gate::Gate;
 use base_bytes::{Items, Memory};
 use data_lattice::SpelledData;
@@ -50,7 +51,13 @@ fn play<T: SpelledData<Op = Op>, K: Keeper + Drop, N: Section, G: Gate>(
 {
     let client = &clients[number];
     let session = &mut job.session;
-    match run_client(rt, alloc, gate, cluster, session, number as u32, client) {
+    let desk = Desk {
+        rt,
+        alloc,
+        gate,
+        cluster,
+    };
+    match desk.run_client(session, number as u32, client) {
         Ok(lines) => {
             job.lines = lines;
             job.complete = true;

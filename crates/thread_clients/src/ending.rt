@@ -5,12 +5,13 @@ ghost use Rattle.thread_cluster.specs.Knowing.{GoesOn, IsNowhere};
 ghost use Rattle.thread_clients.specs.Turns.{MayGiveUp};
 ghost use Rattle.thread_clients.specs.Endings.{closed_by, left_by, IsGivenUp, Ends};
 
-use crate::turning::{look, wait_for};
+use crate::desk::Desk;
+use crate::gate::Gate;
 use base_bytes::Memory;
 use base_vectors::Id;
 use data_lattice::SpelledData;
 use member_keeper::Keeper;
-use member_node::{Finished, Look, Node, Reply};
+use member_node::{Finished, Input, Look, Node, Reply};
 use model_kinds::Op;
 use std::sync::Wait;
 use thread_cell::session::Session;
@@ -47,64 +48,65 @@ fn is_timed_out(reply: &Reply) -> bool
     matches!(reply, Reply::TimedOut)
 }
 
-/// The timeout of an operation, and how it then stands.
-///
-/// # Errors
-///
-/// Memory was refused.
-fn give_up<T: SpelledData<Op = Op>, K: Keeper + Drop, N: Section>(
-    rt: &impl Wait,
-    cluster: &Cluster<Node<T, K>, N>,
-    session: &mut Session<Node<T, K>>,
-    at: Id,
-    op: u64,
-) -> Result<Ended, Memory>
-    requires table { session.old.seen.table ≡ N.table }
-    requires runs { ¬ IsNowhere N.ids at }
-    ensures table { session.new.seen.table ≡ N.table }
-    ensures ok { IfOk result (IsGivenUp ⟦<Node<T, K> as Machine>⟧ N.ids at op session.old session.new) }
-    ensures goes_on { GoesOn session.old session.new }
-{
-    match cluster.timeout(rt, session, at, op) {
-        Ok(receipt) => {
-            if is_timed_out(&receipt.output.reply) {
-                return Ok(Ended::TimedOut { op });
+impl<'a, T: SpelledData<Op = Op>, K: Keeper + Drop, N: Section, R: Wait, G: Gate> Desk<
+    'a,
+    Node<T, K>,
+    N,
+    R,
+    G,
+> {
+    /// The timeout of an operation, and how it then stands.
+    ///
+    /// # Errors
+    ///
+    /// Memory was refused.
+    fn give_up(&self, session: &mut Session<Node<T, K>>, at: Id, op: u64) -> Result<Ended, Memory>
+        requires table { session.old.seen.table ≡ N.table }
+        requires runs { ¬ IsNowhere N.ids at }
+        ensures table { session.new.seen.table ≡ N.table }
+        ensures ok { IfOk result (IsGivenUp ⟦<Node<T, K> as Machine>⟧ N.ids at op session.old session.new) }
+        ensures goes_on { GoesOn session.old session.new }
+    {
+        match self.cluster.ask(self.rt, session, at, Input::Timeout(op)) {
+            Ok(receipt) => {
+                if is_timed_out(&receipt.output.reply) {
+                    return Ok(Ended::TimedOut { op });
+                }
+                let seen = self.look(session, at, op)?;
+                Ok(closed(op, seen))
             }
-            let seen = look(rt, cluster, session, at, op)?;
-            Ok(closed(op, seen))
+            Err(CallError::HistoryFull) => {
+                let seen = self.look(session, at, op)?;
+                Ok(left(op, seen))
+            }
+            Err(CallError::Memory) => Err(Memory),
+            Err(_) => unreachable!(),
         }
-        Err(CallError::HistoryFull) => {
-            let seen = look(rt, cluster, session, at, op)?;
-            Ok(left(op, seen))
-        }
-        Err(CallError::Memory) => Err(Memory),
-        Err(_) => unreachable!(),
     }
-}
 
-/// Turns until the operation has ended, and its timeout where these did not finish it.
-///
-/// # Errors
-///
-/// Memory was refused.
-pub(crate) fn end<T: SpelledData<Op = Op>, K: Keeper + Drop, N: Section>(
-    rt: &impl Wait,
-    cluster: &Cluster<Node<T, K>, N>,
-    session: &mut Session<Node<T, K>>,
-    at: Id,
-    op: u64,
-) -> Result<Ended, Memory>
-    requires table { session.old.seen.table ≡ N.table }
-    requires runs { ¬ IsNowhere N.ids at }
-    ensures table { session.new.seen.table ≡ N.table }
-    ensures ok { IfOk result (Ends ⟦<Node<T, K> as Machine>⟧ N.ids at op session.old session.new) }
-    ensures goes_on { GoesOn session.old session.new }
-{
-    match wait_for(rt, cluster, session, at, op)? {
-        Some(result) => Ok(Ended::Finished(Finished { op, result })),
-        None => {
-            session.facts();
-            give_up(rt, cluster, session, at, op)
+    /// Turns until the operation has ended, and its timeout where these did not finish it.
+    ///
+    /// # Errors
+    ///
+    /// Memory was refused.
+    pub(crate) fn end(
+        &self,
+        session: &mut Session<Node<T, K>>,
+        at: Id,
+        op: u64,
+    ) -> Result<Ended, Memory>
+        requires table { session.old.seen.table ≡ N.table }
+        requires runs { ¬ IsNowhere N.ids at }
+        ensures table { session.new.seen.table ≡ N.table }
+        ensures ok { IfOk result (Ends ⟦<Node<T, K> as Machine>⟧ N.ids at op session.old session.new) }
+        ensures goes_on { GoesOn session.old session.new }
+    {
+        match self.wait_for(session, at, op)? {
+            Some(result) => Ok(Ended::Finished(Finished { op, result })),
+            None => {
+                session.facts();
+                self.give_up(session, at, op)
+            }
         }
     }
 }

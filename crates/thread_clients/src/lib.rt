@@ -1,9 +1,20 @@
 //! Clients beside each other: each makes its commands at the members of a cluster, in order, and tells one line of each.
+//!
+//! # What is promised, and by which contract
+//!
+//! - Clients beside each other, each in the session of its number. With Ok each made its commands
+//!   in order, and each command has a line: its entry stands in what the client then knows, with
+//!   the answer that the line tells, and what it sent; what it opened has ended as the line tells;
+//!   what it sent is taken, or a history was full; a command that made no step had no running
+//!   member, no such view or no room (`run_clients`, clause `ok` (`AreAllPlayed`, `IsPath`,
+//!   `HasMade`, `Ends`)).
+//! - For want of memory all sessions come back, and know no less (`run_clients`, clause `err`).
 #![tactic(auto)]
 
 mod calling;
 mod client;
 mod clients;
+mod desk;
 mod ending;
 mod gate;
 mod telling;

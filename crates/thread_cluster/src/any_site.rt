@@ -9,7 +9,7 @@ use crate::member::Member;
 use crate::peer::Peer;
 use crate::section::Section;
 use crate::site::Site;
-use base_vectors::Memory;
+use base_bytes::Memory;
 use std::alloc::Global;
 use std::collections::VecDeque;
 use std::sync::Wait;

@@ -8,11 +8,10 @@ use crate::cluster::Cluster;
 use crate::error::CallError;
 use crate::section::Section;
 use crate::stopping::stopped;
-use base_bytes::Text;
 use base_vectors::Id;
 use data_lattice::SpelledData;
 use member_keeper::Keeper;
-use member_node::{Input, Level, Node};
+use member_node::{Input, Node};
 use std::sync::Wait;
 use thread_cell::receipt::Receipt;
 use thread_cell::session::Session;
@@ -23,7 +22,11 @@ where
     T::Op: Drop,
 {
     /// The member of an identity makes a step for an input that takes no message.
-    fn call(
+    ///
+    /// # Errors
+    ///
+    /// No running member has the identity, there is no more room, or memory was refused. Then no entry was added.
+    pub fn ask(
         &self,
         rt: &impl Wait,
         session: &mut Session<Node<T, K>>,
@@ -43,132 +46,11 @@ where
         }
     }
 
-    /// The member of an identity is given an update.
-    ///
-    /// # Errors
-    ///
-    /// No running member has the identity, there is no more room, or memory was refused. Then no entry was added.
-    pub fn update(
-        &self,
-        rt: &impl Wait,
-        session: &mut Session<Node<T, K>>,
-        id: Id,
-        key: Text,
-        op: T::Op,
-        level: Level,
-    ) -> Result<Receipt<Node<T, K>>, CallError>
-        requires { session.old.seen.table ≡ N.table }
-        ensures table { session.new.seen.table ≡ N.table }
-        ensures call { IsCall ⟦<Node<T, K> as Machine>⟧ N.ids id (Input.Update key op level) session.old session.new result }
-        ensures no_view { result ≢ Err CallError.NoSuchView }
-    {
-        self.call(rt, session, id, Input::Update { key, op, level })
-    }
-
-    /// The member of an identity is given a get.
-    ///
-    /// # Errors
-    ///
-    /// As [`Cluster::update`].
-    pub fn get(
-        &self,
-        rt: &impl Wait,
-        session: &mut Session<Node<T, K>>,
-        id: Id,
-        key: Text,
-        level: Level,
-    ) -> Result<Receipt<Node<T, K>>, CallError>
-        requires { session.old.seen.table ≡ N.table }
-        ensures table { session.new.seen.table ≡ N.table }
-        ensures call { IsCall ⟦<Node<T, K> as Machine>⟧ N.ids id (Input.Get key level) session.old session.new result }
-        ensures no_view { result ≢ Err CallError.NoSuchView }
-    {
-        self.call(rt, session, id, Input::Get { key, level })
-    }
-
-    /// The member of an identity flushes.
-    ///
-    /// # Errors
-    ///
-    /// As [`Cluster::update`].
-    pub fn flush(
-        &self,
-        rt: &impl Wait,
-        session: &mut Session<Node<T, K>>,
-        id: Id,
-    ) -> Result<Receipt<Node<T, K>>, CallError>
-        requires { session.old.seen.table ≡ N.table }
-        ensures table { session.new.seen.table ≡ N.table }
-        ensures call { IsCall ⟦<Node<T, K> as Machine>⟧ N.ids id Input.Flush session.old session.new result }
-        ensures no_view { result ≢ Err CallError.NoSuchView }
-    {
-        self.call(rt, session, id, Input::Flush)
-    }
-
-    /// The member of an identity tells another one its digests.
-    ///
-    /// # Errors
-    ///
-    /// As [`Cluster::update`].
-    pub fn gossip(
-        &self,
-        rt: &impl Wait,
-        session: &mut Session<Node<T, K>>,
-        id: Id,
-        to: Id,
-    ) -> Result<Receipt<Node<T, K>>, CallError>
-        requires { session.old.seen.table ≡ N.table }
-        ensures table { session.new.seen.table ≡ N.table }
-        ensures call { IsCall ⟦<Node<T, K> as Machine>⟧ N.ids id (Input.GossipTo to) session.old session.new result }
-        ensures no_view { result ≢ Err CallError.NoSuchView }
-    {
-        self.call(rt, session, id, Input::GossipTo(to))
-    }
-
-    /// The member of an identity is given a tick of pruning.
-    ///
-    /// # Errors
-    ///
-    /// As [`Cluster::update`].
-    pub fn prune_tick(
-        &self,
-        rt: &impl Wait,
-        session: &mut Session<Node<T, K>>,
-        id: Id,
-    ) -> Result<Receipt<Node<T, K>>, CallError>
-        requires { session.old.seen.table ≡ N.table }
-        ensures table { session.new.seen.table ≡ N.table }
-        ensures call { IsCall ⟦<Node<T, K> as Machine>⟧ N.ids id Input.PruneTick session.old session.new result }
-        ensures no_view { result ≢ Err CallError.NoSuchView }
-    {
-        self.call(rt, session, id, Input::PruneTick)
-    }
-
-    /// The member of an identity closes the operation of a number.
-    ///
-    /// # Errors
-    ///
-    /// As [`Cluster::update`].
-    pub fn timeout(
-        &self,
-        rt: &impl Wait,
-        session: &mut Session<Node<T, K>>,
-        id: Id,
-        op: u64,
-    ) -> Result<Receipt<Node<T, K>>, CallError>
-        requires { session.old.seen.table ≡ N.table }
-        ensures table { session.new.seen.table ≡ N.table }
-        ensures call { IsCall ⟦<Node<T, K> as Machine>⟧ N.ids id (Input.Timeout op) session.old session.new result }
-        ensures no_view { result ≢ Err CallError.NoSuchView }
-    {
-        self.call(rt, session, id, Input::Timeout(op))
-    }
-
     /// The member of an identity is given the view of a number.
     ///
     /// # Errors
     ///
-    /// As [`Cluster::update`]; and there is no view of the number, which is answered only of a running member.
+    /// As [`Cluster::ask`]; and there is no view of the number, which is answered only of a running member.
     pub fn install(
         &self,
         rt: &impl Wait,
@@ -187,7 +69,7 @@ where
             return Err(CallError::NoSuchView);
         };
         match view.copy(self.alloc) {
-            Ok(view) => self.call(rt, session, id, Input::Install(view)),
+            Ok(view) => self.ask(rt, session, id, Input::Install(view)),
             Err(_) => Err(CallError::Memory),
         }
     }

@@ -1,5 +1,35 @@
 //! Members behind locks: calls from many threads, looks, and turns in which each member takes what the others sent it.
 //! The locks are of any machines that post messages to each other; `Cluster` has members of the replicator under them.
+//!
+//! # What is promised, and by which contract
+//!
+//! - A call at the member of an identity (any input that takes no message, or the view of a number)
+//!   that is answered: the session then knows, where the receipt says, an entry with this input,
+//!   the session's number, and the receipt's stamp and answer. It knew no such entry and had not
+//!   made this call; its calls grew by it alone. The entry is the member's step after the entries
+//!   before it, from the member that the table began with there. The stamp is above all that the
+//!   session had seen (`Cluster::{ask, install}` (`IsCall`, `IsInstall`, `IsReceipt`,
+//!   `IsAnswered`)).
+//! - Refused, the session's calls stay. `Gone` comes exactly where no member has the identity, and
+//!   `NoSuchView` from an install alone, exactly where a member has the identity and the list lacks
+//!   the number. `HistoryFull` comes only where the history there has 16,384 entries or the member
+//!   made as many steps, as the session then knows (the same calls, clauses `call`, `install`,
+//!   `no_view`).
+//! - A turn that is answered `n`: each message of one member to another that stands in a history
+//!   which the session knew before is taken by its receiver in what the session knows then, at the
+//!   same number and with a higher stamp; the session's calls grew by `n` takes, each of a message
+//!   of the member at some place. Refused, they grew by takes alone, and `HistoryFull` comes only
+//!   where some history is full or some member made all its steps (`Cluster::turn` (`HasTurnedAll`,
+//!   `HasBegun`, `IsTake`, `IsFullSomewhere`)).
+//! - A look tells how an operation stands at the member as it is after the history that the session
+//!   then knows there; calls stay. `Gone` as above (`Cluster::look` (`IsShownBy`, `Looks`)).
+//! - Whatever is answered, what the session knew at a place is the beginning of what it then knows
+//!   there (the same calls (`GoesOn`, `Sees`)).
+//! - **Always so under a lock**: what a member took of each other one are, by number, the messages
+//!   that the other posted to it, each with a higher stamp. So it is of the cells that a cluster
+//!   leaves (`Locked::into_cell`, `Cluster::into_cells` (`Hears`, `AllHear`)).
+//! - All of this for any machine that posts and takes messages; a message is copied as it is
+//!   (`Member`, `Cluster::{call_at, look_at, turn_all}`, `Member::copy_posted`).
 #![tactic(auto)]
 
 mod any_site;

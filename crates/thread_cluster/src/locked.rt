@@ -1,7 +1,7 @@
 use crate::member::Member;
 use crate::peer::Peer;
 use crate::section::Section;
-use base_vectors::Memory;
+use base_bytes::Memory;
 use std::marker::Model;
 use thread_cell::cell::{Cell, CellError};
 use thread_cell::receipt::Receipt;

@@ -1,6 +1,7 @@
 ghost use Rattle.std.specs.Prelude.{◌≡◌, ℕ, ◌-◌, ◌==◌, if◌then◌else◌, List, [], ◌∷◌, ◌++◌, length, drop, IfOk, OnOk};
 
-use base_vectors::{Id, Memory};
+use base_bytes::Memory;
+use base_vectors::Id;
 use std::alloc::Global;
 use std::collections::VecDeque;
 use thread_machine::machine::Machine;

@@ -2,7 +2,8 @@ ghost use Rattle.std.specs.Prelude.{◌≡◌, ◌-◌, ◌++◌, ◌∷◌, [],
 ghost use Rattle.thread_cluster.specs.Messages.{messages_to};
 
 use crate::member::Member;
-use base_vectors::{Id, Memory};
+use base_bytes::Memory;
+use base_vectors::Id;
 use data_lattice::{Replica, SpelledData};
 use member_keeper::Keeper;
 use member_node::{Input, Look, Message, Node, Output, Post};

@@ -62,7 +62,7 @@ use Rattle.world_members.proofs.Entering.{with_member, changes_with, links_with,
 use Rattle.world_members.proofs.Seats.{item-set_same, item-set_other}
 use Rattle.world_members.proofs.Linking.{link_message}
 use Rattle.world_members.proofs.Onward.{means_same, way_logs, throughout_earlier, throughout_same, safe_now}
-use Rattle.world_members.proofs.Lists.{IsPair, both, neither}
+use Rattle.world_members.proofs.Lists.{pair_both}
 use Rattle.thread_run_order.specs.Orders.{AtPlace, entries_of, AreSorted}
 use Rattle.thread_run_order.specs.Images.{EntryOf, IsMeantBy, IsImage, AreImages}
 use Rattle.thread_run_order.specs.Section.{takes_of, IsGiven}
@@ -104,10 +104,6 @@ module _ {T Kind Delta : Type 0} {ghosts : Ghosts T Kind Op Delta} (kinds : Text
   stands_meant (form.GossipTo to) taken given e = e
   stands_meant form.PruneTick taken given e = e
   stands_meant (form.Timeout op) taken given e = e
-
-both_there : {A B : Type 0} (R : A → B → Type 0) (a : Option A) (b : Option B) (x : A) (y : B) → IsPair R a b → a ≡ Some x → b ≡ Some y → R x y
-both_there R _ _ x y (both {x = a} {y = b} r) e f = subst (R x) (cc f) (subst (λ z. R z b) (cc e) r)
-both_there R _ _ x y neither e f = absurd (cc e)
 
 -- what an input of a section is
 pub data Kind-of {T Kind Delta : Type 0} {ghosts : Ghosts T Kind Op Delta} (view : View) (views : List View) (input : Input T Kind Op Delta ghosts) : Type 0 where
@@ -613,7 +609,7 @@ module _ {T K Kind Delta : Type 0} {ghosts : Ghosts T Kind Op Delta} {keeping : 
       -- in logs of the way so far the message stands for the model's
       told_stands : (logs : Text → History Op) → Throughout D logs members decls p → StandsForMessage ghosts.kind_of ghosts.IsDataOf kinds logs message told
       told_stands logs through =
-          both_there (StandsForMessage ghosts.kind_of ghosts.IsDataOf kinds logs) (message_on (channel_at w.links from i) index) (slice_get (p.world.links from i).messages index) message told
+          pair_both (StandsForMessage ghosts.kind_of ghosts.IsDataOf kinds logs) (message_on (channel_at w.links from i) index) (slice_get (p.world.links from i).messages index) message told
           (link_message kinds logs (channel_at w.links from i) (p.world.links from i) index ((g.means.stands logs through).links from i small few)) on_way.there (on_way.meant_there ∙ ap Some told_first)
 
       entered_take : IsEntered spelling kinds members decls p (new taking) i x.entry.fate x.entry.output (Taken.Take from told) (Delivery from i index (meant_fate x.entry.fate)) (moved_on p.world.links from i index)

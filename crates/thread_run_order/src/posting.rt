@@ -4,7 +4,8 @@ ghost use Rattle.thread_cell.specs.Entries.{history_at};
 ghost use Rattle.world_members.specs.Sending.{Sends};
 ghost use Rattle.thread_run_order.specs.Finishing.{IsSent, AreSentByAll};
 
-use base_vectors::{Id, Memory};
+use base_bytes::Memory;
+use base_vectors::Id;
 use data_lattice::SpelledData;
 use member_keeper::Keeper;
 use member_node::{Message, Node, Output, Post};

@@ -1,8 +1,9 @@
 -- One command of a client, in the model.
 --     line_meant        its line
+--     input_meant        what it gives
 --     HasStep        what it did, by what the client knew
 --     has_step        it comes of what the client did
-use Rattle.std.proofs.Common.{◌≡◌, ◌⊎◌, ℕ, zero, suc, ◌<◌, ◌≤◌, List, [], ◌∷◌, length, refl, ap, subst, ◌∙◌, arith, true, Option, Some, None}
+use Rattle.std.proofs.Common.{◌≡◌, ◌⊎◌, ℕ, zero, suc, ◌<◌, ◌≤◌, List, [], ◌∷◌, length, refl, sym, ap, ◌∙◌, arith, true, Option, Some, None}
 use Rattle.std.specs.Prelude.{take, slice_get, find, option_map, IsTrue, ◌==◌, if◌then◌else◌}
 use Rattle.std.proofs.lemmas.Bool.Decides.{Decides-eqb}
 use Rattle.model_history.proofs.PruneLaws.{found}
@@ -12,10 +13,9 @@ use Rattle.model_members.specs.Message.{Post}
 use Rattle.model_members.specs.Node as nodes
 use Rattle.model_members.specs.Script as script
 use Rattle.model_members.specs.World as worlds
-use Rattle.theorem_sections.specs.Sections as sections
 use Rattle.theorem_sections.specs.Sections.{node_full, finished_at, is_open, pending_op, ending_by, ending_of, Ending, Line}
 use Rattle.theorem_sections.specs.Histories as model
-use Rattle.theorem_sections.specs.Paths.{IsInputOf, head_of, LacksView}
+use Rattle.theorem_sections.specs.Paths.{head_of}
 use Rattle.theorem_sections.specs.Knowing.{member_after}
 use Rattle.model_kinds.specs.declared.operation.Op.{Op}
 use Rattle.model_kinds.specs.declared.shown.Shown.{Shown}
@@ -28,6 +28,7 @@ use Rattle.thread_cell.specs.declared.receipt.Receipt.{Receipt}
 use Rattle.thread_cell.specs.Lists.{at}
 use Rattle.thread_cell.specs.Values.{ClientParts}
 use Rattle.member_node.specs.declared.input.Input.{Input}
+use Rattle.member_node.specs.declared.input.Input.TheVariants as form
 use Rattle.member_node.specs.declared.node.Node.{Node}
 use Rattle.member_node.specs.declared.operation.Look.{Look}
 use Rattle.member_node.specs.declared.operation.Look.TheVariants as look
@@ -37,25 +38,26 @@ use Rattle.member_node.specs.declared.reply.Reply.{Reply}
 use Rattle.member_node.specs.declared.reply.Reply.TheVariants as reply
 use Rattle.member_node.specs.declared.reply.StepError.{StepError}
 use Rattle.member_messages.specs.declared.message.Post as code
-use Rattle.member_quorum.specs.Levels.{level_meant}
 use Rattle.member_node.specs.declared.operation.OperationResult.{OperationResult}
 use Rattle.member_node.specs.Counting.{LooksAt}
 use Rattle.member_node.specs.Operations.{result_meant, finished_meant, result_at}
 use Rattle.member_node.specs.Replies.{meant}
 use Rattle.member_node.specs.Steps.{replication}
+use Rattle.script_reading.specs.declared.ask.Ask.{Ask}
+use Rattle.script_reading.specs.declared.ask.Ask.TheVariants as asks
 use Rattle.script_reading.specs.declared.clients.Command.{Command}
-use Rattle.script_reading.specs.declared.clients.Command.TheVariants as command
+use Rattle.script_reading.specs.Meant.{ask_of}
 use Rattle.world_members.specs.declared.client_line.Ended.{Ended}
 use Rattle.world_members.specs.declared.event.Answer.{Answer}
 use Rattle.world_members.specs.declared.event.Answer.TheVariants as answer
 use Rattle.world_members.specs.ClientLines.{ending_meant}
-use Rattle.world_members.specs.Lines.{IsHead}
 use Rattle.world_members.specs.Threads.{command_of}
+use Rattle.world_members.proofs.Lists.{IsPair, both, neither, pair_both, pair_some}
+use Rattle.world_members.specs.Asking.{input_of}
 use Rattle.thread_cluster.specs.Knowing.{IsReceipt}
 use Rattle.thread_cluster.proofs.Lists.{get_within}
 use Rattle.thread_run_order.specs.Images.{EntryOf, IsMeantBy, IsImage}
 use Rattle.thread_clients.specs.Answers.{IsQuiet, Settles}
-use Rattle.thread_clients.specs.Commands as given
 use Rattle.thread_clients.specs.Endings.{Ends}
 use Rattle.thread_clients.specs.Turns.{IsHeardOrFull}
 use Rattle.thread_section.proofs.Counts.{image_at}
@@ -74,21 +76,31 @@ answer_meant _ = script.Answer.Gone
 abbrev pub line_meant : ℕ → Command → Answer → List (Post Op) → Option Ended → Line Op Shown
 line_meant client c told posts end = record { client = Some client; head = head_of (command_of c); answer = answer_meant told; posts = posts; ended = option_map ending_meant end }
 
-pub head_is : (c : Command) → IsHead {Op = Op} (given.head_of c) (head_of (command_of c))
-head_is (command.Update i key op level) = refl
-head_is (command.Get i key level) = refl
-head_is (command.Flush i) = refl
-head_is (command.Gossip i to) = refl
-head_is (command.Tick i) = refl
-head_is (command.Install i view) = refl
+-- WHAT A COMMAND GIVES
 
-pub member_is : (c : Command) → sections.member_of (command_of c) ≡ given.member_of c
-member_is (command.Update i key op level) = refl
-member_is (command.Get i key level) = refl
-member_is (command.Flush i) = refl
-member_is (command.Gossip i to) = refl
-member_is (command.Tick i) = refl
-member_is (command.Install i view) = refl
+module _ {T Kind Delta : Type 0} {ghosts : Ghosts T Kind Op Delta} (views : List View) where
+  -- an input stands for this one alone
+  abbrev Stands : Input T Kind Op Delta ghosts → nodes.Input Op → Type 0
+  Stands input sent = (other : nodes.Input Op) → IsMeantBy input other → other ≡ sent
+
+  alike : (ask : Ask) → IsPair Stands (input_of views ask) (script.input_of views (ask_of ask))
+  alike (asks.Update key op level) = both (λ other means. means)
+  alike (asks.Get key level) = both (λ other means. means)
+  alike asks.Flush = both (λ other means. means)
+  alike (asks.Gossip to) = both (λ other means. means)
+  alike asks.Tick = both (λ other means. means)
+  alike (asks.Install number) = by (slice_get views number)
+    where
+      by : (o : Option View) → IsPair Stands (option_map form.Install o) (option_map nodes.Input.Install o)
+      by None = neither
+      by (Some view) = both (λ other means. means)
+
+  pub input_meant : (ask : Ask) (input : Input T Kind Op Delta ghosts) (sent : nodes.Input Op) → input_of views ask ≡ Some input → IsMeantBy input sent → script.input_of views (ask_of ask) ≡ Some sent
+  input_meant ask input sent is means =
+      let a = input_of views ask in
+      let b = script.input_of views (ask_of ask) in
+      let there = pair_some Stands a b input (alike ask) is in
+      there.1 ∙ ap Some (sym (pair_both Stands a b input there.0 (alike ask) is there.1 sent means))
 
 -- WHAT FOLLOWS AN ANSWER
 
@@ -96,7 +108,7 @@ module _ {T K Kind Delta : Type 0} {ghosts : Ghosts T Kind Op Delta} {keeping : 
     (c : Command) (posts : List (code.Post T Kind Op Delta ghosts)) (old new : ClientParts (Node T K Kind Op Delta ghosts keeping) (Input T Kind Op Delta ghosts) Fate (Output T Kind Op Delta ghosts) StepError) (told : Option Ended) where
   -- it waits, or it does not
   pub data Follows (r : Reply) : Type 0 where
-    waits : (op : ℕ) → r ≡ reply.Pending op → (end : Ended) → told ≡ Some end → Ends meaning ids (given.member_of c) op old new end → Follows r
+    waits : (op : ℕ) → r ≡ reply.Pending op → (end : Ended) → told ≡ Some end → Ends meaning ids c.at op old new end → Follows r
     goes_on : pending_op (script.Answer.Replied (meant r)) ≡ None → told ≡ None → IsQuiet meaning ids c posts old new ⊎ IsHeardOrFull meaning ids old new → Follows r
 
   pub follows : (r : Reply) → Settles meaning ids c r posts old new told → Follows r
@@ -185,33 +197,6 @@ module _ {T K Kind Delta : Type 0} {ghosts : Ghosts T Kind Op Delta} {keeping : 
         is_new = (let b = none_within (at old.seen.known p) receipt.index a.is_new in let c = ap (λ q. length (at old.seen.known q)) (settled.ground.seats p i made.here) in omega (arith, b, c));
         known = early;
       }
-
-  -- WHAT A COMMAND GIVES
-
-  pub input_of : (c : Command) (input : Input T Kind Op Delta ghosts) (sent : nodes.Input Op) → given.IsGiven views c input → IsMeantBy input sent → IsInputOf views (command_of c) sent
-  input_of (command.Update i key op level) input sent is means = subst (λ (x : Input T Kind Op Delta ghosts). IsMeantBy x sent) is means
-  input_of (command.Get i key level) input sent is means = subst (λ (x : Input T Kind Op Delta ghosts). IsMeantBy x sent) is means
-  input_of (command.Flush i) input sent is means = subst (λ (x : Input T Kind Op Delta ghosts). IsMeantBy x sent) is means
-  input_of (command.Gossip i to) input sent is means = subst (λ (x : Input T Kind Op Delta ghosts). IsMeantBy x sent) is means
-  input_of (command.Tick i) input sent is means = subst (λ (x : Input T Kind Op Delta ghosts). IsMeantBy x sent) is means
-  input_of (command.Install i number) input sent is means = (is.0, is.1, subst (λ (x : Input T Kind Op Delta ghosts). IsMeantBy x sent) is.2 means)
-
-  -- something is given for it
-  pub some_input : (c : Command) (input : Input T Kind Op Delta ghosts) → given.IsGiven views c input → (sent : nodes.Input Op) × IsInputOf views (command_of c) sent
-  some_input (command.Update i key op level) input is = (nodes.Input.Update key op (level_meant level), refl)
-  some_input (command.Get i key level) input is = (nodes.Input.Get key (level_meant level), refl)
-  some_input (command.Flush i) input is = (nodes.Input.Flush, refl)
-  some_input (command.Gossip i to) input is = (nodes.Input.GossipTo to, refl)
-  some_input (command.Tick i) input is = (nodes.Input.PruneTick, refl)
-  some_input (command.Install i number) input is = (nodes.Input.Install is.0, (is.0, is.1, refl))
-
-  pub lacks_view : (c : Command) → given.LacksView views c → LacksView views (command_of c)
-  lacks_view (command.Update i key op level) none = absurd none
-  lacks_view (command.Get i key level) none = absurd none
-  lacks_view (command.Flush i) none = absurd none
-  lacks_view (command.Gossip i to) none = absurd none
-  lacks_view (command.Tick i) none = absurd none
-  lacks_view (command.Install i number) none = none
 
   -- HOW AN OPERATION STANDS
 

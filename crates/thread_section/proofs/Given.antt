@@ -1,8 +1,8 @@
 -- What clients gave their members is what a section gives: messages of members, and views of the list.
 --     GivenAt        the entry of a call is given so
 --     path_given        each call that came on a path is
-use Rattle.std.proofs.Common.{◌≡◌, ◌⊎◌, inl, inr, ⊎_elim, ℕ, zero, suc, List, [], ◌∷◌, refl, sym, ap, subst, ◌∙◌, Option, Some}
-use Rattle.std.specs.Prelude.{slice_get, if◌then◌else◌}
+use Rattle.std.proofs.Common.{◌≡◌, ◌⊎◌, inl, inr, ⊎_elim, ℕ, zero, suc, List, [], ◌∷◌, refl, sym, ap, subst, ◌∙◌, Option, Some, None}
+use Rattle.std.specs.Prelude.{slice_get, option_map, if◌then◌else◌}
 use Rattle.std.proofs.lemmas.Bool.Decides.{eqb_tells}
 use mathlib.Core.List.{IsPrefix}
 use Rattle.model_history.proofs.PruneLaws.{IsIn, in_append}
@@ -23,20 +23,21 @@ use Rattle.member_node.specs.declared.reply.Fate.{Fate}
 use Rattle.member_node.specs.declared.reply.Output.{Output}
 use Rattle.member_node.specs.declared.reply.Reply.{Reply}
 use Rattle.member_node.specs.declared.reply.StepError.{StepError}
+use Rattle.script_reading.specs.declared.ask.Ask.{Ask}
+use Rattle.script_reading.specs.declared.ask.Ask.TheVariants as asks
 use Rattle.script_reading.specs.declared.clients.Command.{Command}
-use Rattle.script_reading.specs.declared.clients.Command.TheVariants as command
 use Rattle.world_members.specs.declared.client_line.ClientLine.{ClientLine}
 use Rattle.world_members.specs.declared.client_line.Ended.{Ended}
 use Rattle.world_members.specs.declared.event.Answer.{Answer}
 use Rattle.world_members.specs.declared.event.Answer.TheVariants as answer
 use Rattle.world_members.specs.Places.{identity_at}
+use Rattle.world_members.specs.Asking.{input_of}
 use Rattle.thread_cluster.specs.Messages.{messages_of}
 use Rattle.thread_cluster.specs.Knowing.{GoesOn, Sees, Turns, IsReceipt}
 use Rattle.thread_cluster.proofs.Growing.{goes_on_self, goes_on_trans}
 use Rattle.thread_run_order.specs.Images.{EntryOf}
 use Rattle.thread_run_order.specs.Section.{IsGiven}
 use Rattle.thread_clients.specs.Answers.{IsReplied, IsUnmade, IsAnsweredBy, HasMade}
-use Rattle.thread_clients.specs.Commands as given
 use Rattle.thread_clients.specs.Endings.{IsGivenUp, Ends}
 use Rattle.thread_clients.specs.Paths.{IsPath}
 use Rattle.thread_clients.specs.Turns.{HasHeard, WasFull, IsHeardOrFull, HasHeardAnswers, MayGiveUp}
@@ -59,14 +60,18 @@ module _ {T Kind Delta : Type 0} {ghosts : Ghosts T Kind Op Delta} (view : View)
   taken_given from form.PruneTick message e place here = absurd (cc e)
   taken_given from (form.Timeout op) message e place here = absurd (cc e)
 
-  -- what a command gives
-  command_given : (c : Command) (input : Input T Kind Op Delta ghosts) → given.IsGiven views c input → IsGiven view views input
-  command_given (command.Update at key op level) input is = subst (IsGiven view views) (sym is) tt
-  command_given (command.Get at key level) input is = subst (IsGiven view views) (sym is) tt
-  command_given (command.Flush at) input is = subst (IsGiven view views) (sym is) tt
-  command_given (command.Gossip at to) input is = subst (IsGiven view views) (sym is) tt
-  command_given (command.Tick at) input is = subst (IsGiven view views) (sym is) tt
-  command_given (command.Install at number) input is = subst (IsGiven view views) (sym is.2) (number, is.1)
+  -- what a question gives
+  command_given : (ask : Ask) (input : Input T Kind Op Delta ghosts) → input_of views ask ≡ Some input → IsGiven view views input
+  command_given (asks.Update key op level) input is = subst (IsGiven view views) {x = form.Update key op level} (cc is) tt
+  command_given (asks.Get key level) input is = subst (IsGiven view views) {x = form.Get key level} (cc is) tt
+  command_given asks.Flush input is = subst (IsGiven view views) {x = form.Flush} (cc is) tt
+  command_given (asks.Gossip to) input is = subst (IsGiven view views) {x = form.GossipTo to} (cc is) tt
+  command_given asks.Tick input is = subst (IsGiven view views) {x = form.PruneTick} (cc is) tt
+  command_given (asks.Install number) input is = by (slice_get views number) refl is
+    where
+      by : (found : Option View) → slice_get views number ≡ found → option_map form.Install found ≡ Some input → IsGiven view views input
+      by None listed e = absurd (cc e)
+      by (Some other) listed e = subst (IsGiven view views) {x = form.Install other} (cc e) (number, listed)
 
 module _ {T K Kind Delta : Type 0} {ghosts : Ghosts T Kind Op Delta} {keeping : Keeping K} (meaning : Machine (Node T K Kind Op Delta ghosts keeping) (Input T Kind Op Delta ghosts) Fate (Output T Kind Op Delta ghosts) StepError) (ids : ℕ → Option ℕ)
     (h : ℕ → List (EntryOf ghosts keeping)) (view : View) (views : List View) (ids_are : (place : ℕ) → ids place ≡ identity_at view place) where
@@ -153,13 +158,13 @@ module _ {T K Kind Delta : Type 0} {ghosts : Ghosts T Kind Op Delta} {keeping : 
   ends_going i op a b end (Ends.given_up before may up) = going_then a before b (may_going i op a before may) (given_up_going i op before b end up)
 
   follows_going : (c : Command) (posts : List (Post T Kind Op Delta ghosts)) (a b : Session) (told : Option Ended) (r : Reply) → Follows meaning ids c posts a b told r → Going a b
-  follows_going c posts a b told r (Follows.waits op pends end is ends) = ends_going (given.member_of c) op a b end ends
+  follows_going c posts a b told r (Follows.waits op pends end is ends) = ends_going c.at op a b end ends
   follows_going c posts a b told r (Follows.goes_on none no_end (inl quiet)) = going_self a b quiet.same
   follows_going c posts a b told r (Follows.goes_on none no_end (inr waits)) = waits_going a b waits
 
   replied_going : (c : Command) (a b : Session) (line : ClientLine) (told : Reply) → IsReplied meaning ids views c a b line told → Going a b
   replied_going c a b line told r =
-      going_then a r.made b (receipt_going (given.member_of c) r.is_made.given a r.made r.receipt r.is_made.called (command_given view views c r.is_made.given r.is_made.is_given))
+      going_then a r.made b (receipt_going c.at r.is_made.given a r.made r.receipt r.is_made.called (command_given view views c.ask r.is_made.given r.is_made.is_given))
       (follows_going c r.receipt.output.posts r.made b line.ended r.receipt.output.reply (follows meaning ids c r.receipt.output.posts r.made b line.ended r.receipt.output.reply r.settles))
 
   unmade_going : (c : Command) (a b : Session) (line : ClientLine) (cause : Type 0) → IsUnmade {data_of = ghosts} meaning ids views c a b line cause → Going a b

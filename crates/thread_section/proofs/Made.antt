@@ -10,7 +10,6 @@ use Rattle.model_members.specs.Message.{Post}
 use Rattle.model_members.specs.Node as nodes
 use Rattle.model_members.specs.Script as script
 use Rattle.model_members.specs.World as worlds
-use Rattle.theorem_sections.specs.Sections as sections
 use Rattle.theorem_sections.specs.Sections.{pending_op, ending_of}
 use Rattle.theorem_sections.specs.Histories as model
 use Rattle.theorem_sections.specs.Paths.{IsInputOf, head_of, LacksView}
@@ -41,20 +40,19 @@ use Rattle.world_members.specs.ClientLines.{ending_meant, IsClientLine}
 use Rattle.world_members.specs.Lines.{IsHead, IsAnswer, sketched_post}
 use Rattle.world_members.specs.Sending.{told_of}
 use Rattle.world_members.specs.Threads.{command_of}
-use Rattle.thread_cluster.specs.Knowing.{GoesOn, IsNowhere, IsReceipt}
-use Rattle.thread_cluster.specs.Refusals.{IsFullAt}
+use Rattle.world_members.proofs.Asking.{asked_some, asked_none}
+use Rattle.thread_cluster.specs.Knowing.{GoesOn, IsNowhere}
 use Rattle.thread_cluster.proofs.Growing.{goes_on_trans, goes_on_self}
 use Rattle.thread_run_order.specs.Images.{EntryOf}
 use Rattle.thread_clients.specs.Answers.{IsQuiet, IsReplied, IsUnmade, IsAnsweredBy, HasMade}
 use Rattle.thread_clients.specs.Calls.{HasNoRoom, IsViewless}
-use Rattle.thread_clients.specs.Commands as given
 use Rattle.thread_clients.specs.Endings.{Ends}
 use Rattle.thread_clients.specs.Turns.{IsHeardOrFull}
 use Rattle.thread_section.proofs.Sights.{knows_by}
 use Rattle.thread_section.proofs.Sessions.{IsSettled, is_of_before, more_known, full_at}
 use Rattle.thread_section.proofs.Hearing.{known, Of, waits_goes, heard_or_full}
 use Rattle.thread_section.proofs.Lasting.{AreBelow}
-use Rattle.thread_section.proofs.Commands.{line_meant, answer_meant, head_is, member_is, Follows, follows, HasEntry, has_entry, input_of, some_input, lacks_view}
+use Rattle.thread_section.proofs.Commands.{line_meant, answer_meant, Follows, follows, HasEntry, has_entry, input_meant}
 use Rattle.thread_section.proofs.Accounts.{TakenAt, Adds, IsCallOf, adds_more, adds_weaker, adds_none, receipt_adds, waits_add}
 use Rattle.thread_section.proofs.Steps.{begins_before as before_by, Adding, EndCall, Waits, step_made, by_end, ends_goes}
 
@@ -97,19 +95,19 @@ module _ {T K Kind Delta : Type 0} {ghosts : Ghosts T Kind Op Delta} {keeping : 
     pub since : k.step.since ≡ old.seen.stamp
     pub upto : k.step.upto ≡ new.seen.stamp
     pub goes : GoesOn old new
-    pub calls : Adding spelling meaning world ids opening h histories settled client views views_are below runs_in none_runs (StepCall (sections.member_of (command_of c)) k) old new
+    pub calls : Adding spelling meaning world ids opening h histories settled client views views_are below runs_in none_runs (StepCall c.at k) old new
     pub step : IsKnownStepOf D world histories client (command_of c) k
 
   module _ (c : Command) (old new : Session) (line : ClientLine) (ours : IsOurs new) (made : HasMade meaning ids views c old new line client) where
     abbrev j : ℕ
-    j = sections.member_of (command_of c)
+    j = c.at
 
     -- a line with this answer, these posts and this end
     is_line : (told : Answer) (posts : List (Post Op)) → line.answer ≡ told → IsAnswer told (answer_meant told) → line.sent ≡ map sketched_post posts → IsClientLine line (line_meant client c told posts line.ended)
     is_line told posts is answers sent =
         record {
           client = ap Some (sym made.client_is);
-          head = subst (λ head. IsHead head (head_of (command_of c))) (sym made.head_is) (head_is c);
+          head = subst (λ head. IsHead head (head_of (command_of c))) (sym made.head_is) refl;
           answer = subst (λ a. IsAnswer a (answer_meant told)) (sym is) answers;
           sent = sent;
           ended = refl;
@@ -121,11 +119,8 @@ module _ {T K Kind Delta : Type 0} {ghosts : Ghosts T Kind Op Delta} {keeping : 
     -- A COMMAND THAT WAS ANSWERED
 
     module _ (told : Reply) (is : line.answer ≡ answer.Reply told) (r : IsReplied meaning ids views c old new line told) where
-      called_at : IsReceipt meaning ids j r.is_made.given old r.made r.receipt
-      called_at = subst (λ i. IsReceipt meaning ids i r.is_made.given old r.made r.receipt) (sym (member_is c)) r.is_made.called
-
       goes_first : GoesOn old r.made
-      goes_first = called_at.answered.goes_on
+      goes_first = r.is_made.called.answered.goes_on
 
       ours_made : (goes : GoesOn r.made new) → IsOurs r.made
       ours_made goes = is_of_before spelling meaning world ids opening h histories settled client r.made new goes ours
@@ -134,7 +129,7 @@ module _ {T K Kind Delta : Type 0} {ghosts : Ghosts T Kind Op Delta} {keeping : 
       Entered = HasEntry spelling meaning world ids opening h histories settled client views views_are j r.is_made.given old r.made r.receipt.output r.receipt.index
 
       entered : GoesOn r.made new → Entered
-      entered goes = has_entry spelling meaning world ids opening h histories settled client views views_are j r.is_made.given old r.made r.receipt (ours_made goes) called_at
+      entered goes = has_entry spelling meaning world ids opening h histories settled client views views_are j r.is_made.given old r.made r.receipt (ours_made goes) r.is_made.called
 
       -- the step, once it is known what followed
       module _ (goes : GoesOn r.made new) (timeout : Option ℕ) where
@@ -153,7 +148,7 @@ module _ {T K Kind Delta : Type 0} {ghosts : Ghosts T Kind Op Delta} {keeping : 
         input_is : IsInputOf (worlds.views_of world) (command_of c) en.image.input
         input_is =
             subst (λ vs. IsInputOf vs (command_of c) en.image.input) (sym views_are)
-            (input_of spelling meaning world ids opening h histories settled client views views_are c en.entry.input en.image.input (subst (λ (x : Input T Kind Op Delta ghosts). given.IsGiven views c x) (sym en.input_is) r.is_made.is_given) en.is_image.input)
+            (input_meant views c.ask en.entry.input en.image.input (r.is_made.is_given ∙ ap Some (sym en.input_is)) en.is_image.input)
 
         known_now : r.receipt.index < known_in new j
         known_now = let a = more_known spelling meaning world ids opening h histories settled r.made new goes j in let b = en.known in omega (arith, a, b)
@@ -169,7 +164,7 @@ module _ {T K Kind Delta : Type 0} {ghosts : Ghosts T Kind Op Delta} {keeping : 
               since = refl;
               upto = refl;
               goes = goes_on_trans old r.made new goes_first goes;
-              calls = adds_more meaning ids h (IsCallOf meaning ids h j r.receipt.index) (StepCall j k_of) old r.made new (λ call at. inr (at.0, inl (ap Some (sym at.1)))) (receipt_adds meaning ids h j r.is_made.given old r.made r.receipt called_at)
+              calls = adds_more meaning ids h (IsCallOf meaning ids h j r.receipt.index) (StepCall j k_of) old r.made new (λ call at. inr (at.0, inl (ap Some (sym at.1)))) (receipt_adds meaning ids h j r.is_made.given old r.made r.receipt r.is_made.called)
                   (adds_weaker meaning ids h (Ending' j timeout) (StepCall j k_of) r.made new (λ call e. ⊎_elim (λ (t : Taken call). inl t) (λ (x : (ids call.0 ≡ Some j) × (timeout ≡ Some call.1)). inr (x.0, inr x.1)) e) calls);
               step = record {
                 told = (refl, refl);
@@ -244,7 +239,7 @@ module _ {T K Kind Delta : Type 0} {ghosts : Ghosts T Kind Op Delta} {keeping : 
       replied_step = by (follows meaning ids c r.receipt.output.posts r.made new line.ended r.receipt.output.reply r.settles)
         where
           by : Follows meaning ids c r.receipt.output.posts r.made new line.ended r.receipt.output.reply → HasStep c old new line
-          by (Follows.waits op is_pending end ended_is ends) = waits_for op is_pending end ended_is (subst (λ i. Ends meaning ids i op r.made new end) (sym (member_is c)) ends)
+          by (Follows.waits op is_pending end ended_is ends) = waits_for op is_pending end ended_is ends
           by (Follows.goes_on none no_end how) = goes_quietly (ap (λ t. pending_op (script.Answer.Replied (meant t))) (sym r.replied) ∙ none) no_end how
 
     -- A COMMAND THAT MADE NO STEP
@@ -274,36 +269,36 @@ module _ {T K Kind Delta : Type 0} {ghosts : Ghosts T Kind Op Delta} {keeping : 
         }
 
     -- no member has the identity
-    nowhere : IsNowhere ids (given.member_of c) → world.nodes j ≡ None
+    nowhere : IsNowhere ids c.at → world.nodes j ≡ None
     nowhere gone = by (is_member world.view j) refl
       where
         by : (b : Bool) → is_member world.view j ≡ b → world.nodes j ≡ None
-        by true is = absurd (gone.nowhere (place_of world.view j) (settled.ground.seated j is ∙ ap Some (member_is c)))
+        by true is = absurd (gone.nowhere (place_of world.view j) (settled.ground.seated j is))
         by false is = none_runs j is
 
     -- one has
-    somewhere : (IsNowhere ids (given.member_of c) → ⊥) → is_some (world.nodes j) ≡ true
+    somewhere : (IsNowhere ids c.at → ⊥) → is_some (world.nodes j) ≡ true
     somewhere runs = by (is_member world.view j) refl
       where
         by : (b : Bool) → is_member world.view j ≡ b → is_some (world.nodes j) ≡ true
         by true is = runs_in j is
-        by false is = absurd (runs (record { nowhere = λ p here. absurd (true≢false (sym (settled.ground.members p j (here ∙ ap Some (sym (member_is c)))) ∙ is)) }))
+        by false is = absurd (runs (record { nowhere = λ p here. absurd (true≢false (sym (settled.ground.members p j here) ∙ is)) }))
 
     pub has_step : HasStep c old new line
     has_step = by line.answer refl made.answered
       where
         by : (told : Answer) → line.answer ≡ told → IsAnsweredBy meaning ids views c old new line told → HasStep c old new line
         by (answer.Reply told) is r = replied_step told is r
-        by answer.Gone is u = unmade answer.Gone is refl refl (IsNowhere ids (given.member_of c)) u (refl, refl, nowhere u.why)
+        by answer.Gone is u = unmade answer.Gone is refl refl (IsNowhere ids c.at) u (refl, refl, nowhere u.why)
         by answer.NoSuchView is u =
             unmade answer.NoSuchView is refl refl (IsViewless meaning ids views c old new) u
-            (refl, refl, somewhere u.why.runs, subst (λ vs. LacksView vs (command_of c)) (sym views_are) (lacks_view spelling meaning world ids opening h histories settled client views views_are c u.why.lacks))
+            (refl, refl, somewhere u.why.runs, subst (λ vs. LacksView vs (command_of c)) (sym views_are) (asked_none {ghosts = ghosts} views c.ask u.why.lacks))
         by answer.HistoryFull is u =
             unmade answer.HistoryFull is refl refl (HasNoRoom meaning ids views c old new) u (
               refl,
               refl,
-              subst (λ vs. (input : nodes.Input Op) × IsInputOf vs (command_of c) input) (sym views_are) (some_input spelling meaning world ids opening h histories settled client views views_are c u.why.given u.why.is_given),
-              full_at spelling meaning world ids opening h histories settled client j new ours (subst (λ i. IsFullAt meaning ids i new) (sym (member_is c)) u.why.full),
+              subst (λ vs. (input : nodes.Input Op) × IsInputOf vs (command_of c) input) (sym views_are) (let sent = asked_some views c.ask u.why.given u.why.is_given in (sent.0, sent.1)),
+              full_at spelling meaning world ids opening h histories settled client j new ours u.why.full,
             )
         by answer.NoSuchMessage is u = absurd u
         by answer.Lost is u = absurd u

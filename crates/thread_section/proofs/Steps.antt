@@ -6,7 +6,6 @@ use Rattle.model_members.specs.View.{View, is_member}
 use Rattle.model_members.specs.DataType.{Replication}
 use Rattle.model_members.specs.Node as nodes
 use Rattle.model_members.specs.World as worlds
-use Rattle.theorem_sections.specs.Sections as sections
 use Rattle.theorem_sections.specs.Sections.{node_full, finished_at, is_open, pending_op, ending_of, Ending, Line}
 use Rattle.theorem_sections.specs.Histories as model
 use Rattle.theorem_sections.specs.Knowing.{KnownStep, member_after, IsKnownBy, KnowsFull, KnowsHeard, KnowsAnswered, KnowsEnded, IsUnfinished, KnowsGivenUp, TimesOutKnown, EndsByTimeout}
@@ -40,7 +39,6 @@ use Rattle.world_members.specs.declared.client_line.Ended.{Ended}
 use Rattle.world_members.specs.declared.client_line.Ended.TheVariants as ended
 use Rattle.world_members.specs.declared.event.Answer.TheVariants as answer
 use Rattle.world_members.specs.ClientLines.{ending_meant}
-use Rattle.world_members.specs.Threads.{command_of}
 use Rattle.thread_cluster.specs.Messages.{Looks}
 use Rattle.thread_cluster.specs.Knowing.{GoesOn, IsReceipt, IsShownBy}
 use Rattle.thread_cluster.proofs.Growing.{goes_on_trans, goes_on_self}
@@ -127,16 +125,16 @@ module _ {T K Kind Delta : Type 0} {ghosts : Ghosts T Kind Op Delta} {keeping : 
   pub record IsEnd (c : Command) (op index : ℕ) (image : model.Entry Op Shown) (old made new : Session) (told : Reply) (end : Ended) : Type 0 where
     pub timeout : Option ℕ
     pub goes : GoesOn made new
-    pub calls : Adding (EndCall (sections.member_of (command_of c)) timeout) made new
-    pub heard : KnowsHeard D world histories (sections.member_of (command_of c)) index image (known_in new) ⊎ KnowsFull D world histories (known_in new)
-    pub ended : timeout ≡ None → KnowsEnded D world histories (sections.member_of (command_of c)) (known_in new) (Some op)
-    pub timed_out : TimesOutKnown D world histories client (sections.member_of (command_of c)) (step_made c old new told (Some end) index image timeout) (Some op) timeout
-    pub ends : EndsByTimeout D world histories (sections.member_of (command_of c)) (step_made c old new told (Some end) index image timeout) (Some op) timeout
-        ⊎ (Some (ending_meant end) ≡ ending_of (member_after D world histories (sections.member_of (command_of c)) (known_in new (sections.member_of (command_of c)))) (Some op))
+    pub calls : Adding (EndCall c.at timeout) made new
+    pub heard : KnowsHeard D world histories c.at index image (known_in new) ⊎ KnowsFull D world histories (known_in new)
+    pub ended : timeout ≡ None → KnowsEnded D world histories c.at (known_in new) (Some op)
+    pub timed_out : TimesOutKnown D world histories client c.at (step_made c old new told (Some end) index image timeout) (Some op) timeout
+    pub ends : EndsByTimeout D world histories c.at (step_made c old new told (Some end) index image timeout) (Some op) timeout
+        ⊎ (Some (ending_meant end) ≡ ending_of (member_after D world histories c.at (known_in new c.at)) (Some op))
 
-  module _ (c : Command) (op index : ℕ) (image : model.Entry Op Shown) (old made new : Session) (told : Reply) (end : Ended) (ours : IsOurs new) (w : Waits (sections.member_of (command_of c)) op made index) (same : w.image ≡ image) where
+  module _ (c : Command) (op index : ℕ) (image : model.Entry Op Shown) (old made new : Session) (told : Reply) (end : Ended) (ours : IsOurs new) (w : Waits c.at op made index) (same : w.image ≡ image) where
     abbrev j : ℕ
-    j = sections.member_of (command_of c)
+    j = c.at
 
     heard_as : (known : ℕ → ℕ) → KnowsHeard D world histories j index w.image known → KnowsHeard D world histories j index image known
     heard_as known heard = subst (λ (m : model.Entry Op Shown). KnowsHeard D world histories j index m known) same heard

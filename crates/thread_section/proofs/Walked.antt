@@ -84,7 +84,7 @@ module _ {T K Kind Delta : Type 0} {ghosts : Ghosts T Kind Op Delta} {keeping : 
     pub command : Command
     pub k : KnownStep Op Shown
     pub stands : (slice_get commands number ≡ Some command) × (slice_get ks number ≡ Some k)
-    pub at : ids call.0 ≡ Some (sections.member_of (command_of command))
+    pub at : ids call.0 ≡ Some command.at
     pub is : (k.step.index ≡ Some call.1) ⊎ (k.step.timeout ≡ Some call.1)
 
   abbrev pub PathCall : List Command → List (KnownStep Op Shown) → ℕ × ℕ → Type 0
@@ -136,9 +136,9 @@ module _ {T K Kind Delta : Type 0} {ghosts : Ghosts T Kind Op Delta} {keeping : 
             (λ (o : IsOfStep commands w.ks call). inr (record { number = o.number; command = o.command; k = o.k; stands = (in_front commands (command ∷ []) o.number o.command o.stands.0, in_front w.ks (k ∷ []) o.number o.k o.stands.1); at = o.at; is = o.is })) p)
             w.calls
             (λ call m. ⊎_elim (λ (old_one : IsIn old.calls call). inl old_one)
-            (λ (new_one : StepCall spelling meaning world ids opening h histories settled client views views_are below runs_in none_runs (sections.member_of (command_of command)) k call).
+            (λ (new_one : StepCall spelling meaning world ids opening h histories settled client views views_are below runs_in none_runs command.at k call).
             inr (⊎_elim (λ (t : TakenAt meaning ids h call). inl t)
-            (λ (x : (ids call.0 ≡ Some (sections.member_of (command_of command))) × ((k.step.index ≡ Some call.1) ⊎ (k.step.timeout ≡ Some call.1))).
+            (λ (x : (ids call.0 ≡ Some command.at) × ((k.step.index ≡ Some call.1) ⊎ (k.step.timeout ≡ Some call.1))).
             inr (record { number = length commands; command = command; k = k; stands = (at_end commands command (length commands) refl, at_end w.ks k (length commands) (sym w.as_many)); at = x.0; is = x.1 })) new_one))
             (s.calls call m));
       }

@@ -1,87 +1,105 @@
--- What is due is what the bytes of a source call for, unless a read failed or memory was refused.
+-- What is due, and what is written and told of it, is what a call that serves words promises.
 use Rattle.std.proofs.Common.{◌≡◌, ℕ, zero, suc, ◌+◌, ◌<◌, ◌≤◌, ◌⊎◌, inl, inr, List, [], ◌∷◌, ◌++◌, length, length-append, append-nil, String, Global, string_bytes, arith, refl, sym, ap, subst, ◌∙◌, None, Some, Ok, Err, MatchResult}
-use Rattle.std.specs.Prelude.{slice_get}
+use Rattle.std.specs.Prelude.{◌↔◌, codes, slice_get}
 use Rattle.std.proofs.lemmas.Option.{none-some, same_Some}
 use Rattle.std.specs.Io.KnownBytes.{Appends, Consumes}
 use Rattle.std.specs.declared.option.Option.{Option}
 use Rattle.base_outside.specs.Causes.{Rose}
-use Rattle.base_outside.specs.Transfers.{ReadsToEnd}
+use Rattle.base_outside.specs.Transfers.{ReadsToEnd, AppendsPrefix}
 use Rattle.member_keeper.specs.declared.keeper.Keeper.{Ghosts as Keeping}
+use Rattle.script_reading.specs.declared.clients.Clients.{Clients}
 use Rattle.script_reading.specs.declared.script.Script.{Script}
 use Rattle.script_reading.specs.declared.fault.Rule.{Rule}
 use Rattle.script_reading.specs.Reading.{Spells, Breaks, HasNoReading}
-use Rattle.top_call.specs.Status.{code_of}
-use Rattle.top_call.specs.Answers.{Fulfils, IsReported, CannotClear, SomeRose, CallsFor, IsUnlessRefused, limit, done, not_json, not_a_script, too_long}
+use Rattle.top_call.specs.Answers.{ReadsScript, Fulfils, IsReported, CannotClear, SomeRose, IsTextDue, CallsFor, IsUnlessRefused, limit}
+use Rattle.top_call.specs.Answers.{CallsFor as calls, IsTextDue as text_of}
 use Rattle.top_call.specs.Asking.{IsAsked, AskNothing}
-use Rattle.top_call.specs.Due.{IsScriptDue, IsDueFor, IsDue, status_due, text_due}
+use Rattle.top_call.specs.Due.{IsDueFor, IsDue, IsWritten, status_due, text_due}
+use Rattle.top_call.specs.Passages.{Passage, Traffic}
+use Rattle.top_call.specs.Serving.{Refuses, Cause, IsDone, Answers}
 use Rattle.top_call.specs.declared.due.Due.{Due}
 use Rattle.top_call.specs.declared.due.Due.TheVariants.{Fulfilled, NotCleared, BadWords, NotJson, NotAScript, ReadFailed, TooLong, Memory}
-use Rattle.top_call.specs.declared.words.Asked.{Asked}
-use Rattle.top_call.specs.declared.words.Asked.TheVariants.{Plain, Generate, Summarize}
-use Rattle.top_call.proofs.OneAsked.{one_asked, are_plain}
 use Rattle.top_call.specs.declared.status.Status.{Status}
 use Rattle.top_call.specs.declared.status.Status.TheVariants as status
+use Rattle.top_call.specs.declared.words.Asked.{Asked}
+use Rattle.top_call.specs.declared.words.Asked.TheVariants.{Report, Generate, Summarize}
+
+-- WHAT WAS READ
 
 -- what a source that tells its bytes gave to its end
-pub all_read : (bytes read : List ℕ) (new : Option (List ℕ)) → ReadsToEnd (Some bytes) new read → read ≡ bytes
+all_read : (bytes read : List ℕ) (new : Option (List ℕ)) → ReadsToEnd (Some bytes) new read → read ≡ bytes
 all_read bytes read None h = absurd h.consumed
 all_read bytes read (Some rest) h = sym (h.consumed ∙ ap (λ l. read ++ l) h.at_end ∙ append-nil read)
 
 -- more was read than a script may have, so there was more
-pub more_read : (bytes read : List ℕ) (new : Option (List ℕ)) → Consumes (Some bytes) new read → length read ≡ limit + 1 → limit < length bytes
+more_read : (bytes read : List ℕ) (new : Option (List ℕ)) → Consumes (Some bytes) new read → length read ≡ limit + 1 → limit < length bytes
 more_read bytes read None h long = absurd h
 more_read bytes read (Some rest) h long = rw h (omega (arith, long, length-append read rest))
 
-pub ok_err : {A B : Type 0} (x : A) (y : B) → Ok x ≡ Err y → ⊥
+-- what it has left at its end
+none_left : (bytes read : List ℕ) (new : Option (List ℕ)) → ReadsToEnd (Some bytes) new read → new ≡ Some []
+none_left bytes read None h = absurd h.consumed
+none_left bytes read (Some rest) h = ap Some h.at_end
+
+grown : (before text : List ℕ) (new : Option (List ℕ)) → Appends (Some before) new text → new ≡ Some (before ++ text)
+grown before text None h = absurd h
+grown before text (Some all) h = ap Some h
+
+-- WHAT BYTES CALL FOR
+
+ok_err : {A B : Type 0} (x : A) (y : B) → Ok x ≡ Err y → ⊥
 ok_err x y e = subst (λ r. MatchResult r (λ _. Unit {0}) (λ _. ⊥)) e tt
 
--- bytes that spell a script, break a rule or have no reading do one of these alone
-spells_json : (bytes : List ℕ) (script : Script) → Spells bytes script → HasNoReading bytes → ⊥
-spells_json bytes script h none = none-some h.0 (sym (none h.1.0) ∙ h.1.1)
+module _ (clients : Clients) (bytes : List ℕ) where
+  -- bytes that spell a script, break a rule or have no reading do one of these alone
+  spells_json : (script : Script) → Spells clients bytes script → HasNoReading bytes → ⊥
+  spells_json script h none = none-some h.0 (sym (none h.1.0) ∙ h.1.1)
 
-breaks_json : (bytes : List ℕ) (rule : Rule) → Breaks bytes rule → HasNoReading bytes → ⊥
-breaks_json bytes rule h none = none-some h.0 (sym (none h.1.0) ∙ h.1.1)
+  breaks_json : (rule : Rule) → Breaks clients bytes rule → HasNoReading bytes → ⊥
+  breaks_json rule h none = none-some h.0 (sym (none h.1.0) ∙ h.1.1)
 
-spells_breaks : (bytes : List ℕ) (script : Script) (rule : Rule) → Spells bytes script → Breaks bytes rule → ⊥
-spells_breaks bytes script rule h k =
-    let same : h.0 ≡ k.0 = same_Some h.0 k.0 (sym h.1.1 ∙ k.1.1) in
-    ok_err script rule (sym h.2 ∙ rw same k.2)
+  spells_breaks : (script : Script) (rule : Rule) → Spells clients bytes script → Breaks clients bytes rule → ⊥
+  spells_breaks script rule h k =
+      let same : h.0 ≡ k.0 = same_Some h.0 k.0 (sym h.1.1 ∙ k.1.1) in
+      ok_err script rule (sym h.2 ∙ rw same k.2)
 
--- what status a script calls for
-script_runs : (bytes : List ℕ) (script : Script) (wanted : Status) → length bytes ≤ limit → Spells bytes script → CallsFor bytes wanted → status.Done ≡ wanted
-script_runs bytes script _ within h (done other short k) = refl
-script_runs bytes script _ within h (not_json short k) = absurd (spells_json bytes script h k)
-script_runs bytes script _ within h (not_a_script rule short k) = absurd (spells_breaks bytes script rule h k)
-script_runs bytes script _ within h (too_long long) = absurd (omega arith)
+  -- what status a script calls for
+  script_runs : (script : Script) (wanted : Status) → length bytes ≤ limit → Spells clients bytes script → CallsFor clients bytes wanted → status.Done ≡ wanted
+  script_runs script _ within h (calls.done other short k) = refl
+  script_runs script _ within h (calls.not_json short k) = absurd (spells_json script h k)
+  script_runs script _ within h (calls.not_a_script rule short k) = absurd (spells_breaks script rule h k)
+  script_runs script _ within h (calls.too_long long) = absurd (omega arith)
 
-json_called : (bytes : List ℕ) (wanted : Status) → length bytes ≤ limit → HasNoReading bytes → CallsFor bytes wanted → status.NotJson ≡ wanted
-json_called bytes _ within h (done script short k) = absurd (spells_json bytes script k h)
-json_called bytes _ within h (not_json short k) = refl
-json_called bytes _ within h (not_a_script rule short k) = absurd (breaks_json bytes rule k h)
-json_called bytes _ within h (too_long long) = absurd (omega arith)
+  json_called : (wanted : Status) → length bytes ≤ limit → HasNoReading bytes → CallsFor clients bytes wanted → status.NotJson ≡ wanted
+  json_called _ within h (calls.done script short k) = absurd (spells_json script k h)
+  json_called _ within h (calls.not_json short k) = refl
+  json_called _ within h (calls.not_a_script rule short k) = absurd (breaks_json rule k h)
+  json_called _ within h (calls.too_long long) = absurd (omega arith)
 
-script_called : (bytes : List ℕ) (rule : Rule) (wanted : Status) → length bytes ≤ limit → Breaks bytes rule → CallsFor bytes wanted → status.NotAScript ≡ wanted
-script_called bytes rule _ within h (done script short k) = absurd (spells_breaks bytes script rule k h)
-script_called bytes rule _ within h (not_json short k) = absurd (breaks_json bytes rule h k)
-script_called bytes rule _ within h (not_a_script other short k) = refl
-script_called bytes rule _ within h (too_long long) = absurd (omega arith)
+  script_called : (rule : Rule) (wanted : Status) → length bytes ≤ limit → Breaks clients bytes rule → CallsFor clients bytes wanted → status.NotAScript ≡ wanted
+  script_called rule _ within h (calls.done script short k) = absurd (spells_breaks script rule k h)
+  script_called rule _ within h (calls.not_json short k) = absurd (breaks_json rule h k)
+  script_called rule _ within h (calls.not_a_script other short k) = refl
+  script_called rule _ within h (calls.too_long long) = absurd (omega arith)
 
-length_called : (bytes : List ℕ) (wanted : Status) → limit < length bytes → CallsFor bytes wanted → status.TooLong ≡ wanted
-length_called bytes _ more (done script short k) = absurd (omega arith)
-length_called bytes _ more (not_json short k) = absurd (omega arith)
-length_called bytes _ more (not_a_script rule short k) = absurd (omega arith)
-length_called bytes _ more (too_long long) = refl
+  length_called : (wanted : Status) → limit < length bytes → CallsFor clients bytes wanted → status.TooLong ≡ wanted
+  length_called _ more (calls.done script short k) = absurd (omega arith)
+  length_called _ more (calls.not_json short k) = absurd (omega arith)
+  length_called _ more (calls.not_a_script rule short k) = absurd (omega arith)
+  length_called _ more (calls.too_long long) = refl
 
 -- a place with a keeper, before and after
-pub there : {X : Type 0} (xs : List X) (n : ℕ) → n < length xs → (x : X) × (slice_get xs n ≡ Some x)
+there : {X : Type 0} (xs : List X) (n : ℕ) → n < length xs → (x : X) × (slice_get xs n ≡ Some x)
 there [] n h = absurd (omega (arith, h))
 there (x ∷ xs) zero h = (x, refl)
 there (x ∷ xs) (suc n) h = there xs n (omega (arith, h))
 
+-- WHAT IS DUE
+
 module _ {K : Type 0} (keeping : Keeping K) where
   -- a keeper that failed to be cleared counts a fault more
-  clearing_rose : (asked : Asked) (old new : Option (List ℕ)) (before after : List K) (text : List ℕ) → length before ≡ 8 → CannotClear keeping asked old new before after text → SomeRose keeping before after
-  clearing_rose asked old new before after text eight h =
+  clearing_rose : (asked : Asked) (read : Passage) (before after : List K) (text : List ℕ) → length before ≡ 8 → CannotClear keeping asked read before after text → SomeRose keeping before after
+  clearing_rose asked read before after text eight h =
       let was = there before h.place h.failed.within in
       let is = there after h.place (rw h.failed.failed.count h.failed.within) in
       record {
@@ -94,149 +112,205 @@ module _ {K : Type 0} (keeping : Keeping K) where
       }
 
   -- the status that is due, unless a read or a clear failed or memory was refused
-  abbrev pub IsCalled : Type 0 → Type 0 → Due → Status → Type 0
+  abbrev IsCalled : Type 0 → Type 0 → Due → Status → Type 0
   IsCalled read_rose keeper_rose due wanted =
       (status_due due ≡ wanted) ⊎ (((status_due due ≡ status.ReadFailed) × read_rose) ⊎ (((status_due due ≡ status.ClearFailed) × keeper_rose) ⊎ (status_due due ≡ status.Memory)))
 
-  -- for the report of the script on a source that tells its bytes
-  pub report_called : (bytes : List ℕ) (new : Option (List ℕ)) (faults now : ℕ) (before after : List K) (due : Due) (wanted : Status)
-      → length before ≡ 8 → IsDueFor keeping Plain (Some bytes) new faults now before after due → CallsFor bytes wanted → IsCalled (Rose faults now) (SomeRose keeping before after) due wanted
-  report_called bytes new faults now before after (Fulfilled text) wanted eight h calls =
-      let all = all_read bytes h.read.bytes new h.read.read.whole in
-      inl (script_runs bytes h.script wanted (rw (← all) h.read.read.within) (rw (← all) h.read.spelled) calls)
-  report_called bytes new faults now before after (NotCleared text) wanted eight h calls =
-      inr (inr (inl (refl, clearing_rose Plain (Some bytes) new before after (string_bytes text) eight h)))
-  report_called bytes new faults now before after BadWords wanted eight h calls = absurd h
-  report_called bytes new faults now before after NotJson wanted eight h calls =
-      let all = all_read bytes h.1.0 new h.1.1.whole in
-      inl (json_called bytes wanted (rw (← all) h.1.1.within) (rw (← all) h.1.2) calls)
-  report_called bytes new faults now before after (NotAScript text) wanted eight h calls =
-      let all = all_read bytes h.1.1.0 new h.1.1.1.whole in
-      inl (script_called bytes h.1.0 wanted (rw (← all) h.1.1.1.within) (rw (← all) h.1.1.2) calls)
-  report_called bytes new faults now before after ReadFailed wanted eight h calls = inr (inl (refl, h.1))
-  report_called bytes new faults now before after TooLong wanted eight h calls =
-      inl (length_called bytes wanted (more_read bytes h.1.0 new h.1.2 h.1.1) calls)
-  report_called bytes new faults now before after Memory wanted eight h calls = inr (inr (inr refl))
+  module _ (read : Passage) (before after : List K) where
+    -- for the report of the script on a source that tells its bytes
+    report_called : (clients : Clients) (bytes : List ℕ) (due : Due) (wanted : Status) → length before ≡ 8 → read.old ≡ Some bytes → IsDueFor keeping (Report clients) read before after due → CallsFor clients bytes wanted
+        → IsCalled (Rose read.faults read.now) (SomeRose keeping before after) due wanted
+    report_called clients bytes (Fulfilled text) wanted eight told h call =
+        let all = all_read bytes h.has.bytes read.new (subst (λ o. ReadsToEnd o read.new h.has.bytes) told h.has.is_read.whole) in
+        inl (script_runs clients bytes h.script wanted (rw (← all) h.has.is_read.within) (rw (← all) h.has.spelled) call)
+    report_called clients bytes (NotCleared text) wanted eight told h call = inr (inr (inl (refl, clearing_rose (Report clients) read before after (string_bytes text) eight h)))
+    report_called clients bytes BadWords wanted eight told h call = absurd h
+    report_called clients bytes NotJson wanted eight told h call =
+        let all = all_read bytes h.0.0 read.new (subst (λ o. ReadsToEnd o read.new h.0.0) told h.0.1.whole) in
+        inl (json_called clients bytes wanted (rw (← all) h.0.1.within) (rw (← all) h.0.2) call)
+    report_called clients bytes (NotAScript text) wanted eight told h call =
+        let broken = h.0.1 in
+        let all = all_read bytes broken.0 read.new (subst (λ o. ReadsToEnd o read.new broken.0) told broken.1.whole) in
+        inl (script_called clients bytes h.0.0 wanted (rw (← all) broken.1.within) (rw (← all) broken.2) call)
+    report_called clients bytes ReadFailed wanted eight told h call = inr (inl (refl, h.0.0))
+    report_called clients bytes TooLong wanted eight told h call =
+        inl (length_called clients bytes wanted (more_read bytes h.0.0 read.new (subst (λ o. Consumes o read.new h.0.0) told h.0.2) h.0.1) call)
+    report_called clients bytes Memory wanted eight told h call = inr (inr (inr refl))
 
-  -- for a generated script
-  pub script_called_for : (n : ℕ) (old new : Option (List ℕ)) (faults now : ℕ) (before after : List K) (due : Due)
-      → IsDueFor keeping (Generate n) old new faults now before after due → IsCalled ⊥ ⊥ due status.Done
-  script_called_for n old new faults now before after (Fulfilled text) h = inl refl
-  script_called_for n old new faults now before after (NotCleared text) h = absurd h.run
-  script_called_for n old new faults now before after BadWords h = absurd h
-  script_called_for n old new faults now before after NotJson h = absurd (let e = h.0 in cc)
-  script_called_for n old new faults now before after (NotAScript text) h = absurd (let e = h.0 in cc)
-  script_called_for n old new faults now before after ReadFailed h = absurd (let e = h.0 in cc)
-  script_called_for n old new faults now before after TooLong h = absurd (let e = h.0 in cc)
-  script_called_for n old new faults now before after Memory h = inr (inr (inr refl))
+    -- for a generated script
+    generated_called : (n : ℕ) (due : Due) → IsDueFor keeping (Generate n) read before after due → IsCalled ⊥ ⊥ due status.Done
+    generated_called n (Fulfilled text) h = inl refl
+    generated_called n (NotCleared text) h = absurd h.run
+    generated_called n BadWords h = absurd h
+    generated_called n NotJson h = absurd h
+    generated_called n (NotAScript text) h = absurd h
+    generated_called n ReadFailed h = absurd h
+    generated_called n TooLong h = absurd h
+    generated_called n Memory h = inr (inr (inr refl))
 
-  -- for the end of its run
-  pub summary_called : (n : ℕ) (old new : Option (List ℕ)) (faults now : ℕ) (before after : List K) (due : Due) → length before ≡ 8
-      → IsDueFor keeping (Summarize n) old new faults now before after due → IsCalled ⊥ (SomeRose keeping before after) due status.Done
-  summary_called n old new faults now before after (Fulfilled text) eight h = inl refl
-  summary_called n old new faults now before after (NotCleared text) eight h = inr (inr (inl (refl, clearing_rose (Summarize n) old new before after (string_bytes text) eight h)))
-  summary_called n old new faults now before after BadWords eight h = absurd h
-  summary_called n old new faults now before after NotJson eight h = absurd (let e = h.0 in cc)
-  summary_called n old new faults now before after (NotAScript text) eight h = absurd (let e = h.0 in cc)
-  summary_called n old new faults now before after ReadFailed eight h = absurd (let e = h.0 in cc)
-  summary_called n old new faults now before after TooLong eight h = absurd (let e = h.0 in cc)
-  summary_called n old new faults now before after Memory eight h = inr (inr (inr refl))
+    -- which leaves the keepers
+    generated_leaves : (n : ℕ) (due : Due) → IsDueFor keeping (Generate n) read before after due → after ≡ before
+    generated_leaves n (Fulfilled text) h = h.1
+    generated_leaves n (NotCleared text) h = absurd h.run
+    generated_leaves n BadWords h = absurd h
+    generated_leaves n NotJson h = absurd h
+    generated_leaves n (NotAScript text) h = absurd h
+    generated_leaves n ReadFailed h = absurd h
+    generated_leaves n TooLong h = absurd h
+    generated_leaves n Memory h = h
 
-  -- what is due for what words ask for is due for them
-  pub due_by : (words : List (String Global)) (old new : Option (List ℕ)) (faults now : ℕ) (before after : List K) (due : Due) (given : Asked)
-      → IsAsked given words → IsDueFor keeping given old new faults now before after due → IsDue keeping words old new faults now before after due
-  due_by words old new faults now before after (Fulfilled text) given k h = (given, k, h)
-  due_by words old new faults now before after (NotCleared text) given k h = (given, k, h)
-  due_by words old new faults now before after BadWords given k h = absurd h
-  due_by words old new faults now before after NotJson given k h = (are_plain words given h.0 k, h.1, h.2)
-  due_by words old new faults now before after (NotAScript text) given k h = (are_plain words given h.0 k, h.1, h.2)
-  due_by words old new faults now before after ReadFailed given k h = (are_plain words given h.0 k, h.1, h.2, h.3)
-  due_by words old new faults now before after TooLong given k h = (are_plain words given h.0 k, h.1, h.2)
-  due_by words old new faults now before after Memory given k h = (given, k)
+    -- for the end of its run
+    summary_called : (n : ℕ) (due : Due) → length before ≡ 8 → IsDueFor keeping (Summarize n) read before after due → IsCalled ⊥ (SomeRose keeping before after) due status.Done
+    summary_called n (Fulfilled text) eight h = inl refl
+    summary_called n (NotCleared text) eight h = inr (inr (inl (refl, clearing_rose (Summarize n) read before after (string_bytes text) eight h)))
+    summary_called n BadWords eight h = absurd h
+    summary_called n NotJson eight h = absurd h
+    summary_called n (NotAScript text) eight h = absurd h
+    summary_called n ReadFailed eight h = absurd h
+    summary_called n TooLong eight h = absurd h
+    summary_called n Memory eight h = inr (inr (inr refl))
 
-  -- a generated script, over keepers that stay
-  pub script_due_by : (words : List (String Global)) (n : ℕ) (old new : Option (List ℕ)) (faults now : ℕ) (keepers : List K) (due : Due)
-      → IsAsked (Generate n) words → IsScriptDue n due → IsDue keeping words old new faults now keepers keepers due
-  script_due_by words n old new faults now keepers (Fulfilled text) k h = (Generate n, k, (h, refl))
-  script_due_by words n old new faults now keepers (NotCleared text) k h = absurd h
-  script_due_by words n old new faults now keepers BadWords k h = absurd h
-  script_due_by words n old new faults now keepers NotJson k h = absurd h
-  script_due_by words n old new faults now keepers (NotAScript text) k h = absurd h
-  script_due_by words n old new faults now keepers ReadFailed k h = absurd h
-  script_due_by words n old new faults now keepers TooLong k h = absurd h
-  script_due_by words n old new faults now keepers Memory k h = (Generate n, k)
+    -- what is done with status `Done`
+    is_fulfilled : (asked : Asked) (due : Due) → IsDueFor keeping asked read before after due → status_due due ≡ status.Done → Fulfils keeping asked read before after (text_due due)
+    is_fulfilled asked (Fulfilled text) h none = h
+    is_fulfilled asked (NotCleared text) h none = absurd (cc none)
+    is_fulfilled asked BadWords h none = absurd (cc none)
+    is_fulfilled asked NotJson h none = absurd (cc none)
+    is_fulfilled asked (NotAScript text) h none = absurd (cc none)
+    is_fulfilled asked ReadFailed h none = absurd (cc none)
+    is_fulfilled asked TooLong h none = absurd (cc none)
+    is_fulfilled asked Memory h none = absurd (cc none)
 
-  -- and the other way round
-  pub due_for : (words : List (String Global)) (old new : Option (List ℕ)) (faults now : ℕ) (before after : List K) (due : Due) (given : Asked)
-      → IsAsked given words → IsDue keeping words old new faults now before after due → IsDueFor keeping given old new faults now before after due
-  due_for words old new faults now before after (Fulfilled text) given k h = subst (λ a. Fulfils keeping a old new before after (string_bytes text)) (one_asked words h.0 given h.1 k) h.2
-  due_for words old new faults now before after (NotCleared text) given k h = subst (λ a. CannotClear keeping a old new before after (string_bytes text)) (one_asked words h.0 given h.1 k) h.2
-  due_for words old new faults now before after BadWords given k h = absurd (h.0 given k)
-  due_for words old new faults now before after NotJson given k h = (one_asked words given Plain k h.0, h.1, h.2)
-  due_for words old new faults now before after (NotAScript text) given k h = (one_asked words given Plain k h.0, h.1, h.2)
-  due_for words old new faults now before after ReadFailed given k h = (one_asked words given Plain k h.0, h.1, h.2, h.3)
-  due_for words old new faults now before after TooLong given k h = (one_asked words given Plain k h.0, h.1, h.2)
-  due_for words old new faults now before after Memory given k h = tt
+    -- and what that says of told bytes
+    is_reported : (clients : Clients) (bytes earlier text : List ℕ) (written : Option (List ℕ)) → read.old ≡ Some bytes → Fulfils keeping (Report clients) read before after text → Appends (Some earlier) written text → IsReported keeping clients bytes earlier read.new written before after
+    is_reported clients bytes earlier text written told h w =
+        let whole = subst (λ o. ReadsToEnd o read.new h.has.bytes) told h.has.is_read.whole in
+        let all = all_read bytes h.has.bytes read.new whole in
+        record {
+          script = h.script;
+          text = text;
+          spelled = rw (← all) h.has.spelled;
+          allowed = h.has.allowed;
+          reported = h.reported;
+          all_read = none_left bytes h.has.bytes read.new whole;
+          all_written = grown earlier text written w;
+        }
 
-  -- words that ask for nothing are refused
-  pub is_refused : (words : List (String Global)) (old new : Option (List ℕ)) (faults now : ℕ) (before after : List K) (due : Due)
-      → AskNothing words → IsDue keeping words old new faults now before after due → status_due due ≡ status.Usage
-  is_refused words old new faults now before after (Fulfilled text) none h = absurd (none h.0 h.1)
-  is_refused words old new faults now before after (NotCleared text) none h = absurd (none h.0 h.1)
-  is_refused words old new faults now before after BadWords none h = refl
-  is_refused words old new faults now before after NotJson none h = absurd (none Plain h.0)
-  is_refused words old new faults now before after (NotAScript text) none h = absurd (none Plain h.0)
-  is_refused words old new faults now before after ReadFailed none h = absurd (none Plain h.0)
-  is_refused words old new faults now before after TooLong none h = absurd (none Plain h.0)
-  is_refused words old new faults now before after Memory none h = absurd (none h.0 h.1)
+-- WHAT WAS WRITTEN OF IT
 
-  -- with status 0 what was asked for is done
-  pub is_fulfilled : (given : Asked) (old new : Option (List ℕ)) (faults now : ℕ) (before after : List K) (due : Due)
-      → IsDueFor keeping given old new faults now before after due → code_of (status_due due) ≡ 0 → Fulfils keeping given old new before after (text_due due)
-  is_fulfilled given old new faults now before after (Fulfilled text) h none = h
-  is_fulfilled given old new faults now before after (NotCleared text) h none = absurd (omega arith)
-  is_fulfilled given old new faults now before after BadWords h none = absurd h
-  is_fulfilled given old new faults now before after NotJson h none = absurd (omega arith)
-  is_fulfilled given old new faults now before after (NotAScript text) h none = absurd (omega arith)
-  is_fulfilled given old new faults now before after ReadFailed h none = absurd (omega arith)
-  is_fulfilled given old new faults now before after TooLong h none = absurd (omega arith)
-  is_fulfilled given old new faults now before after Memory h none = absurd (omega arith)
+below_some : {n m : ℕ} → n < m → 0 < m
+below_some h = omega arith
 
--- the number that is answered, where all that was due was written
-pub answered : (read_rose write_rose keeper_rose : Type 0) (given wanted : Status) (result : ℕ) → result ≡ code_of given
-    → (given ≡ wanted) ⊎ (((given ≡ status.ReadFailed) × read_rose) ⊎ (((given ≡ status.ClearFailed) × keeper_rose) ⊎ (given ≡ status.Memory))) → IsUnlessRefused read_rose write_rose keeper_rose wanted result
-answered read_rose write_rose keeper_rose given wanted result code (inl same) = inl (code ∙ ap code_of same)
-answered read_rose write_rose keeper_rose given wanted result code (inr (inl failed)) = inr (inl (code ∙ ap code_of failed.0, failed.1))
-answered read_rose write_rose keeper_rose given wanted result code (inr (inr (inl failed))) = inr (inr (inr (inl (code ∙ ap code_of failed.0, failed.1))))
-answered read_rose write_rose keeper_rose given wanted result code (inr (inr (inr refused))) = inr (inr (inr (inr (code ∙ ap code_of refused))))
+module _ {K : Type 0} (keeping : Keeping K) (t : Traffic K) (served : Clients) (words : List (String Global)) where
+  -- why a status is told
+  due_cause : (asked : Asked) (due : Due) → IsAsked served asked words → IsDueFor keeping asked t.read t.before t.after due → Appends t.written.old t.written.new (text_due due) → Cause keeping t served words (status_due due)
+  due_cause asked (Fulfilled text) a h w = (asked, string_bytes text, a, h, w)
+  due_cause asked (NotCleared text) a h w = (asked, string_bytes text, a, h, w)
+  due_cause asked BadWords a h w = absurd h
+  due_cause asked Memory a h w = w
+  due_cause (Report clients) NotJson a h w = record { clients = clients; asked = a; why = h.0; kept = h.1; told = w }
+  due_cause (Report clients) (NotAScript text) a h w = (string_bytes text, record { clients = clients; asked = a; why = h.0; kept = h.1; told = w })
+  due_cause (Report clients) ReadFailed a h w = record { clients = clients; asked = a; why = h.0; kept = h.1; told = w }
+  due_cause (Report clients) TooLong a h w = record { clients = clients; asked = a; why = h.0; kept = h.1; told = w }
+  due_cause (Generate n) NotJson a h w = absurd h
+  due_cause (Generate n) (NotAScript text) a h w = absurd h
+  due_cause (Generate n) ReadFailed a h w = absurd h
+  due_cause (Generate n) TooLong a h w = absurd h
+  due_cause (Summarize n) NotJson a h w = absurd h
+  due_cause (Summarize n) (NotAScript text) a h w = absurd h
+  due_cause (Summarize n) ReadFailed a h w = absurd h
+  due_cause (Summarize n) TooLong a h w = absurd h
 
--- what a source that tells its bytes has left at its end
-none_left : (bytes read : List ℕ) (new : Option (List ℕ)) → ReadsToEnd (Some bytes) new read → new ≡ Some []
-none_left bytes read None h = absurd h.consumed
-none_left bytes read (Some rest) h = ap Some h.at_end
+  -- of what a beginning was written
+  is_text_due : (asked : Asked) (due : Due) → 0 < length (text_due due) → IsAsked served asked words → IsDueFor keeping asked t.read t.before t.after due → IsTextDue keeping served words t.read t.before t.after (text_due due)
+  is_text_due asked (Fulfilled text) some a h = text_of.fulfilled asked (string_bytes text) a h
+  is_text_due asked (NotCleared text) some a h = text_of.not_cleared asked (string_bytes text) a h
+  is_text_due asked BadWords some a h = absurd h
+  is_text_due asked Memory some a h = absurd (omega arith)
+  is_text_due asked ReadFailed some a h = absurd (omega arith)
+  is_text_due (Report clients) NotJson some a h = text_of.not_json clients a h.0 h.1
+  is_text_due (Report clients) (NotAScript text) some a h = text_of.not_a_script clients (string_bytes text) a h.0 h.1
+  is_text_due (Report clients) TooLong some a h = text_of.too_long clients a h.0 h.1
+  is_text_due (Generate n) NotJson some a h = absurd h
+  is_text_due (Generate n) (NotAScript text) some a h = absurd h
+  is_text_due (Generate n) TooLong some a h = absurd h
+  is_text_due (Summarize n) NotJson some a h = absurd h
+  is_text_due (Summarize n) (NotAScript text) some a h = absurd h
+  is_text_due (Summarize n) TooLong some a h = absurd h
 
-grown : (before text : List ℕ) (new : Option (List ℕ)) → Appends (Some before) new text → new ≡ Some (before ++ text)
-grown before text None h = absurd h
-grown before text (Some all) h = ap Some h
+  -- A call was asked for this, this was due, and this was written and told.
+  pub record Called (end : Status) : Type 0 where
+    pub asked : Option Asked
+    pub asks : (a : Asked) → (asked ≡ Some a) ↔ IsAsked served a words
+    pub due : Due
+    pub is : IsDue keeping asked t.read t.before t.after due
+    pub told : IsWritten due t.written end
 
-module _ {K : Type 0} (keeping : Keeping K) where
-  -- what status 0 says of told bytes
-  pub is_reported : (bytes earlier : List ℕ) (left written : Option (List ℕ)) (faults now : ℕ) (before after : List K) (due : Due)
-      → IsDueFor keeping Plain (Some bytes) left faults now before after due → code_of (status_due due) ≡ 0 → Appends (Some earlier) written (text_due due) → IsReported keeping bytes earlier left written before after
-  is_reported bytes earlier left written faults now before after (Fulfilled text) h none w =
-      let all = all_read bytes h.read.bytes left h.read.read.whole in
-      record {
-        script = h.script;
-        text = string_bytes text;
-        spelled = rw (← all) h.read.spelled;
-        reported = h.reported;
-        all_read = none_left bytes h.read.bytes left h.read.read.whole;
-        all_written = grown earlier (string_bytes text) written w;
-      }
-  is_reported bytes earlier left written faults now before after (NotCleared text) h none w = absurd (omega arith)
-  is_reported bytes earlier left written faults now before after BadWords h none w = absurd h
-  is_reported bytes earlier left written faults now before after NotJson h none w = absurd (omega arith)
-  is_reported bytes earlier left written faults now before after (NotAScript text) h none w = absurd (omega arith)
-  is_reported bytes earlier left written faults now before after ReadFailed h none w = absurd (omega arith)
-  is_reported bytes earlier left written faults now before after TooLong h none w = absurd (omega arith)
-  is_reported bytes earlier left written faults now before after Memory h none w = absurd (omega arith)
+  module _ (end : Status) (call : Called end) where
+    -- what is due for what was asked
+    is_for : (a : Asked) → IsAsked served a words → IsDueFor keeping a t.read t.before t.after call.due
+    is_for a h = subst (λ o. IsDue keeping o t.read t.before t.after call.due) ((call.asks a).1 h) call.is
+
+    -- THE CAUSE
+
+    pub has_cause : Cause keeping t served words end
+    has_cause = by_asked call.asked call.asks call.is call.told
+      where
+        nothing : ((a : Asked) → (None ≡ Some a) ↔ IsAsked served a words) → AskNothing served words
+        nothing asks a h = none-some a ((asks a).1 h)
+
+        by_asked : (asked : Option Asked) → ((a : Asked) → (asked ≡ Some a) ↔ IsAsked served a words) → IsDue keeping asked t.read t.before t.after call.due → IsWritten call.due t.written end → Cause keeping t served words end
+        by_asked (Some a) asks is (inl w) = subst (Cause keeping t served words) (sym w.0) (due_cause a call.due ((asks a).0 refl) is w.1)
+        by_asked (Some a) asks is (inr w) = subst (Cause keeping t served words) (sym w.0) (w.1, (text_due call.due, is_text_due a call.due (below_some w.2.1) ((asks a).0 refl) is, w.2))
+        by_asked None asks is (inl w) =
+            subst (Cause keeping t served words) (sym (w.0 ∙ ap status_due is.0)) (nothing asks, is.1, subst (λ due. Appends t.written.old t.written.new (text_due due)) is.0 w.1)
+        by_asked None asks is (inr w) =
+            subst (Cause keeping t served words) (sym w.0)
+            (w.1, (text_due BadWords, text_of.bad_words (nothing asks) is.1, subst (λ due. AppendsPrefix t.written.old t.written.new (text_due due)) is.0 w.2))
+
+    -- WHAT WAS ASKED FOR IS DONE
+
+    done : (a : Asked) → IsAsked served a words → end ≡ status.Done → (text : List ℕ) × Fulfils keeping a t.read t.before t.after text × Appends t.written.old t.written.new text
+    done a h none = go call.told
+      where
+        go : IsWritten call.due t.written end → (text : List ℕ) × Fulfils keeping a t.read t.before t.after text × Appends t.written.old t.written.new text
+        go (inl w) = (text_due call.due, is_fulfilled keeping t.read t.before t.after a call.due (is_for a h) (sym w.0 ∙ none), w.1)
+        go (inr w) = absurd (let other = sym w.0 ∙ none in cc other)
+
+    pub is_done : IsDone keeping t served words end
+    unfolding done
+    is_done = record {
+      done = done;
+      told = λ clients bytes earlier h none left before.
+          let so = done (Report clients) h none in
+          is_reported keeping t.read t.before t.after clients bytes earlier so.0 t.written.new left so.1 (subst (λ o. Appends o t.written.new so.0) before so.2);
+    }
+
+    -- WHAT IS CALLED FOR IS ANSWERED
+
+    unless : (read_rose keeper_rose : Type 0) (wanted : Status) → IsCalled keeping read_rose keeper_rose call.due wanted → IsUnlessRefused read_rose (Rose t.written.faults t.written.now) keeper_rose wanted end
+    unless read_rose keeper_rose wanted h = go call.told h
+      where
+        go : IsWritten call.due t.written end → IsCalled keeping read_rose keeper_rose call.due wanted → IsUnlessRefused read_rose (Rose t.written.faults t.written.now) keeper_rose wanted end
+        go (inl w) (inl same) = inl (w.0 ∙ same)
+        go (inl w) (inr (inl failed)) = inr (inl (w.0 ∙ failed.0, failed.1))
+        go (inl w) (inr (inr (inl failed))) = inr (inr (inr (inl (w.0 ∙ failed.0, failed.1))))
+        go (inl w) (inr (inr (inr refused))) = inr (inr (inr (inr (w.0 ∙ refused))))
+        go (inr w) h = inr (inr (inl (w.0, w.1)))
+
+    refused : AskNothing served words → (end ≡ status.Usage) ⊎ (end ≡ status.WriteFailed)
+    refused none = by_asked call.asked call.asks call.is call.told
+      where
+        by_asked : (asked : Option Asked) → ((a : Asked) → (asked ≡ Some a) ↔ IsAsked served a words) → IsDue keeping asked t.read t.before t.after call.due → IsWritten call.due t.written end → (end ≡ status.Usage) ⊎ (end ≡ status.WriteFailed)
+        by_asked (Some a) asks is told = absurd (none a ((asks a).0 refl))
+        by_asked None asks is (inl w) = inl (w.0 ∙ ap status_due is.0)
+        by_asked None asks is (inr w) = inr w.0
+
+    pub answers_all : length t.before ≡ 8 → Answers keeping t served words end
+    answers_all eight = record {
+      nothing = refused;
+      unrun = λ n h. generated_leaves keeping t.read t.before t.after n call.due (is_for (Generate n) h);
+      complete = λ clients bytes wanted h told calls. unless _ _ wanted (report_called keeping t.read t.before t.after clients bytes call.due wanted eight told (is_for (Report clients) h) calls);
+      generates = λ n h. unless _ _ status.Done (generated_called keeping t.read t.before t.after n call.due (is_for (Generate n) h));
+      summarizes = λ n h. unless _ _ status.Done (summary_called keeping t.read t.before t.after n call.due eight (is_for (Summarize n) h));
+    }

@@ -13,10 +13,10 @@ use Rattle.top_call.specs.Answers.{IsReportOver, IsSummaryOver}
 
 module _ {K : Type 0} (keeping : Keeping K) (script : Script) (before after : List K) where
   report_over : (text : List ℕ) → kept.IsReportOver six_kinds byte_of history_spelled keeping script before after text → IsReportOver keeping script before after text
-  report_over text h = record { run = h; settles = λ loads. (h.whole loads).settles (λ kind owner r other entry apart. six_stay kind owner r other entry) }
+  report_over text h = record { run = h; settles = λ plain loads. ((h.whole loads).plain plain).run.settles (λ kind owner r other entry apart. six_stay kind owner r other entry) }
 
   summary_over : (text : List ℕ) → kept.IsSummaryOver six_kinds byte_of history_spelled keeping script before after text → IsSummaryOver keeping script before after text
-  summary_over text h = record { run = h; settles = λ loads. (h.whole loads).settles (λ kind owner r other entry apart. six_stay kind owner r other entry) }
+  summary_over text h = record { run = h; settles = λ loads. (h.whole loads).run.settles (λ kind owner r other entry apart. six_stay kind owner r other entry) }
 
   -- a run that ends so ends so too, if what is said of its text follows
   ends_so : (P Q : Script → List K → List K → List ℕ → Type 0) → ((text : List ℕ) → P script before after text → Q script before after text)

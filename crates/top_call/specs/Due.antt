@@ -1,23 +1,23 @@
 -- What is to be written, why, and the status.
-use Rattle.std.specs.Prelude.{◌≡◌, ℕ, List, [], codes, String, string_bytes}
-use Rattle.std.specs.declared.alloc.Global.{Global}
-use Rattle.std.specs.declared.option.Option.{Option}
+use Rattle.std.specs.Prelude.{◌≡◌, ℕ, List, [], codes, Option, None, Some, string_bytes, ◌⊎◌}
+use Rattle.std.specs.Io.KnownBytes.{Appends}
 use Rattle.base_outside.specs.Causes.{Rose}
-use Rattle.base_outside.specs.Transfers.{ReadsUpTo}
+use Rattle.base_outside.specs.Transfers.{ReadsUpTo, AppendsPrefix}
 use Rattle.member_keeper.specs.declared.keeper.Keeper.{Ghosts as Keeping}
 use Rattle.script_generated.specs.Texts.{generated_text}
 use Rattle.report_lines.specs.declared.playing.Ending.{Ending}
 use Rattle.report_lines.specs.declared.playing.Ending.TheVariants as ending
+use Rattle.script_reading.specs.declared.clients.Clients.{Clients}
 use Rattle.script_reading.specs.declared.read.ScriptError.{ScriptError}
 use Rattle.script_reading.specs.declared.read.ScriptError.TheVariants as error
 use Rattle.top_call.specs.Answers.{not_a_script_text, HasNoJson, TellsRule, IsTooLong, Fulfils, CannotClear, not_cleared_text, limit}
-use Rattle.top_call.specs.Asking.{IsAsked, IsPlain, AskNothing}
+use Rattle.top_call.specs.Passages.{Passage}
 use Rattle.top_call.specs.declared.due.Due.{Due}
 use Rattle.top_call.specs.declared.due.Due.TheVariants.{Fulfilled, NotCleared, BadWords, NotJson, NotAScript, ReadFailed, TooLong, Memory}
 use Rattle.top_call.specs.declared.status.Status.{Status}
 use Rattle.top_call.specs.declared.status.Status.TheVariants as status
 use Rattle.top_call.specs.declared.words.Asked.{Asked}
-use Rattle.top_call.specs.declared.words.Asked.TheVariants.{Plain}
+use Rattle.top_call.specs.declared.words.Asked.TheVariants.{Report, Generate, Summarize}
 
 abbrev pub text_due : Due → List ℕ
 text_due (Fulfilled text) = string_bytes text
@@ -39,23 +39,21 @@ status_due ReadFailed = status.ReadFailed
 status_due TooLong = status.TooLong
 status_due Memory = status.Memory
 
--- Why there is no script, by the bytes left and the count of faults.
-abbrev pub IsRefusal : (old new : Option (List ℕ)) → (before now : ℕ) → Due → Type 0
-IsRefusal old new before now (Fulfilled text) = ⊥
-IsRefusal old new before now (NotCleared text) = ⊥
-IsRefusal old new before now BadWords = ⊥
-IsRefusal old new before now NotJson = HasNoJson old new
-IsRefusal old new before now (NotAScript text) = TellsRule old new (string_bytes text)
-IsRefusal old new before now ReadFailed = Rose before now × ReadsUpTo old new limit
-IsRefusal old new before now TooLong = IsTooLong old new
-IsRefusal old new before now Memory = Unit {0}
+-- Why there is no script, by the source.
+abbrev pub IsRefusal : Clients → Passage → Due → Type 0
+IsRefusal clients read NotJson = HasNoJson read
+IsRefusal clients read (NotAScript text) = TellsRule clients read (string_bytes text)
+IsRefusal clients read ReadFailed = Rose read.faults read.now × ReadsUpTo read.old read.new limit
+IsRefusal clients read TooLong = IsTooLong read
+IsRefusal clients read Memory = Unit {0}
+IsRefusal clients read due = ⊥
 
 -- Why the bytes were not read.
-abbrev pub IsUnread : (old new : Option (List ℕ)) → (before now : ℕ) → Due → Type 0
-IsUnread old new before now ReadFailed = Rose before now × ReadsUpTo old new limit
-IsUnread old new before now TooLong = IsTooLong old new
-IsUnread old new before now Memory = Unit {0}
-IsUnread old new before now due = ⊥
+abbrev pub IsUnread : Passage → Due → Type 0
+IsUnread read ReadFailed = Rose read.faults read.now × ReadsUpTo read.old read.new limit
+IsUnread read TooLong = IsTooLong read
+IsUnread read Memory = Unit {0}
+IsUnread read due = ⊥
 
 -- What is due where no script was read of some bytes, unless memory was refused.
 abbrev pub IsFaultDue : ScriptError → Due → Type 0
@@ -79,23 +77,23 @@ IsScriptDue n due = ⊥
 
 module _ {K : Type 0} (keeping : Keeping K) where
   -- When each is due for what was asked. Where no script is run, the keepers stay.
-  abbrev pub IsDueFor : Asked → (old new : Option (List ℕ)) → (faults_before faults_now : ℕ) → (before after : List K) → Due → Type 0
-  IsDueFor asked old new faults now before after (Fulfilled text) = Fulfils keeping asked old new before after (string_bytes text)
-  IsDueFor asked old new faults now before after (NotCleared text) = CannotClear keeping asked old new before after (string_bytes text)
-  IsDueFor asked old new faults now before after BadWords = ⊥
-  IsDueFor asked old new faults now before after NotJson = (asked ≡ Plain) × HasNoJson old new × (after ≡ before)
-  IsDueFor asked old new faults now before after (NotAScript text) = (asked ≡ Plain) × TellsRule old new (string_bytes text) × (after ≡ before)
-  IsDueFor asked old new faults now before after ReadFailed = (asked ≡ Plain) × Rose faults now × ReadsUpTo old new limit × (after ≡ before)
-  IsDueFor asked old new faults now before after TooLong = (asked ≡ Plain) × IsTooLong old new × (after ≡ before)
-  IsDueFor asked old new faults now before after Memory = Unit {0}
+  abbrev pub IsDueFor : Asked → Passage → (before after : List K) → Due → Type 0
+  IsDueFor asked read before after (Fulfilled text) = Fulfils keeping asked read before after (string_bytes text)
+  IsDueFor asked read before after (NotCleared text) = CannotClear keeping asked read before after (string_bytes text)
+  IsDueFor asked read before after BadWords = ⊥
+  IsDueFor (Report clients) read before after Memory = Unit {0}
+  IsDueFor (Report clients) read before after due = IsRefusal clients read due × (after ≡ before)
+  IsDueFor (Generate n) read before after Memory = after ≡ before
+  IsDueFor (Summarize n) read before after Memory = Unit {0}
+  IsDueFor asked read before after due = ⊥
 
-  -- When each is due for the words.
-  abbrev pub IsDue : List (String Global) → (old new : Option (List ℕ)) → (faults_before faults_now : ℕ) → (before after : List K) → Due → Type 0
-  IsDue words old new faults now before after (Fulfilled text) = (asked : Asked) × IsAsked asked words × Fulfils keeping asked old new before after (string_bytes text)
-  IsDue words old new faults now before after (NotCleared text) = (asked : Asked) × IsAsked asked words × CannotClear keeping asked old new before after (string_bytes text)
-  IsDue words old new faults now before after BadWords = AskNothing words × (after ≡ before)
-  IsDue words old new faults now before after NotJson = IsPlain words × HasNoJson old new × (after ≡ before)
-  IsDue words old new faults now before after (NotAScript text) = IsPlain words × TellsRule old new (string_bytes text) × (after ≡ before)
-  IsDue words old new faults now before after ReadFailed = IsPlain words × Rose faults now × ReadsUpTo old new limit × (after ≡ before)
-  IsDue words old new faults now before after TooLong = IsPlain words × IsTooLong old new × (after ≡ before)
-  IsDue words old new faults now before after Memory = (asked : Asked) × IsAsked asked words
+  -- When each is due for what was asked, if anything was.
+  abbrev pub IsDue : Option Asked → Passage → (before after : List K) → Due → Type 0
+  IsDue (Some asked) read before after due = IsDueFor asked read before after due
+  IsDue None read before after due = (due ≡ BadWords) × (after ≡ before)
+
+-- It was written, and its status is told, or a write failed in it.
+abbrev pub IsWritten : Due → Passage → Status → Type 0
+IsWritten due written end =
+    ((end ≡ status_due due) × Appends written.old written.new (text_due due))
+    ⊎ ((end ≡ status.WriteFailed) × Rose written.faults written.now × AppendsPrefix written.old written.new (text_due due))

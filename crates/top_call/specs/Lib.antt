@@ -2,5 +2,6 @@ pub mod Answers
 pub mod Asking
 pub mod Due
 pub mod EachRun
-pub mod Running
+pub mod Passages
+pub mod Serving
 pub mod Status

@@ -1,19 +1,21 @@
-ghost use Rattle.std.specs.Prelude.{◌≡◌, ℕ, ◌≤◌, List, Option, length, IfOk, IfErr};
-ghost use Rattle.script_reading.specs.WellFormed.{IsWellFormed};
+ghost use Rattle.std.specs.Prelude.{◌≡◌, ◌≢◌, ◌≤◌, Some, length, All, IfOk, IfErr, IfSome};
+ghost use Rattle.script_reading.specs.declared.clients.Clients.{Clients};
+ghost use Rattle.script_reading.specs.WellFormed.{HasNoClients, IsAllowed, IsWellFormed};
 ghost use Rattle.report_lines.specs.Kept.{AreKept, IsPlayed};
 ghost use Rattle.top_call.specs.Answers.{ReadsScript, HasScript, IsReportOver, IsSummaryOver};
-ghost use Rattle.top_call.specs.Asking.{IsAsked, IsPlain, most_steps};
+ghost use Rattle.top_call.specs.Asking.{IsCounted, IsNoReport, most_steps};
 ghost use Rattle.top_call.specs.Due.{IsUnread, IsFaultDue, IsRefusal, IsToldBy, IsScriptDue, IsDueFor, IsDue};
-ghost use Rattle.top_call.specs.declared.words.Asked.TheVariants as asked;
+ghost use Rattle.top_call.specs.Passages.{Passage, reading};
+ghost use Rattle.top_call.specs.declared.words.Asked.TheVariants as is_asked;
 
 use crate::due::Due;
-use crate::words::{Asked, asked_by};
+use crate::words::Asked;
 use base_outside::{ReadAllError, Source, read_all};
 use data_value::Data;
 use member_keeper::Keeper;
 use report_lines::{Ending, Played, report, summary};
 use script_generated::{generated, generated_text};
-use script_reading::{Script, ScriptError, read_script};
+use script_reading::{Clients, Script, ScriptError, read_script};
 use std::alloc::Global;
 
 /// The most bytes of a script.
@@ -27,9 +29,9 @@ pub struct Answer<K> {
 }
 
 /// The bytes of the source, or what is due in their place.
-pub(crate) fn bytes_of<S: Source>(alloc: Global, source: &mut S) -> Result<Vec<u8>, Due>
-    ensures read { IfOk result (λ bytes. ReadsScript (S.left source.old) (S.left source.new) bytes.items) }
-    ensures refused { IfErr result (IsUnread (S.left source.old) (S.left source.new) (S.faults source.old) (S.faults source.new)) }
+fn bytes_of<S: Source>(alloc: Global, source: &mut S) -> Result<Vec<u8>, Due>
+    ensures read { IfOk result (λ bytes. ReadsScript (reading S.Source.own source.old source.new) bytes.items) }
+    ensures refused { IfErr result (IsUnread (reading S.Source.own source.old source.new)) }
     ensures later { S.faults source.old ≤ S.faults source.new }
 {
     match read_all(alloc, source, LIMIT) {
@@ -41,7 +43,7 @@ pub(crate) fn bytes_of<S: Source>(alloc: Global, source: &mut S) -> Result<Vec<u
 }
 
 /// What is due where the bytes are no script.
-pub(crate) fn due_of(alloc: Global, error: ScriptError) -> Due
+fn due_of(alloc: Global, error: ScriptError) -> Due
     ensures { IsFaultDue error result }
 {
     match error {
@@ -56,26 +58,31 @@ pub(crate) fn due_of(alloc: Global, error: ScriptError) -> Due
     }
 }
 
-/// The script on the source, or what is due in its place.
-#[tactic(auto, using(crate::proofs::RunAnswers::unread_refuses, crate::proofs::RunAnswers::fault_refuses))]
-fn script<S: Source>(alloc: Global, source: &mut S) -> Result<Script, Due>
-    ensures script { IfOk result (HasScript (S.left source.old) (S.left source.new)) }
+/// The script on the source, with clients where these are allowed, or what is due in its place.
+#[tactic(auto, using(crate::proofs::Refusals::unread_refuses, crate::proofs::Refusals::fault_refuses))]
+pub(crate) fn script<S: Source>(
+    alloc: Global,
+    clients: Clients,
+    source: &mut S,
+) -> Result<Script, Due>
+    ensures script { IfOk result (HasScript clients (reading S.Source.own source.old source.new)) }
     ensures bounds { IfOk result IsWellFormed }
-    ensures refused { IfErr result (IsRefusal (S.left source.old) (S.left source.new) (S.faults source.old) (S.faults source.new)) }
+    ensures allowed { IfOk result (λ script. All (IsAllowed clients) script.steps) }
+    ensures refused { IfErr result (IsRefusal clients (reading S.Source.own source.old source.new)) }
     ensures later { S.faults source.old ≤ S.faults source.new }
 {
     let bytes = match bytes_of(alloc, source) {
         Ok(bytes) => bytes,
         Err(due) => return Err(due),
     };
-    match read_script(alloc, &bytes) {
+    match read_script(alloc, clients, &bytes) {
         Ok(script) => Ok(script),
         Err(error) => Err(due_of(alloc, error)),
     }
 }
 
 /// What is due for a run that ended so.
-pub(crate) fn told(alloc: Global, ending: Ending) -> Due
+fn ending_due(alloc: Global, ending: Ending) -> Due
     ensures { IsToldBy ending result }
 {
     match ending {
@@ -88,43 +95,51 @@ pub(crate) fn told(alloc: Global, ending: Ending) -> Due
     }
 }
 
-/// Plays a script over values of the six kinds, and tells its report.
+/// What is due for a script's run, and its keepers.
+pub(crate) fn told<K>(alloc: Global, played: Played<K>) -> Answer<K>
+    ensures due { IsToldBy played.ending result.due }
+    ensures keepers { result.keepers ≡ played.keepers }
+{
+    let Played { ending, keepers } = played;
+    Answer {
+        due: ending_due(alloc, ending),
+        keepers,
+    }
+}
+
+/// Plays a script without clients over values of the six kinds, and tells its report.
 fn play<K: Keeper + Drop>(alloc: Global, script: &Script, keepers: Vec<K>) -> Played<K>
     requires script { IsWellFormed script.now }
+    requires plain { HasNoClients script.now }
     requires keepers { length keepers.items ≡ 8 }
     ensures { IsPlayed K.Keeper.own (IsReportOver K.Keeper.own) script.now keepers.items result.keepers.items result.ending }
 {
     report::<Data, K>(alloc, script, keepers)
 }
 
-/// Plays a script over values of the six kinds, and tells the end of its report.
+/// Plays a script without clients over values of the six kinds, and tells the end of its report.
 fn play_to_the_end<K: Keeper + Drop>(alloc: Global, script: &Script, keepers: Vec<K>) -> Played<K>
     requires script { IsWellFormed script.now }
+    requires plain { HasNoClients script.now }
     requires keepers { length keepers.items ≡ 8 }
     ensures { IsPlayed K.Keeper.own (IsSummaryOver K.Keeper.own) script.now keepers.items result.keepers.items result.ending }
 {
     summary::<Data, K>(alloc, script, keepers)
 }
 
-/// What is due where the report of the script on the source is asked for.
+/// What is due where the report of the script on the source is asked for, which may have no clients.
 fn report_due<S: Source, K: Keeper + Drop>(
     alloc: Global,
     source: &mut S,
     keepers: Vec<K>,
 ) -> Answer<K>
     requires { length keepers.items ≡ 8 }
-    ensures due { IsDueFor K.Keeper.own asked.Plain (S.left source.old) (S.left source.new) (S.faults source.old) (S.faults source.new) keepers.items result.keepers.items result.due }
+    ensures due { IsDueFor K.Keeper.own (is_asked.Report Clients.Refused) (reading S.Source.own source.old source.new) keepers.items result.keepers.items result.due }
     ensures kept { AreKept K.Keeper.own keepers.items result.keepers.items }
     ensures later { S.faults source.old ≤ S.faults source.new }
 {
-    match script(alloc, source) {
-        Ok(script) => {
-            let Played { ending, keepers } = play(alloc, &script, keepers);
-            Answer {
-                due: told(alloc, ending),
-                keepers,
-            }
-        }
+    match script(alloc, Clients::Refused, source) {
+        Ok(script) => told(alloc, play(alloc, &script, keepers)),
         Err(due) => Answer { due, keepers },
     }
 }
@@ -146,17 +161,11 @@ fn summary_due<K: Keeper + Drop>(alloc: Global, n: u32, keepers: Vec<K>) -> Answ
     requires low { 1 ≤ n }
     requires high { n ≤ most_steps }
     requires keepers { length keepers.items ≡ 8 }
-    ensures due { (old new : Option (List ℕ)) (faults now : ℕ) → IsDueFor K.Keeper.own (asked.Summarize n) old new faults now keepers.items result.keepers.items result.due }
+    ensures due { (read : Passage) → IsDueFor K.Keeper.own (is_asked.Summarize n) read keepers.items result.keepers.items result.due }
     ensures kept { AreKept K.Keeper.own keepers.items result.keepers.items }
 {
     match generated(alloc, n) {
-        Ok(script) => {
-            let Played { ending, keepers } = play_to_the_end(alloc, &script, keepers);
-            Answer {
-                due: told(alloc, ending),
-                keepers,
-            }
-        }
+        Ok(script) => told(alloc, play_to_the_end(alloc, &script, keepers)),
         Err(_) => Answer {
             due: Due::Memory,
             keepers,
@@ -164,27 +173,49 @@ fn summary_due<K: Keeper + Drop>(alloc: Global, n: u32, keepers: Vec<K>) -> Answ
     }
 }
 
-/// What is due for the words, the bytes of the source and the keepers.
-pub fn due<S: Source, K: Keeper + Drop>(
+/// What is due for this, the bytes of the source and the keepers, if no script with clients is asked for.
+fn due_for<S: Source, K: Keeper + Drop>(
     alloc: Global,
-    words: &[String],
+    asked: Asked,
     source: &mut S,
     keepers: Vec<K>,
 ) -> Answer<K>
-    requires { length keepers.items ≡ 8 }
-    ensures due { IsDue K.Keeper.own words.now (S.left source.old) (S.left source.new) (S.faults source.old) (S.faults source.new) keepers.items result.keepers.items result.due }
+    requires plain { asked ≢ is_asked.Report Clients.Allowed }
+    requires counted { IsCounted asked }
+    requires keepers { length keepers.items ≡ 8 }
+    ensures due { IsDueFor K.Keeper.own asked (reading S.Source.own source.old source.new) keepers.items result.keepers.items result.due }
     ensures kept { AreKept K.Keeper.own keepers.items result.keepers.items }
-    ensures unread { (IsPlain words.now → ⊥) → source.new ≡ source.old }
-    ensures unrun { (n : ℕ) → IsAsked (asked.Generate n) words.now → result.keepers.items ≡ keepers.items }
+    ensures unread { asked ≢ is_asked.Report Clients.Refused → source.new ≡ source.old }
     ensures later { S.faults source.old ≤ S.faults source.new }
 {
-    match asked_by(words) {
-        Some(Asked::Plain) => report_due(alloc, source, keepers),
-        Some(Asked::Generate(n)) => Answer {
+    match asked {
+        Asked::Report(Clients::Refused) => report_due(alloc, source, keepers),
+        Asked::Report(Clients::Allowed) => unreachable!(),
+        Asked::Generate(n) => Answer {
             due: script_due(alloc, n),
             keepers,
         },
-        Some(Asked::Summarize(n)) => summary_due(alloc, n, keepers),
+        Asked::Summarize(n) => summary_due(alloc, n, keepers),
+    }
+}
+
+/// What is due for what was asked, the bytes of the source and the keepers, if no script with clients was asked for.
+pub(crate) fn due<S: Source, K: Keeper + Drop>(
+    alloc: Global,
+    asked: Option<Asked>,
+    source: &mut S,
+    keepers: Vec<K>,
+) -> Answer<K>
+    requires plain { asked ≢ Some (is_asked.Report Clients.Allowed) }
+    requires counted { IfSome asked IsCounted }
+    requires keepers { length keepers.items ≡ 8 }
+    ensures due { IsDue K.Keeper.own asked (reading S.Source.own source.old source.new) keepers.items result.keepers.items result.due }
+    ensures kept { AreKept K.Keeper.own keepers.items result.keepers.items }
+    ensures unread { IsNoReport asked → source.new ≡ source.old }
+    ensures later { S.faults source.old ≤ S.faults source.new }
+{
+    match asked {
+        Some(asked) => due_for(alloc, asked, source, keepers),
         None => Answer {
             due: Due::BadWords,
             keepers,

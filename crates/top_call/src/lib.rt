@@ -10,7 +10,6 @@ mod top;
 mod words;
 
 pub use laws::{reads_of_runs_include_writes, settles_of_runs_are_so};
-pub use running::replicate;
 pub use status::Status;
-pub use top::{Outcome, replicate_plain};
+pub use top::{Outcome, replicate, replicate_plain};
 pub use words::Asked;

@@ -1,12 +1,14 @@
-ghost use Rattle.std.specs.Prelude.{◌≡◌, ◌↔◌, ℕ, Some};
-ghost use Rattle.top_call.specs.Asking.{IsCount, IsAsked};
+ghost use Rattle.std.specs.Prelude.{◌≡◌, ◌↔◌, ℕ, [], ◌∷◌, Some, IfSome};
+ghost use Rattle.top_call.specs.Asking.{Ask, IsCount, IsCounted, IsAsked};
 ghost use Rattle.top_call.specs.declared.words.Asked.{Asked};
+
+use script_reading::Clients;
 
 /// What the words of the command line ask for.
 #[derive(Clone, Copy, Debug, PartialEq, Eq)]
 pub enum Asked {
-    /// The report of the script on the source.
-    Plain,
+    /// The report of the script on the source, which may have clients, by `run`, or may have none, by `plain`.
+    Report(Clients),
     /// The generated script of so many steps, its last two apart.
     Generate(u32),
     /// The final block of that script's run.
@@ -30,18 +32,25 @@ fn count(word: &str) -> Option<u32>
     }
 }
 
-/// What the words ask for, if they ask for anything.
-pub fn asked_by(words: &[String]) -> Option<Asked>
-    ensures { (asked : Asked) → (result ≡ Some asked) ↔ IsAsked asked words.now }
+/// What one word asks for.
+fn asked_alone(clients: Clients, word: &str) -> Option<Asked>
+    ensures asked { (asked : Asked) → (result ≡ Some asked) ↔ Ask clients asked (word.now ∷ []) }
+    ensures counted { IfSome result IsCounted }
+{
+    match (clients, word) {
+        (_, "plain") => Some(Asked::Report(Clients::Refused)),
+        (Clients::Allowed, "run") => Some(Asked::Report(Clients::Allowed)),
+        _ => None,
+    }
+}
+
+/// What the words ask for, if they ask for anything. Where no clients are allowed, `run` asks for nothing.
+pub fn asked_by(clients: Clients, words: &[String]) -> Option<Asked>
+    ensures asked { (asked : Asked) → (result ≡ Some asked) ↔ IsAsked clients asked words.now }
+    ensures counted { IfSome result IsCounted }
 {
     match words {
-        [word] => {
-            if word.as_str() == "plain" {
-                Some(Asked::Plain)
-            } else {
-                None
-            }
-        }
+        [word] => asked_alone(clients, word.as_str()),
         [word, number] => {
             let n = count(number.as_str())?;
             match word.as_str() {

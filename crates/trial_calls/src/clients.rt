@@ -1,12 +1,7 @@
 //! What is read of the clients of a script, and which rule is told first.
 
-use crate::scripts::{
-    check_told, fault_told, get_line, parts, update_line, with_steps, word_at, word_at_with,
-    word_between,
-};
-use script_reading::{
-    Client, Command, Repeated, RunStep, ScriptError, read_run_script, read_script,
-};
+use crate::scripts::{ask_line, check_told, fault_told, parts, with_steps};
+use script_reading::{Client, Clients, Repeated, RunStep, Script, ScriptError, read_script};
 use std::alloc::Global;
 use std::test::Fail;
 
@@ -65,7 +60,7 @@ tick 1 times 6: {"at":1,"do":"tick","times":6}
 install 1 4294967295 times 7: {"at":1,"do":"install","times":7,"view":4294967295}"#;
 
 /// What is said of a script that was read, or of its fault.
-fn outcome_told<T: Drop>(alloc: Global, read: Result<T, ScriptError>) -> Result<String, Fail> {
+fn outcome_told(alloc: Global, read: Result<Script, ScriptError>) -> Result<String, Fail> {
     match read {
         Ok(_) => Ok(String::from_str(alloc, "read")?),
         Err(fault) => fault_told(alloc, fault),
@@ -73,9 +68,9 @@ fn outcome_told<T: Drop>(alloc: Global, read: Result<T, ScriptError>) -> Result<
 }
 
 /// That this is said of a script that was read, or of its fault.
-fn check_outcome<T: Drop>(
+fn check_outcome(
     alloc: Global,
-    read: Result<T, ScriptError>,
+    read: Result<Script, ScriptError>,
     want: &str,
     at: &str,
 ) -> Result<(), Fail> {
@@ -83,19 +78,8 @@ fn check_outcome<T: Drop>(
     check_told(alloc, told.as_str(), want, at)
 }
 
-fn command_line(alloc: Global, command: &Command) -> Result<String, Fail> {
-    match command {
-        Command::Update { at, key, op, level } => update_line(alloc, *at, key, op, *level),
-        Command::Get { at, key, level } => get_line(alloc, *at, key, *level),
-        Command::Flush { at } => word_at(alloc, "flush", *at),
-        Command::Gossip { at, to } => word_between(alloc, "gossip", *at, *to),
-        Command::Tick { at } => word_at(alloc, "tick", *at),
-        Command::Install { at, view } => word_at_with(alloc, "install", *at, u64::from(*view)),
-    }
-}
-
 fn line(alloc: Global, repeated: &Repeated) -> Result<String, Fail> {
-    let command = command_line(alloc, &repeated.command)?;
+    let command = ask_line(alloc, repeated.command.at, &repeated.command.ask)?;
     let line = format!(in alloc; "{command} times {}", repeated.times)?;
     Ok(line)
 }
@@ -107,9 +91,9 @@ fn with_second(alloc: Global, step: &str) -> Result<String, Fail> {
 }
 
 /// That a script is refused for what a rule says of its second step.
-fn check_rule<T: Drop>(
+fn check_rule(
     alloc: Global,
-    read: Result<T, ScriptError>,
+    read: Result<Script, ScriptError>,
     rule: &str,
     step: &str,
 ) -> Result<(), Fail> {
@@ -122,8 +106,18 @@ fn check_refused(alloc: Global, row: &str) -> Result<(), Fail> {
     let (rule, step) = parts(row)?;
     let text = with_second(alloc, step)?;
     let bytes = text.as_bytes();
-    check_rule(alloc, read_run_script(alloc, bytes), rule, step)?;
-    check_rule(alloc, read_script(alloc, bytes), rule, step)
+    check_rule(
+        alloc,
+        read_script(alloc, Clients::Allowed, bytes),
+        rule,
+        step,
+    )?;
+    check_rule(
+        alloc,
+        read_script(alloc, Clients::Refused, bytes),
+        rule,
+        step,
+    )
 }
 
 #[test]
@@ -169,7 +163,7 @@ fn all_told(alloc: Global, steps: &[RunStep]) -> Result<String, Fail> {
 /// That this is said of the steps of a script.
 fn check_read(alloc: Global, steps: &str, want: &str) -> Result<(), Fail> {
     let text = with_steps(alloc, steps)?;
-    let script = read_run_script(alloc, text.as_bytes())?;
+    let script = read_script(alloc, Clients::Allowed, text.as_bytes())?;
     let told = all_told(alloc, script.steps.as_slice())?;
     check_told(alloc, told.as_str(), want, steps)
 }
@@ -196,6 +190,16 @@ fn reads_clients_among_plain_steps(rt: HostRuntime) -> Result<(), Fail> {
         r#"{"do":"round"},{"do":"threads","clients":[[{"do":"flush","at":0,"times":2},{"do":"tick","at":1}],[{"do":"gossip","at":1,"to":0}]]},{"do":"settle"}"#;
     let want = "plain\nclient flush 0 times 2 tick 1 times 1\nclient gossip 1 0 times 1\nplain\n";
     check_read(alloc, steps, want)?;
-    check_outcome(alloc, read_run_script(alloc, b"[]"), "step 0 rule 1", "[]")?;
-    check_outcome(alloc, read_run_script(alloc, b"["), "not json", "[")
+    check_outcome(
+        alloc,
+        read_script(alloc, Clients::Allowed, b"[]"),
+        "step 0 rule 1",
+        "[]",
+    )?;
+    check_outcome(
+        alloc,
+        read_script(alloc, Clients::Allowed, b"["),
+        "not json",
+        "[",
+    )
 }

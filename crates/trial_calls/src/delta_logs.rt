@@ -2,7 +2,8 @@
 
 ghost use Rattle.std.specs.Prelude.{◌≡◌, ◌≤◌, IfSome};
 
-use base_vectors::{Id, Memory, Seq, VersionVector};
+use base_bytes::Memory;
+use base_vectors::{Id, Seq, VersionVector};
 use data_counters::{Amount, GCounter, Share};
 use data_deltalog::{DeltaLog, Grouped};
 use std::alloc::Global;

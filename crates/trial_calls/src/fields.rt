@@ -2,7 +2,7 @@
 
 ghost use Rattle.std.specs.Prelude.{◌≤◌, length};
 
-use base_bytes::{Items, ReadError, Spelled, Text, TextError};
+use base_bytes::{Items, ReadError, Spelled, Text, TooLong};
 use std::alloc::Global;
 use std::fmt::Debug;
 use std::process::Abort;
@@ -11,8 +11,8 @@ use std::test::Fail;
 const LONGEST: &str = "0123456789abcdef0123456789abcdef0123456789abcdef0123456789abcde";
 
 /// A text is kept, and its copy is equal.
-fn check_copied(rt: &impl Abort, alloc: Global, text: &str) -> Result<(), Fail> {
-    let copy = Text::new(alloc, text)?.copy(alloc)?;
+fn check_copied(rt: &impl Abort, text: &str) -> Result<(), Fail> {
+    let copy = Text::new(text)?.copied();
     assert_eq!(rt; copy.as_str(), text);
     Ok(())
 }
@@ -21,13 +21,10 @@ fn check_copied(rt: &impl Abort, alloc: Global, text: &str) -> Result<(), Fail> 
 fn keeps_texts(rt: HostRuntime) -> Result<(), Fail> {
     let alloc = rt.alloc();
     for text in ["", "rice 1 kg", "\u{e9}t\u{e9}", LONGEST] {
-        check_copied(&rt, alloc, text)?;
+        check_copied(&rt, text)?;
     }
     let too_long = format!(in alloc; "{LONGEST}\u{e9}")?;
-    assert_eq!(rt;
-        Text::new(alloc, too_long.as_str()).err(),
-        Some(TextError::TooLong)
-    );
+    assert_eq!(rt; Text::new(too_long.as_str()).err(), Some(TooLong));
     Ok(())
 }
 
@@ -55,7 +52,7 @@ fn spell_fields(alloc: Global, into: &mut Vec<u8>) -> Result<(), Fail> {
     200u8.spell(into)?;
     66_051u32.spell(into)?;
     283_686_952_306_183u64.spell(into)?;
-    Text::new(alloc, "h\u{e9}")?.spell(into)?;
+    Text::new("h\u{e9}")?.spell(into)?;
     Ok(())
 }
 

@@ -1,7 +1,7 @@
 //! Generated scripts and their text.
 
 use script_generated::{generated, generated_text};
-use script_reading::{Script, Step};
+use script_reading::{RunStep, Script, Step};
 use std::test::Fail;
 
 // What the script of one step says.
@@ -38,7 +38,10 @@ fn writes_each_form_of_step(rt: HostRuntime) -> Result<(), Fail> {
 
 /// How many members, keys and steps a script has, and whether its last step is a settle.
 fn shape(script: &Script) -> (u8, usize, usize, bool) {
-    let settles = matches!(script.steps.as_slice().last(), Some(Step::Settle));
+    let settles = matches!(
+        script.steps.as_slice().last(),
+        Some(RunStep::Plain(Step::Settle))
+    );
     (
         script.members,
         script.keys.len(),

@@ -10,7 +10,7 @@ use std::process::Abort;
 use std::test::Fail;
 
 fn entry(alloc: Global, key: &str, bytes: &[u8]) -> Result<Stored, Fail> {
-    match Text::new(alloc, key) {
+    match Text::new(key) {
         Ok(key) => Ok(Stored {
             key,
             bytes: Items::from_vec(Vec::from_slice(alloc, bytes)?),

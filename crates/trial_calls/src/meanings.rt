@@ -48,18 +48,18 @@ fn past(alloc: Global, counts: Counts) -> Result<VersionVector, Fail> {
 }
 
 /// The writing of a text.
-fn assigned(alloc: Global, text: &str, now: u64) -> Result<Op, Fail> {
-    let text = Text::new(alloc, text)?;
+fn assigned(text: &str, now: u64) -> Result<Op, Fail> {
+    let text = Text::new(text)?;
     let now = Moment::new(now).ok_or("moment")?;
     Ok(Op::Assign { text, now })
 }
 
 /// What a record did, as an action.
-fn action(alloc: Global, act: Act) -> Result<Action, Fail> {
+fn action(act: Act) -> Result<Action, Fail> {
     let op = match act {
-        Act::Add(element) => Op::Add(Text::new(alloc, element)?),
-        Act::Remove(element) => Op::Remove(Text::new(alloc, element)?),
-        Act::Assign(text, now) => assigned(alloc, text, now)?,
+        Act::Add(element) => Op::Add(Text::new(element)?),
+        Act::Remove(element) => Op::Remove(Text::new(element)?),
+        Act::Assign(text, now) => assigned(text, now)?,
         Act::Prune(removed) => return Ok(Action::Prune(id(removed)?)),
     };
     Ok(Action::Operation(op))
@@ -70,7 +70,7 @@ fn record(alloc: Global, row: &Row) -> Result<Record, Fail> {
     let (origin, number, act, counts) = row;
     let origin = id(*origin)?;
     let past = past(alloc, counts)?;
-    let action = action(alloc, *act)?;
+    let action = action(*act)?;
     Ok(Record {
         origin,
         number: *number,

@@ -4,7 +4,7 @@ use base_bytes::Text;
 use base_vectors::Id;
 use member_quorum::Level;
 use model_kinds::{Moment, Op};
-use script_reading::{Script, ScriptError, ScriptKey, Step, read_script};
+use script_reading::{Ask, Clients, RunStep, Script, ScriptError, ScriptKey, Step, read_script};
 use std::alloc::Global;
 use std::fmt::Display;
 use std::test::Fail;
@@ -208,7 +208,7 @@ fn sizes_told(alloc: Global, script: &Script) -> Result<String, Fail> {
 
 // What is said of a script: its fault, or how many members, keys and steps it has.
 fn told(alloc: Global, text: &str) -> Result<String, Fail> {
-    match read_script(alloc, text.as_bytes()) {
+    match read_script(alloc, Clients::Refused, text.as_bytes()) {
         Ok(script) => sizes_told(alloc, &script),
         Err(fault) => fault_told(alloc, fault),
     }
@@ -255,13 +255,7 @@ fn word(alloc: Global, word: &str) -> Result<String, Fail> {
 }
 
 /// An update, and its level if it is not local.
-pub fn update_line(
-    alloc: Global,
-    at: Id,
-    key: &Text,
-    op: &Op,
-    level: Level,
-) -> Result<String, Fail> {
+fn update_line(alloc: Global, at: Id, key: &Text, op: &Op, level: Level) -> Result<String, Fail> {
     let op = operation_line(alloc, op)?;
     let level = level_tail(alloc, level)?;
     let line = format!(in alloc; "update {} {} {op}{level}", at.number(), key.as_str())?;
@@ -269,25 +263,25 @@ pub fn update_line(
 }
 
 /// A get, and its level if it is not local.
-pub fn get_line(alloc: Global, at: Id, key: &Text, level: Level) -> Result<String, Fail> {
+fn get_line(alloc: Global, at: Id, key: &Text, level: Level) -> Result<String, Fail> {
     let level = level_tail(alloc, level)?;
     let line = format!(in alloc; "get {} {}{level}", at.number(), key.as_str())?;
     Ok(line)
 }
 
 /// A word, and an identity after it.
-pub fn word_at(alloc: Global, word: &str, at: Id) -> Result<String, Fail> {
+fn word_at(alloc: Global, word: &str, at: Id) -> Result<String, Fail> {
     word_with(alloc, word, &at.number())
 }
 
 /// A word, and two identities after it.
-pub fn word_between(alloc: Global, word: &str, from: Id, to: Id) -> Result<String, Fail> {
+fn word_between(alloc: Global, word: &str, from: Id, to: Id) -> Result<String, Fail> {
     let line = format!(in alloc; "{word} {} {}", from.number(), to.number())?;
     Ok(line)
 }
 
 /// A word, and after it an identity and a number.
-pub fn word_at_with(alloc: Global, word: &str, at: Id, number: u64) -> Result<String, Fail> {
+fn word_at_with(alloc: Global, word: &str, at: Id, number: u64) -> Result<String, Fail> {
     let line = format!(in alloc; "{word} {} {number}", at.number())?;
     Ok(line)
 }
@@ -301,21 +295,28 @@ fn deliver_line(alloc: Global, from: Id, to: Id, index: Option<u32>) -> Result<S
     Ok(line)
 }
 
+/// What a member is asked.
+pub fn ask_line(alloc: Global, at: Id, ask: &Ask) -> Result<String, Fail> {
+    match ask {
+        Ask::Update { key, op, level } => update_line(alloc, at, key, op, *level),
+        Ask::Get { key, level } => get_line(alloc, at, key, *level),
+        Ask::Flush => word_at(alloc, "flush", at),
+        Ask::Gossip { to } => word_between(alloc, "gossip", at, *to),
+        Ask::Tick => word_at(alloc, "tick", at),
+        Ask::Install { view } => word_at_with(alloc, "install", at, u64::from(*view)),
+    }
+}
+
 fn line(alloc: Global, step: &Step) -> Result<String, Fail> {
     match step {
-        Step::Update { at, key, op, level } => update_line(alloc, *at, key, op, *level),
-        Step::Get { at, key, level } => get_line(alloc, *at, key, *level),
-        Step::Flush { at } => word_at(alloc, "flush", *at),
-        Step::Gossip { at, to } => word_between(alloc, "gossip", *at, *to),
+        Step::Ask { at, ask } => ask_line(alloc, *at, ask),
         Step::Deliver { from, to, index } => deliver_line(alloc, *from, *to, *index),
         Step::Lose { from, to } => word_between(alloc, "lose", *from, *to),
         Step::Round => word(alloc, "round"),
-        Step::Tick { at } => word_at(alloc, "tick", *at),
         Step::Timeout { at, op } => word_at_with(alloc, "timeout", *at, *op),
         Step::Remove { id } => word_at(alloc, "remove", *id),
         Step::Join { place } => word_with(alloc, "join", place),
         Step::Restart { id } => word_at(alloc, "restart", *id),
-        Step::Install { at, view } => word_at_with(alloc, "install", *at, u64::from(*view)),
         Step::Settle => word(alloc, "settle"),
     }
 }
@@ -353,9 +354,9 @@ fn tells_the_first_rule_that_a_script_breaks(rt: HostRuntime) -> Result<(), Fail
 }
 
 /// The line of the only step.
-fn only_line(alloc: Global, steps: &[Step]) -> Result<String, Fail> {
+fn only_line(alloc: Global, steps: &[RunStep]) -> Result<String, Fail> {
     match steps {
-        [step] => line(alloc, step),
+        [RunStep::Plain(step)] => line(alloc, step),
         _ => Err("no step".into()),
     }
 }
@@ -363,7 +364,7 @@ fn only_line(alloc: Global, steps: &[Step]) -> Result<String, Fail> {
 fn check_form(alloc: Global, row: &str) -> Result<(), Fail> {
     let (want, step) = parts(row)?;
     let text = with_steps(alloc, step)?;
-    let script = read_script(alloc, text.as_bytes())?;
+    let script = read_script(alloc, Clients::Refused, text.as_bytes())?;
     let line = only_line(alloc, script.steps.as_slice())?;
     check_told(alloc, line.as_str(), want, row)
 }
@@ -387,7 +388,7 @@ fn check_declared(keys: &[ScriptKey], want: &str) -> Result<(), Fail> {
 fn check_key(alloc: Global, row: &str) -> Result<(), Fail> {
     let (want, key) = parts(row)?;
     let text = format!(in alloc; "{{\"members\":1,\"keys\":[{key}],\"steps\":[]}}")?;
-    let script = read_script(alloc, text.as_bytes())?;
+    let script = read_script(alloc, Clients::Refused, text.as_bytes())?;
     check_declared(script.keys.as_slice(), want)
 }
 

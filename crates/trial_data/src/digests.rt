@@ -1,6 +1,6 @@
 ghost use Rattle.std.specs.Prelude.{◌≡◌, ◌+◌, true, false, OnOk};
 
-use base_vectors::Memory;
+use base_bytes::Memory;
 use data_codec::{Digested, Steps, digest};
 use data_envelope::Envelope;
 use data_lattice::{Replica, SpelledData};

@@ -1,4 +1,9 @@
 //! Trials: entries that take updates, merges, groups and prunes at random show what their records mean.
+//!
+//! # What is promised, and by which contract
+//!
+//! - Three questions for a digest, a change and a fourth question make two digests, of any entry
+//!   (`four_questions` of the trials).
 #![tactic(auto)]
 
 #[cfg(test)]

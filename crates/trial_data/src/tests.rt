@@ -20,7 +20,7 @@ fn update<T: Replica<Kind = Kind, Op = Op>>(
     random: &mut Random,
     at: usize,
 ) -> Result<(), Fail> {
-    let op = operation(alloc, kind, random)?;
+    let op = operation(kind, random)?;
     cluster.update(at, op)
 }
 

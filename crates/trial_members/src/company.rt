@@ -8,7 +8,7 @@ use member_views::{View, ViewList};
 use model_kinds::{Kind, Op};
 use std::alloc::Global;
 use std::test::Fail;
-use trial_parts::{Random, Records, copied_operation};
+use trial_parts::{Random, Records};
 
 /// Members of one key, some of which leave, messages on their way, and all records that were made.
 #[derive(Drop)]
@@ -118,7 +118,7 @@ impl<T: SpelledData<Kind = Kind, Op = Op>> Company<T> {
     /// An update of the key, at the member alone.
     fn update_of(&self, op: Op) -> Result<Input<T>, Fail> {
         Ok(Input::Update {
-            key: key(self.alloc)?,
+            key: key()?,
             op,
             level: Level::Local,
         })
@@ -126,7 +126,7 @@ impl<T: SpelledData<Kind = Kind, Op = Op>> Company<T> {
 
     /// A member makes a record, unless it refuses the operation.
     pub(crate) fn update(&mut self, at: usize, op: Op) -> Result<(), Fail> {
-        let action = Action::Operation(copied_operation(&op));
+        let action = Action::Operation(op.copied());
         let input = self.update_of(op)?;
         match self.step(at, input)? {
             Reply::Done => self.note(at, action),

@@ -28,7 +28,7 @@ fn step<T: SpelledData<Kind = Kind, Op = Op>>(
     }
     let at = random.below(count) as usize;
     match random.below(32) {
-        0..=3 => company.update(at, operation(alloc, kind, random)?),
+        0..=3 => company.update(at, operation(kind, random)?),
         4 => company.flush(at),
         5..=6 => company.gossip(at, random.below(count) as usize),
         7..=12 => exchange(company, at, random.below(count) as usize),

@@ -13,8 +13,8 @@ use std::test::Fail;
 use trial_parts::Records;
 
 /// The name of the key of all trials.
-pub(crate) fn key(alloc: Global) -> Result<Text, Fail> {
-    Ok(Text::new(alloc, "k")?)
+pub(crate) fn key() -> Result<Text, Fail> {
+    Ok(Text::new("k")?)
 }
 
 /// A member of a view with one durable key, over a keeper that fails at the calls named.
@@ -29,7 +29,7 @@ pub(crate) fn member<T: SpelledData<Kind = Kind, Op = Op>>(
         return Err("no member".into());
     }
     let keys: [KeyDecl<T>; 1] = [KeyDecl {
-        key: key(alloc)?,
+        key: key()?,
         kind,
         durable: true,
     }];
@@ -140,7 +140,7 @@ impl<T: SpelledData<Kind = Kind, Op = Op>> Running<T> {
         alloc: Global,
         records: &Records,
     ) -> Result<bool, Fail> {
-        let key = key(alloc)?;
+        let key = key()?;
         Ok(self.knows_what_it_took(alloc, &key)? && self.shows_what_it_took(alloc, &key, records)?)
     }
 }

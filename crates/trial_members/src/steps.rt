@@ -23,11 +23,8 @@ fn alone<T: SpelledData<Kind = Kind, Op = Op>>(
     member(alloc, Kind::GCounter, id, view, failing)
 }
 
-fn increment<T: SpelledData<Kind = Kind, Op = Op>>(
-    alloc: Global,
-    amount: u64,
-) -> Result<Input<T>, Fail> {
-    let key = key(alloc)?;
+fn increment<T: SpelledData<Kind = Kind, Op = Op>>(amount: u64) -> Result<Input<T>, Fail> {
+    let key = key()?;
     let op = Op::Increment(amount);
     Ok(Input::Update {
         key,
@@ -65,7 +62,7 @@ fn machine_increment<T: SpelledData<Kind = Kind, Op = Op>>(
     alloc: Global,
     node: &mut Node<T, MemoryKeeper>,
 ) -> Result<(Fate, bool), Fail> {
-    let input = increment(alloc, 5)?;
+    let input = increment(5)?;
     machine_step(alloc, node, &input)
 }
 
@@ -91,19 +88,17 @@ fn a_step_is_one_of_the_machine(rt: HostRuntime) -> Result<(), Fail> {
 
 /// What a member answers to an increment.
 fn reply_to_increment<T: SpelledData<Kind = Kind, Op = Op>>(
-    alloc: Global,
     node: &mut Node<T, MemoryKeeper>,
 ) -> Result<Reply, Fail> {
-    let input = increment(alloc, 3)?;
+    let input = increment(3)?;
     Ok(node.step(&input)?.reply)
 }
 
 /// Whether the store of an increment failed, and the entry changed all the same.
 fn failed_store<T: SpelledData<Kind = Kind, Op = Op>>(
-    alloc: Global,
     node: &mut Node<T, MemoryKeeper>,
 ) -> Result<bool, Fail> {
-    let reply = reply_to_increment(alloc, node)?;
+    let reply = reply_to_increment(node)?;
     Ok(matches!(reply, Reply::StoreFailed) && has_the_key(node))
 }
 
@@ -111,7 +106,7 @@ fn failed_store<T: SpelledData<Kind = Kind, Op = Op>>(
 fn a_failed_store_is_told_and_the_entry_changed(rt: HostRuntime) -> Result<(), Fail> {
     let alloc = rt.alloc();
     let mut node: Node<Data, MemoryKeeper> = alone(alloc, vec![in alloc; 0]?)?;
-    assert!(rt; failed_store(alloc, &mut node)?);
+    assert!(rt; failed_store(&mut node)?);
     assert_eq!(rt; node.into_keeper().entries().len(), 0);
     Ok(())
 }

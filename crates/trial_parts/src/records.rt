@@ -6,7 +6,6 @@ ghost use Rattle.base_vectors.specs.Vectors.{number_at, raised};
 ghost use Rattle.data_meaning.specs.Records.{AreRecordsOf};
 ghost use Rattle.trial_parts.specs.Counting.{is_counted, counted};
 
-use crate::operations::copied_operation;
 use crate::shown::same_shown;
 use base_bytes::Memory;
 use base_vectors::{Id, VersionVector};
@@ -104,7 +103,7 @@ fn copied(alloc: Global, record: &Record) -> Result<Record, Memory>
     ensures { IfOk result (λ copy. copy ≡ record.now) }
 {
     let action = match &record.action {
-        Action::Operation(op) => Action::Operation(copied_operation(op)),
+        Action::Operation(op) => Action::Operation(op.copied()),
         Action::Prune(removed) => Action::Prune(*removed),
     };
     let past = record.past.copy(alloc)?;

@@ -5,6 +5,7 @@ use crate::running::ran;
 use std::alloc::Global;
 use std::process::Abort;
 use std::test::*;
+use top_call::Status;
 
 /// How often each client increments the counter at each member.
 const TIMES: u32 = 16;
@@ -84,7 +85,7 @@ fn clients_write_and_read_everywhere(rt: HostRuntime) -> Result<(), Fail> {
     let beginnings = beginnings(alloc)?;
     let finals = finals(alloc)?;
     let (status, sink) = ran(&rt, alloc, script.as_str(), keepers(alloc, 0, &[])?)?;
-    assert_eq!(&rt; status, 0);
+    assert_eq!(&rt; status, Status::Done);
     let report = str::from_utf8(sink.bytes()).map_err(|_| "no text")?;
     assert!(&rt; is_report(report, beginnings.as_str(), finals.as_str()));
     Ok(())

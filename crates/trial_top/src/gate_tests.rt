@@ -3,7 +3,7 @@
 use crate::flag::{Flag, Meeting, holding_keepers};
 use data_value::Data;
 use report_lines::{Ending, report_with_clients};
-use script_reading::read_run_script;
+use script_reading::{Clients, read_script};
 use std::process::Abort;
 use std::test::*;
 use thread_clients::Gate;
@@ -49,7 +49,7 @@ fn a_member_waits_for_another_client(rt: HostRuntime) -> Result<(), Fail> {
         awaited: gate.came_back.again()?,
     };
     let keepers = holding_keepers(alloc, Some(held), None)?;
-    let script = read_run_script(alloc, SCRIPT.as_bytes()).map_err(|_| "no script")?;
+    let script = read_script(alloc, Clients::Allowed, SCRIPT.as_bytes()).map_err(|_| "no script")?;
     let played = report_with_clients::<Data, _, _, _>(&rt, alloc, &gate, &script, keepers);
     assert!(&rt; matches!(&played.ending, Ending::Told(text) if text.as_str() == REPORT));
     Ok(())

@@ -4,6 +4,7 @@ use crate::flag::{Flag, Meeting, holding_keepers};
 use crate::running::ran;
 use std::process::Abort;
 use std::test::*;
+use top_call::Status;
 
 const SCRIPT: &str =
     r#"{"members":2,"keys":[{"key":"d","kind":"gcounter","durable":true}],"steps":[{"do":"threads","clients":[
@@ -28,7 +29,7 @@ fn two_stores_wait_for_each_other(rt: HostRuntime) -> Result<(), Fail> {
     };
     let keepers = holding_keepers(alloc, Some(at_first), Some(at_second))?;
     let (status, sink) = ran(&rt, alloc, SCRIPT, keepers)?;
-    assert_eq!(&rt; status, 0);
+    assert_eq!(&rt; status, Status::Done);
     assert!(&rt; sink.bytes() == REPORT.as_bytes());
     Ok(())
 }

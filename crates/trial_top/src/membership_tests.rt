@@ -228,7 +228,7 @@ impl Keeper for LyingKeeper {
     }
 
     fn load(&mut self) -> Result<Vec<Stored>, KeeperError> {
-        let Ok(key) = Text::new(self.alloc, "d") else {
+        let Ok(key) = Text::new("d") else {
             return Err(KeeperError::Memory);
         };
         let mut bytes = Items::new(self.alloc);

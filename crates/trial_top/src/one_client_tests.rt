@@ -1,9 +1,10 @@
 //! Scripts whose one client leaves no choice, word for word.
 
 use crate::rows::keepers;
-use crate::running::{compare, ran};
+use crate::running::{called, compare, ran};
 use std::process::Abort;
 use std::test::*;
+use top_call::Status;
 
 const ONE_CLIENT: &str =
     r#"{"members":3,"keys":[{"key":"n","kind":"gcounter"}],"steps":[{"do":"threads","clients":[[
@@ -98,7 +99,18 @@ fn runs_a_script_without_clients(rt: HostRuntime) -> Result<(), Fail> {
 fn refuses_a_step_without_clients(rt: HostRuntime) -> Result<(), Fail> {
     let alloc = rt.alloc();
     let (status, sink) = ran(&rt, alloc, NO_CLIENT, keepers(alloc, 0, &[])?)?;
-    assert_eq!(&rt; status, 3);
+    assert_eq!(&rt; status, Status::NotAScript);
     assert!(&rt; sink.bytes() == b"not a script: step 2 rule 13\n".as_slice());
+    Ok(())
+}
+
+#[test]
+fn refuses_words_of_which_the_first_would_do(rt: HostRuntime) -> Result<(), Fail> {
+    let alloc = rt.alloc();
+    for line in ["plain extra", "run extra", "run ", "Run"] {
+        let (status, sink) = called(&rt, alloc, line, ONE_CLIENT, keepers(alloc, 0, &[])?)?;
+        assert_eq!(&rt; status, Status::Usage, "at {line}");
+        assert!(&rt; sink.bytes() == b"bad words\n".as_slice(), "at {line}");
+    }
     Ok(())
 }

@@ -250,18 +250,18 @@ fn bounds_keys_and_steps(rt: HostRuntime) -> Result<(), Fail> {
     ];
     for (keys, steps, status) in rows {
         let script = flags_and_rounds(alloc, keys, steps)?;
-        let (code, _) = printed(alloc, script.as_str(), keepers(alloc, 0, &[])?)?;
-        assert_eq!(rt; code, u8::from(status), "at {keys} {steps}");
+        let (told, _) = printed(alloc, script.as_str(), keepers(alloc, 0, &[])?)?;
+        assert_eq!(rt; told, status, "at {keys} {steps}");
     }
     Ok(())
 }
 
 // A letter for the status, and for a script that breaks a rule the rule's last digit.
-fn letter(code: u8, text: &[u8]) -> u8 {
-    match code {
-        0 => b'd',
-        2 if text == b"not json\n".as_slice() => b'j',
-        3 => match text {
+fn letter(status: Status, text: &[u8]) -> u8 {
+    match status {
+        Status::Done => b'd',
+        Status::NotJson if text == b"not json\n".as_slice() => b'j',
+        Status::NotAScript => match text {
             [.., rule, b'\n'] => *rule,
             _ => b'-',
         },
@@ -272,8 +272,8 @@ fn letter(code: u8, text: &[u8]) -> u8 {
 // What a text prints, as a letter.
 fn told(alloc: Global, bytes: &[u8]) -> Result<u8, Fail> {
     let streams = streams(alloc, bytes, &[], &[])?;
-    let (code, sink) = answered(alloc, "plain", streams, keepers(alloc, 0, &[])?)?;
-    Ok(letter(code, sink.bytes()))
+    let (status, sink) = answered(alloc, "plain", streams, keepers(alloc, 0, &[])?)?;
+    Ok(letter(status, sink.bytes()))
 }
 
 // What a text prints of which a byte was raised by one.

@@ -66,7 +66,7 @@ pub(crate) fn streams(
 }
 
 /// The words of a line.
-fn words(alloc: Global, line: &str) -> Result<Vec<String>, Fail> {
+pub(crate) fn words(alloc: Global, line: &str) -> Result<Vec<String>, Fail> {
     let mut words = Vec::new(alloc);
     if !line.is_empty() {
         for word in line.split(' ') {
@@ -77,7 +77,7 @@ fn words(alloc: Global, line: &str) -> Result<Vec<String>, Fail> {
 }
 
 /// What is answered: the status, and a sink that has what was written.
-pub(crate) type Answer = (u8, MemorySink);
+pub(crate) type Answer = (Status, MemorySink);
 
 /// What words answer over these streams and keepers.
 fn answer<D: Keeper + Drop>(
@@ -126,8 +126,8 @@ pub(crate) fn check<R: Abort, P: Display + Drop>(
     text: &[u8],
     place: P,
 ) {
-    let (code, sink) = answer;
-    assert_eq!(rt; *code, u8::from(status), "at {place}");
+    let (told, sink) = answer;
+    assert_eq!(rt; *told, status, "at {place}");
     assert_eq!(rt; sink.bytes(), text, "at {place}");
 }
 
@@ -181,7 +181,7 @@ pub(crate) fn compare_built<R: Abort>(
 ) -> Result<(), Fail> {
     let (status, sink) = printed_of(alloc, script)?;
     let report = build(alloc, report)?;
-    assert_eq!(rt; status, u8::from(Status::Done));
+    assert_eq!(rt; status, Status::Done);
     assert!(rt; sink.bytes() == report.as_bytes());
     Ok(())
 }

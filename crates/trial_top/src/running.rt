@@ -2,7 +2,7 @@
 
 ghost use Rattle.std.specs.Prelude.{◌≡◌, length};
 
-use crate::rows::keepers;
+use crate::rows::{Answer, keepers, words};
 use base_outside::{MemorySink, MemorySource};
 use member_keeper::Keeper;
 use std::alloc::Global;
@@ -10,7 +10,7 @@ use std::process::Abort;
 use std::sync::Wait;
 use std::test::Fail;
 use std::thread::Threads;
-use top_call::replicate;
+use top_call::{Status, replicate};
 
 /// A source of a script.
 fn source(alloc: Global, script: &str) -> Result<MemorySource, Fail> {
@@ -23,11 +23,21 @@ fn sink(alloc: Global) -> MemorySink {
     MemorySink::new(alloc, 4096, Vec::new(alloc))
 }
 
-/// The word `run`.
-fn words(alloc: Global) -> Result<Vec<String>, Fail> {
-    let mut words = Vec::new(alloc);
-    words.push(String::from_str(alloc, "run")?)?;
-    Ok(words)
+/// What the words of a line answer of a script over these keepers, and what they write.
+pub(crate) fn called<R: Threads + Wait + Sync, K: Keeper + Drop + Send>(
+    rt: &R,
+    alloc: Global,
+    line: &str,
+    script: &str,
+    keepers: Vec<K>,
+) -> Result<Answer, Fail>
+    requires { length keepers.items ≡ 8 }
+{
+    let words = words(alloc, line)?;
+    let mut source = source(alloc, script)?;
+    let mut sink = sink(alloc);
+    let outcome = replicate(rt, alloc, words.as_slice(), &mut source, &mut sink, keepers);
+    Ok((outcome.status, sink))
 }
 
 /// What `run` answers of a script over these keepers, and what it writes.
@@ -36,14 +46,10 @@ pub(crate) fn ran<R: Threads + Wait + Sync, K: Keeper + Drop + Send>(
     alloc: Global,
     script: &str,
     keepers: Vec<K>,
-) -> Result<(u8, MemorySink), Fail>
+) -> Result<Answer, Fail>
     requires { length keepers.items ≡ 8 }
 {
-    let words = words(alloc)?;
-    let mut source = source(alloc, script)?;
-    let mut sink = sink(alloc);
-    let outcome = replicate(rt, alloc, words.as_slice(), &mut source, &mut sink, keepers);
-    Ok((outcome.status, sink))
+    called(rt, alloc, "run", script, keepers)
 }
 
 /// Runs a script, where the keeper of place 1 fails at the calls named, and compares its report.
@@ -55,7 +61,7 @@ pub(crate) fn compare<R: Threads + Wait + Sync + Abort>(
     report: &str,
 ) -> Result<(), Fail> {
     let (status, sink) = ran(rt, alloc, script, keepers(alloc, 1, failing)?)?;
-    assert_eq!(rt; status, 0);
+    assert_eq!(rt; status, Status::Done);
     assert!(rt; sink.bytes() == report.as_bytes());
     Ok(())
 }

@@ -5,9 +5,10 @@ use std::alloc::Global;
 use std::test::Fail;
 use top_call::Status;
 
-const BAD_WORDS: [&str; 26] = [
+const BAD_WORDS: [&str; 27] = [
     "",
     "plain ",
+    "plain extra",
     "plain x",
     "plain plain",
     "Plain",
@@ -103,11 +104,11 @@ fn answer(alloc: Global, line: &str, failing: &[u64]) -> Result<Answer, Fail> {
 
 // What words write that read nothing.
 fn written(alloc: Global, line: &str) -> Result<String, Fail> {
-    let (code, sink) = answer(alloc, line, &[])?;
-    if code == u8::from(Status::Done) {
+    let (status, sink) = answer(alloc, line, &[])?;
+    if status == Status::Done {
         Ok(String::from_utf8(Vec::from_slice(alloc, sink.bytes())?)?)
     } else {
-        Ok(format!(in alloc; "status {code}")?)
+        Ok(format!(in alloc; "status {status:?}")?)
     }
 }
 

@@ -1,10 +1,11 @@
 -- A member takes an input: what comes of it for the script, for the keepers and for the world.
+--     never_none, was_there        what is read where a member runs
 --     outcome_gives        what becomes of a world by what its member answered, and the event that tells it
 --     given_gone, given_full, took        what the script does, as equations: the member is gone, or full, or takes it with a fate
 --     reaches_made        the world then stands for the model's next, and tells the same
 --     given_by, kept_by        the answers of the keepers
 --     does_given, step_does        the contract of a step, from what its call does
-use Rattle.std.proofs.Common.{Result, Ok, Err, ◌≡◌, ℕ, subst, Some, ◌≢◌, suc, ◌<◌, List, [], ◌∷◌, ◌++◌, length, refl, ap, ◌∙◌, arith, Bool, true, false, Option, None, ◌+◌, ◌-◌, map, sym, inl, inr}
+use Rattle.std.proofs.Common.{Result, Ok, Err, ◌≡◌, ℕ, subst, Some, ◌≢◌, suc, ◌<◌, List, [], ◌∷◌, ◌++◌, length, refl, ap, ◌∙◌, arith, Bool, true, false, Option, None, ◌+◌, ◌-◌, map, set, get_or, sym, inl, inr}
 use Rattle.std.specs.Prelude.{IsErr, MatchResult, IfOk, OnErr, if◌then◌else◌, nat_lt, option_map, All, is_some, ◌==◌, not, filter}
 use Rattle.std.specs.List.{range_with_len}
 use Rattle.std.proofs.lemmas.Bool.Decides.{nat_tests, eqb_tells}
@@ -38,7 +39,6 @@ use Rattle.member_keeper.specs.declared.keeper.Keeper.{Ghosts as Keeping}
 use Rattle.data_lattice.specs.declared.replica.Replica.{Ghosts}
 use Rattle.data_lattice.specs.declared.spelled.SpelledData.{Ghosts as Spelling}
 use Rattle.member_messages.specs.declared.message.Message.{Message}
-use Rattle.member_quorum.specs.declared.level.Level.{Level}
 use Rattle.member_node.specs.declared.input.Input.TheVariants as input
 use Rattle.member_node.specs.declared.reply.StepError.TheVariants as failed
 use Rattle.member_node.specs.declared.input.Input as given_input
@@ -55,6 +55,8 @@ use Rattle.member_node.specs.Members.{StandsForNode, StandsForPosts, IsSafe}
 use Rattle.member_node.specs.Stores.{IsKept}
 use Rattle.member_node.specs.declared.reply.Fate.{Fate as Done}
 use Rattle.member_node.proofs.Fates.{entries_same}
+use Rattle.script_reading.specs.Meant.{step_of}
+use Rattle.script_reading.specs.declared.ask.Ask.{Ask}
 use Rattle.script_reading.specs.declared.script.Step.TheVariants as form
 use Rattle.script_reading.specs.declared.script.Step.{Step}
 use Rattle.world_members.specs.declared.event.Answer.TheVariants as answer
@@ -63,17 +65,18 @@ use Rattle.world_members.specs.declared.event.Head.{Head}
 use Rattle.world_members.specs.declared.sending.Answered.{Answered}
 use Rattle.world_members.specs.declared.world.World.{World}
 use Rattle.world_members.specs.Channels.{Channels, channel_at, message_on}
-use Rattle.world_members.specs.Giving.{ChangesAt, Refuses, Gives, full, made, IsSame, Makes, gone, IsAsBefore, Does}
+use Rattle.world_members.specs.Giving.{RunsAt, ChangesAt, Refuses, Gives, full, made, IsSame, Makes, gone, IsAsBefore, Does}
 use Rattle.world_members.specs.Sending.{IsToldAs, IsStepOnLinks, TakesOnLinks, told_of, AreFew}
 use Rattle.world_members.specs.declared.event.SentTo.{SentTo}
-use Rattle.world_members.specs.Keeping.{Given, Keeps, KeepsAt}
+use Rattle.world_members.specs.Keeping.{Given, Keeps, KeepsAt, AreSeated}
 use Rattle.world_members.specs.Lines.{IsHead, IsLine, is_damage, are_damaged}
 use Rattle.world_members.specs.Standing.{StandsForLink, StandsForWorld, TellsStore}
-use Rattle.world_members.specs.Steps.{Foretells, HaveAnswered, Reaches, step_of, Plays, Remains, RemainsSo}
+use Rattle.world_members.specs.Steps.{Foretells, HaveAnswered, Reaches, Plays, Remains, RemainsSo}
 use Rattle.world_members.specs.Ways.{IsPrefix, Throughout, Means}
-use Rattle.world_members.specs.Places.{seat_of, keeper_of}
+use Rattle.world_members.specs.Places.{item_at, seat_of, keeper_of}
 use Rattle.world_members.proofs.FewSent.{few_posts, few_sent}
 use Rattle.world_members.proofs.Lists.{at_one}
+use Rattle.world_members.proofs.Seats.{item_found, seated_set}
 use Rattle.world_members.proofs.Linking.{same_told, links_sent}
 use Rattle.world_members.proofs.Onward.{safe_now, stands_before, way_logs}
 use Rattle.world_members.proofs.Standings.{IsAtWork, at_work_there, place_there, stands_after, keeper_before, gone_there, stands_kept, kept_alike, stays_same, keeper_after, keeper_other}
@@ -114,6 +117,18 @@ module _ {T K Kind Op Delta : Type 0} {ghosts : Ghosts T Kind Op Delta} {keeping
 
   pub outcome_refuses : (e : Memory) → result ≡ Err e → Refuses i old new
   outcome_refuses e is = refused failed.Memory (wanted head outcome result e told is)
+
+-- what is read at the place where the member of an identity runs
+module _ {T K Kind Op Delta : Type 0} {ghosts : Ghosts T Kind Op Delta} {keeping : Keeping K} (i place : ℕ) (old : World T K Kind Op Delta ghosts keeping) (at : RunsAt i place old) (o : Option (Node T K Kind Op Delta ghosts keeping)) (read : o ≡ get_or old.nodes.items place o) where
+  pub never_none : o ≡ None → ⊥
+  never_none is = at.there (item_found old.nodes.items place o None at.within read is)
+
+  module _ (before : Node T K Kind Op Delta ghosts keeping) (is : o ≡ Some before) where
+    pub was_there : item_at old.nodes.items place ≡ Some before
+    was_there = item_found old.nodes.items place o (Some before) at.within read is
+
+    pub still_seated : (after : Node T K Kind Op Delta ghosts keeping) → after.id ≡ before.id → AreSeated old.views (set old.nodes.items place (Some after)) old.spare.items
+    still_seated after same = seated_set old.views old.nodes.items old.spare.items old.seated place before after at.within was_there same
 
 -- what a member took is the message that was there
 pub taken_so : {T K Kind Op Delta : Type 0} {ghosts : Ghosts T Kind Op Delta} {keeping : Keeping K} (spelling : Spelling T Kind Op Delta) (before : Node T K Kind Op Delta ghosts keeping) (from index : ℕ) (after : Node T K Kind Op Delta ghosts keeping) (at : ℕ) (old new : Channels (Message T Kind Op Delta ghosts)) (outcome : Result Answered StepError)
@@ -509,20 +524,15 @@ module _ {T K Kind Delta : Type 0} {ghosts : Ghosts T Kind Op Delta} {keeping : 
 
 -- of these steps nothing is done where memory is wanted
 pub data IsWhole : Step → Type 0 where
-  update : (at : ℕ) (key : Text) (op : Op) (level : Level) → IsWhole (form.Update at key op level)
-  get : (at : ℕ) (key : Text) (level : Level) → IsWhole (form.Get at key level)
-  flush : (at : ℕ) → IsWhole (form.Flush at)
-  gossip : (at to : ℕ) → IsWhole (form.Gossip at to)
-  tick : (at : ℕ) → IsWhole (form.Tick at)
+  ask : (at : ℕ) (question : Ask) → IsWhole (form.Ask at question)
   timeout : (at op : ℕ) → IsWhole (form.Timeout at op)
   deliver : (from to : ℕ) (index : Option ℕ) → IsWhole (form.Deliver from to index)
-  install : (at view : ℕ) → IsWhole (form.Install at view)
 
 module _ {T K Kind Delta : Type 0} {ghosts : Ghosts T Kind Op Delta} {keeping : Keeping K} (spelling : Spelling T Kind Op Delta) where
   -- THE CONTRACT OF A STEP
 
   stays_so : (step : Step) → IsWhole step → (old new : World T K Kind Op Delta ghosts keeping) → IsAsBefore spelling old new → RemainsSo spelling step old new
-  stays_so step (update at key op level) old new b = b.stays
+  stays_so step (ask at question) old new b = b.stays
   stays_so step _ old new b = b.stays
 
   pub remains_as : (step : Step) → IsWhole step → (old new : World T K Kind Op Delta ghosts keeping) → IsAsBefore spelling old new → Remains spelling step old new

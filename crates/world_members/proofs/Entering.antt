@@ -10,7 +10,7 @@ use Rattle.std.proofs.lemmas.Option.{slice_get_within}
 use Rattle.model_history.specs.Table.{identity_limit}
 use Rattle.model_history.specs.Texts.{Text}
 use Rattle.model_history.specs.History.{History}
-use Rattle.model_members.specs.View.{View, is_member}
+use Rattle.model_members.specs.View.{is_member}
 use Rattle.model_members.specs.DataType.{Replication}
 use Rattle.model_members.specs.Message as sending
 use Rattle.model_members.specs.Message.{Message as Sent}
@@ -22,14 +22,13 @@ use Rattle.model_members.specs.World as worlds
 use Rattle.model_members.specs.World.{Links, Event, views_of, message_at, moved_on, with_posts, after_step, happens, FitsFate, IsRun}
 use Rattle.model_members.specs.World.Event.{InputAt, Delivery}
 use Rattle.model_members.specs.Script as script
-use Rattle.model_members.specs.Script.{Playing, ScriptStep, IsStep, told, given, install, played}
+use Rattle.model_members.specs.Script.{Playing, ScriptStep, IsStep, given, played}
 use Rattle.theorem_runs.proofs.Playing.{step_is_run, played_appends}
 use Rattle.model_kinds.specs.declared.operation.Op.{Op}
 use Rattle.model_kinds.specs.declared.shown.Shown.{Shown}
 use Rattle.data_lattice.specs.declared.replica.Replica.{Ghosts}
 use Rattle.data_lattice.specs.declared.spelled.SpelledData.{Ghosts as Spelling}
 use Rattle.member_keeper.specs.declared.keeper.Keeper.{Ghosts as Keeping}
-use Rattle.member_quorum.specs.Levels.{level_meant}
 use Rattle.member_messages.specs.declared.message.Message.{Message}
 use Rattle.member_messages.specs.Sketches.{sketch_of}
 use Rattle.member_views.specs.Sound.{IsView, last_view}
@@ -44,9 +43,13 @@ use Rattle.member_node.specs.Operations.{finished_meant}
 use Rattle.member_node.specs.Replies.{meant, meant_fate}
 use Rattle.member_node.specs.Steps.{replication, IsStepOf, IsImage, IsUnchanged}
 use Rattle.member_node.proofs.Takings.{told_whole}
+use Rattle.script_reading.specs.Meant.{ask_of}
+use Rattle.script_reading.specs.declared.ask.Ask.{Ask}
+use Rattle.script_reading.specs.declared.ask.Ask.TheVariants.{Update, Get, Flush, Gossip, Tick, Install}
 use Rattle.world_members.specs.declared.world.World.{World}
 use Rattle.world_members.specs.declared.event.Head.{Head}
 use Rattle.world_members.specs.declared.event.Head.TheVariants as head
+use Rattle.world_members.specs.Asking.{input_of}
 use Rattle.world_members.specs.Channels.{Channel, Channels, channel_at, message_on, passed, extended}
 use Rattle.world_members.specs.Entering.{IsGivenFrom}
 use Rattle.world_members.specs.Giving.{ChangesAt}
@@ -58,8 +61,9 @@ use Rattle.world_members.specs.Standing.{StandsForLink, StandsForWorld}
 use Rattle.world_members.specs.Steps.{Foretells, Reaches}
 use Rattle.world_members.specs.Ways.{IsPrefix, Throughout, Means}
 use Rattle.world_members.proofs.Answering.{means_refused, given_at, image, next_is, reaches_made, answers_of, taken_with, world_taken}
+use Rattle.world_members.proofs.Asking.{StandsAlways, asked_some, asks_so}
 use Rattle.world_members.proofs.Seats.{seated_set}
-use Rattle.world_members.proofs.Steps.{sent, stands_in, is_given, is_head, at_delivery, run_handing, more_handing}
+use Rattle.world_members.proofs.Steps.{sent, stands_in, is_head, at_delivery, run_handing, more_handing}
 use Rattle.world_members.proofs.Linking.{links_sent, links_moved, same_told, same_sketch}
 use Rattle.world_members.proofs.Onward.{means_same, stands_before, way_logs}
 use Rattle.world_members.proofs.Standings.{IsAtWork, at_work_there}
@@ -212,10 +216,7 @@ module _ {T K Kind Delta : Type 0} {ghosts : Ghosts T Kind Op Delta} {keeping : 
 
 -- AN INPUT OF A CLIENT
 
-module _ {T K Kind Delta : Type 0} {ghosts : Ghosts T Kind Op Delta} {keeping : Keeping K} (spelling : Spelling T Kind Op Delta) (kinds : Text → Kind) (members : ℕ) (decls : List (KeyDecl Kind)) (old new : World T K Kind Op Delta ghosts keeping) (p : Playing Kind Op Shown) (m : Means spelling kinds members decls p old) (i place : ℕ) (before after : Node T K Kind Op Delta ghosts keeping) (changes : ChangesAt i place before after old new) (so : Playing Kind Op Shown) (same_world : so.world ≡ p.world) where
-  abbrev following : Replication Kind Op Shown
-  following = replication ghosts spelling
-
+module _ {T K Kind Delta : Type 0} {ghosts : Ghosts T Kind Op Delta} {keeping : Keeping K} (spelling : Spelling T Kind Op Delta) (kinds : Text → Kind) (members : ℕ) (decls : List (KeyDecl Kind)) (p : Playing Kind Op Shown) (old : World T K Kind Op Delta ghosts keeping) (m : Means spelling kinds members decls p old) (i : ℕ) where
   -- a script gives the input by a step
   pub record IsPlayed (input : given_input.Input T Kind Op Delta ghosts) (taken : Input Op) : Type 0 where
     one : ScriptStep Op
@@ -223,70 +224,58 @@ module _ {T K Kind Delta : Type 0} {ghosts : Ghosts T Kind Op Delta} {keeping : 
     heading : script.Head Op
     kept : Head
     is_kept : IsHead kept heading
-    goes : played following so one ≡ given following so heading (InputAt i taken)
-    stands : (logs : Text → History Op) → StandsForInput kinds logs before.keys.items input taken
+    goes : played (replication ghosts spelling) p one ≡ given (replication ghosts spelling) p heading (InputAt i taken)
+    stands : StandsAlways input taken
 
-  runs_so : (node : nodes.Node Kind Op Shown) × (so.world.nodes i ≡ Some node)
-  runs_so =
-      let logged = way_logs following members decls p m.run in
-      let work = at_work_there spelling kinds logged.0 old new p.world (m.stands logged.0 logged.1) i place before after changes in
-      (work.node, ap (λ (w : worlds.World Kind Op Shown). w.nodes i) same_world ∙ work.runs)
-
-  views_so : views_of so.world ≡ old.views
-  views_so = let logged = way_logs following members decls p m.run in ap (λ (w : worlds.World Kind Op Shown). views_of w) same_world ∙ (m.stands logged.0 logged.1).views
-
-  module _ (number : ℕ) where
-    abbrev with_view : Option View → Playing Kind Op Shown
-    with_view o = elim o [ None ↦ told so (script.Head.InstallHead i number) script.Answer.NoSuchView | Some view ↦ given following so (script.Head.InstallHead i number) (InputAt i (Input.Install view)) ]
-
-    abbrev by_running : Option (nodes.Node Kind Op Shown) → Playing Kind Op Shown
-    by_running o = if is_some o then with_view (slice_get (views_of so.world) number) else told so (script.Head.InstallHead i number) script.Answer.Gone
-
-    installed : (view : View) → slice_get old.views number ≡ Some view → install following so i number ≡ given following so (script.Head.InstallHead i number) (InputAt i (Input.Install view))
-    installed view listed = ap by_running runs_so.1 ∙ ap with_view (ap (λ (views : List View). slice_get views number) views_so ∙ listed)
+  asks : (ask : Ask) (input : given_input.Input T Kind Op Delta ghosts) → input_of old.views ask ≡ Some input → (taken : Input Op) × IsPlayed input taken
+  asks ask input is =
+      let there = asked_some old.views ask input is in (
+        there.0,
+        record { one = ScriptStep.Asks i (ask_of ask); is_step = tt; heading = script.Head.Asked i (ask_of ask); kept = head.Asked i ask; is_kept = refl; goes = asks_so spelling kinds members decls p old m i ask (Some there.0) there.1; stands = there.2 },
+      )
 
   pub plays : (input : given_input.Input T Kind Op Delta ghosts) → IsGivenFrom old.views input → (taken : Input Op) × IsPlayed input taken
-  plays (form.Update key op level) allowed = (Input.Update key op (level_meant level), record { one = ScriptStep.Update i key op (level_meant level); is_step = tt; heading = script.Head.UpdateHead i key; kept = head.Update i key; is_kept = refl; goes = refl; stands = λ logs. refl })
-  plays (form.Get key level) allowed = (Input.Get key (level_meant level), record { one = ScriptStep.Get i key (level_meant level); is_step = tt; heading = script.Head.GetHead i key; kept = head.Get i key; is_kept = refl; goes = refl; stands = λ logs. refl })
+  plays (form.Update key op level) allowed = asks (Update key op level) (form.Update key op level) refl
+  plays (form.Get key level) allowed = asks (Get key level) (form.Get key level) refl
   plays (form.Take from message) allowed = absurd allowed
-  plays (form.Install view) allowed = (Input.Install view, record { one = ScriptStep.Install i allowed.0; is_step = tt; heading = script.Head.InstallHead i allowed.0; kept = head.Install i allowed.0; is_kept = refl; goes = installed allowed.0 view allowed.1; stands = λ logs. refl })
-  plays form.Flush allowed = (Input.Flush, record { one = ScriptStep.Flush i; is_step = tt; heading = script.Head.FlushHead i; kept = head.Flush i; is_kept = refl; goes = refl; stands = λ logs. refl })
-  plays (form.GossipTo to) allowed = (Input.GossipTo to, record { one = ScriptStep.Gossip i to; is_step = tt; heading = script.Head.GossipHead i to; kept = head.Gossip i to; is_kept = refl; goes = refl; stands = λ logs. refl })
-  plays form.PruneTick allowed = (Input.PruneTick, record { one = ScriptStep.Tick i; is_step = tt; heading = script.Head.TickHead i; kept = head.Tick i; is_kept = refl; goes = refl; stands = λ logs. refl })
-  plays (form.Timeout op) allowed = (Input.Timeout op, record { one = ScriptStep.Timeout i op; is_step = tt; heading = script.Head.TimeoutHead i op; kept = head.Timeout i op; is_kept = refl; goes = refl; stands = λ logs. refl })
+  plays (form.Install view) allowed = asks (Install allowed.0) (form.Install view) (ap (option_map form.Install) allowed.1)
+  plays form.Flush allowed = asks Flush form.Flush refl
+  plays (form.GossipTo to) allowed = asks (Gossip to) (form.GossipTo to) refl
+  plays form.PruneTick allowed = asks Tick form.PruneTick refl
+  plays (form.Timeout op) allowed = (Input.Timeout op, record { one = ScriptStep.Timeout i op; is_step = tt; heading = script.Head.TimeoutHead i op; kept = head.Timeout i op; is_kept = refl; goes = refl; stands = λ kinds logs keys. refl })
 
 module _ {T K Kind Delta : Type 0} {ghosts : Ghosts T Kind Op Delta} {keeping : Keeping K} (spelling : Spelling T Kind Op Delta) (alike : (a b : K) → is_some (keeping.table a) ≡ is_some (keeping.table b)) (kinds : Text → Kind) (members : ℕ) (decls : List (KeyDecl Kind)) (old new : World T K Kind Op Delta ghosts keeping) (p : Playing Kind Op Shown) (m : Means spelling kinds members decls p old)
     (i place : ℕ) (before after : Node T K Kind Op Delta ghosts keeping) (changes : ChangesAt i place before after old new) (fate : done.Fate) (output : Output T Kind Op Delta ghosts) where
   abbrev so_far : Playing Kind Op Shown
   so_far = foretelling p (meant_fate fate)
 
+  pub means_it : Means spelling kinds members decls so_far old
+  means_it = means_same spelling kinds members decls p so_far old refl refl m
+
   module _ (input : given_input.Input T Kind Op Delta ghosts) (makes : IsStepOf spelling before input fate output after) (is_given : IsGivenFrom old.views input)
       (sends : (a b : ℕ) → channel_at new.links a b ≡ (if a == i then option_map (extended (messages_to output.posts b)) (channel_at old.links a b) else channel_at old.links a b)) where
     -- what the model's input is
     abbrev pub meant_input : Input Op
-    meant_input = (plays spelling kinds members decls old new p m i place before after changes so_far refl input is_given).0
+    meant_input = (plays spelling kinds members decls so_far old means_it i input is_given).0
 
-    abbrev by : IsPlayed spelling kinds members decls old new p m i place before after changes so_far refl input meant_input
-    by = (plays spelling kinds members decls old new p m i place before after changes so_far refl input is_given).1
+    abbrev by : IsPlayed spelling kinds members decls so_far old means_it i input meant_input
+    by = (plays spelling kinds members decls so_far old means_it i input is_given).1
 
     pub input_means : (logs : Text → History Op) → StandsForInput kinds logs before.keys.items input meant_input
-    input_means = by.stands
+    input_means logs = by.stands kinds logs before.keys.items
 
     pub input_enters : IsEntered spelling kinds members decls p new i fate output meant_input (InputAt i meant_input (meant_fate fate)) p.world.links
     input_enters =
         enters spelling alike kinds members decls old new p m i place before after changes input fate output makes by.heading (InputAt i meant_input) meant_input p.world.links (input_at (replication ghosts spelling) so_far i meant_input)
         (subst (λ (q : Playing Kind Op Shown). IsRun (replication ghosts spelling) members decls q.events q.world) by.goes (step_is_run (replication ghosts spelling) members decls so_far by.one by.is_step m.run))
         (subst (λ (q : Playing Kind Op Shown). IsPrefix p.events q.events) by.goes (played_appends (replication ghosts spelling) so_far by.one by.is_step))
-        (λ logs now. by.stands logs) by.kept by.is_kept
+        (λ logs now. input_means logs) by.kept by.is_kept
         (λ logs sents now posts few a b small bounded. links_sent kinds logs (channel_at old.links) (channel_at new.links) p.world.links i output.posts sents posts sends a b (now.links a b small bounded))
 
   -- A MESSAGE
 
   module _ (from index : ℕ) (small : from < identity_limit) (few : i < identity_limit) (message : Message T Kind Op Delta ghosts) (there : message_on (channel_at old.links from i) index ≡ Some message) (makes : IsStepOf spelling before (form.Take from message) fate output after) (present : is_member (last_view old.views) i ≡ true)
       (sends : (a b : ℕ) → channel_at new.links a b ≡ (if a == i then option_map (extended (messages_to output.posts b)) (if (a == from) && (b == i) then option_map (passed index) (channel_at old.links a b) else channel_at old.links a b) else (if (a == from) && (b == i) then option_map (passed index) (channel_at old.links a b) else channel_at old.links a b))) where
-    pub means_it : Means spelling kinds members decls so_far old
-    means_it = means_same spelling kinds members decls p so_far old refl refl m
-
     abbrev told_so : (told : Sent Op) × (message_at so_far.world from i index ≡ Some told)
     told_so = sent spelling old from i index small few kinds members decls so_far means_it changes.sound present message there
 

@@ -9,6 +9,7 @@ pub mod Answering
 pub mod FewSent
 pub mod Standings
 pub mod Telling
+pub mod Asking
 pub mod Removing
 pub mod Joining
 pub mod Restarting

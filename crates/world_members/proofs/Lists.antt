@@ -132,3 +132,16 @@ module _ {A B : Type 0} (R : A → B → Type 0) where
   zip_at (x ∷ xs) [] k all = absurd all
   zip_at (x ∷ xs) (y ∷ ys) zero all = both all.0
   zip_at (x ∷ xs) (y ∷ ys) (suc k) all = zip_at xs ys k all.1
+
+module _ {A B : Type 0} (R : A → B → Type 0) where
+  pub pair_both : (a : Option A) (b : Option B) (x : A) (y : B) → IsPair R a b → a ≡ Some x → b ≡ Some y → R x y
+  pair_both _ _ x y (both {x = c} {y = d} r) e f = subst (R x) (cc f) (subst (λ z. R z d) (cc e) r)
+  pair_both _ _ x y neither e f = absurd (cc e)
+
+  pub pair_some : (a : Option A) (b : Option B) (x : A) → IsPair R a b → a ≡ Some x → (y : B) × (b ≡ Some y)
+  pair_some _ _ x (both {y = y} r) e = (y, refl)
+  pair_some _ _ x neither e = absurd (cc e)
+
+  pub pair_none : (a : Option A) (b : Option B) → IsPair R a b → a ≡ None → b ≡ None
+  pair_none _ _ (both r) e = absurd (cc e)
+  pair_none _ _ neither e = refl

@@ -16,7 +16,7 @@ use Rattle.model_members.specs.Node as nodes
 use Rattle.model_members.specs.Script as script
 use Rattle.model_members.specs.World as worlds
 use Rattle.model_members.specs.Node.{KeyDecl, Fate, Input}
-use Rattle.model_members.specs.Script.{Playing, Told, has_met_full, posted, last_answer_blocked, unless_full, is_full_answer, is_blocked, blocked_in_answer, last_of, Head, given, deliver, last_number, deliver_last, exchange, sweep, tick, is_older, install_last}
+use Rattle.model_members.specs.Script.{Ask, Playing, Told, has_met_full, posted, last_answer_blocked, unless_full, is_full_answer, is_blocked, blocked_in_answer, last_of, Head, given, deliver, last_number, deliver_last, exchange, sweep, tick, is_older, install_last}
 use Rattle.model_members.specs.View.{leader, identities_of, View}
 use Rattle.model_members.specs.DataType.{Replication}
 use Rattle.model_members.specs.World.Event.{InputAt}
@@ -73,29 +73,28 @@ pub blocked_alike : (outcomes : List KeyOutcome) → length (filter (λ (told : 
 blocked_alike [] = refl
 blocked_alike (o ∷ os) = count_alike (is_blocked (meant_outcome o.outcome)) o (filter (λ (told : KeyOutcome). is_blocked (meant_outcome told.outcome)) os) (meant_at_key o) (filter (λ (told : nodes.KeyOutcome). is_blocked told.outcome) (map meant_at_key os)) (blocked_alike os)
 
-module _ {Op : Type 0} where
-  lines_full : (events : List Event) (lines : List (Told Op Shown)) → AllZip IsLine events lines → met_full events ≡ list_any (λ (t : Told Op Shown). is_full_answer t.answer) lines
-  lines_full [] [] all = refl
-  lines_full [] (t ∷ ts) all = absurd all
-  lines_full (e ∷ es) [] all = absurd all
-  lines_full (e ∷ es) (t ∷ ts) all = ap₂ (λ (a b : Bool). a || b) (answer_full e.answer t.answer all.0.answer) (lines_full es ts all.1)
+lines_full : (events : List Event) (lines : List (Told Op Shown)) → AllZip IsLine events lines → met_full events ≡ list_any (λ (t : Told Op Shown). is_full_answer t.answer) lines
+lines_full [] [] all = refl
+lines_full [] (t ∷ ts) all = absurd all
+lines_full (e ∷ es) [] all = absurd all
+lines_full (e ∷ es) (t ∷ ts) all = ap₂ (λ (a b : Bool). a || b) (answer_full e.answer t.answer all.0.answer) (lines_full es ts all.1)
 
-  lines_sent : (events : List Event) (lines : List (Told Op Shown)) → AllZip IsLine events lines → sent_in events ≡ sum_by (λ (t : Told Op Shown). length t.posts) lines
-  lines_sent [] [] all = refl
-  lines_sent [] (t ∷ ts) all = absurd all
-  lines_sent (e ∷ es) [] all = absurd all
-  lines_sent (e ∷ es) (t ∷ ts) all =
-      sum_by-cons (λ (event : Event). length event.sent) e es ∙ ap₂ (λ (a b : ℕ). a + b) (ap length all.0.sent ∙ length-map t.posts sketched_post) (lines_sent es ts all.1)
-      ∙ sym (sum_by-cons (λ (t : Told Op Shown). length t.posts) t ts)
+lines_sent : (events : List Event) (lines : List (Told Op Shown)) → AllZip IsLine events lines → sent_in events ≡ sum_by (λ (t : Told Op Shown). length t.posts) lines
+lines_sent [] [] all = refl
+lines_sent [] (t ∷ ts) all = absurd all
+lines_sent (e ∷ es) [] all = absurd all
+lines_sent (e ∷ es) (t ∷ ts) all =
+    sum_by-cons (λ (event : Event). length event.sent) e es ∙ ap₂ (λ (a b : ℕ). a + b) (ap length all.0.sent ∙ length-map t.posts sketched_post) (lines_sent es ts all.1)
+    ∙ sym (sum_by-cons (λ (t : Told Op Shown). length t.posts) t ts)
 
-  last_line : (events : List Event) (lines : List (Told Op Shown)) → AllZip IsLine events lines → last_blocked events ≡ unwrap_or (option_map (λ (t : Told Op Shown). blocked_in_answer t.answer) (last_of lines)) 0
-  last_line [] [] all = refl
-  last_line [] (t ∷ ts) all = absurd all
-  last_line (e ∷ es) [] all = absurd all
-  last_line (e ∷ []) (t ∷ []) all = answer_blocked e.answer t.answer all.0.answer
-  last_line (e ∷ []) (t ∷ u ∷ ts) all = absurd all.1
-  last_line (e ∷ f ∷ es) (t ∷ []) all = absurd all.1
-  last_line (e ∷ f ∷ es) (t ∷ u ∷ ts) all = last_line (f ∷ es) (u ∷ ts) all.1
+last_line : (events : List Event) (lines : List (Told Op Shown)) → AllZip IsLine events lines → last_blocked events ≡ unwrap_or (option_map (λ (t : Told Op Shown). blocked_in_answer t.answer) (last_of lines)) 0
+last_line [] [] all = refl
+last_line [] (t ∷ ts) all = absurd all
+last_line (e ∷ es) [] all = absurd all
+last_line (e ∷ []) (t ∷ []) all = answer_blocked e.answer t.answer all.0.answer
+last_line (e ∷ []) (t ∷ u ∷ ts) all = absurd all.1
+last_line (e ∷ f ∷ es) (t ∷ []) all = absurd all.1
+last_line (e ∷ f ∷ es) (t ∷ u ∷ ts) all = last_line (f ∷ es) (u ∷ ts) all.1
 
 module _ {Kind : Type 0} (p : Playing Kind Op Shown) (events : List Event) (told : AllZip IsLine events p.lines) where
   pub told_full : has_met_full p ≡ met_full events
@@ -285,7 +284,7 @@ module _ {Kind Op Shown : Type 0} (D : Replication Kind Op Shown) where
   unless_goes f p on = if_holds (Goes p) (has_met_full p) p (f p) (goes_nowhere p) on
 
   pub goes_gossips : (lead i : ℕ) → GoesOn (gossips D lead i)
-  goes_gossips lead i p = unless_goes (λ q. given D q (Head.GossipHead i lead) (InputAt i (Input.GossipTo lead))) p (given_goes D p (Head.GossipHead i lead) (InputAt i (Input.GossipTo lead)))
+  goes_gossips lead i p = unless_goes (λ q. given D q (Head.Asked i (Ask.Gossip lead)) (InputAt i (Input.GossipTo lead))) p (given_goes D p (Head.Asked i (Ask.Gossip lead)) (InputAt i (Input.GossipTo lead)))
 
   pub goes_last : (before from to : ℕ) → GoesOn (deliver_last D before from to)
   goes_last before from to p =
@@ -341,12 +340,12 @@ module _ {Kind Op Shown : Type 0} (D : Replication Kind Op Shown) where
   goes_sweeps_twice = goes_then (sweep D) (sweep D) goes_sweep goes_sweep
 
   pub goes_tick : GoesOn (tick D)
-  goes_tick p = unless_goes (λ q. given D q (Head.TickHead (leader q.world.view)) (InputAt (leader q.world.view) Input.PruneTick)) p (given_goes D p (Head.TickHead (leader p.world.view)) (InputAt (leader p.world.view) Input.PruneTick))
+  goes_tick p = unless_goes (λ q. given D q (Head.Asked (leader q.world.view) Ask.Tick) (InputAt (leader q.world.view) Input.PruneTick)) p (given_goes D p (Head.Asked (leader p.world.view) Ask.Tick) (InputAt (leader p.world.view) Input.PruneTick))
 
   pub goes_install : (i : ℕ) → GoesOn (λ p. install_last D p i)
   goes_install i p =
-      if_holds (Goes p) (is_older D p.world.view (p.world.nodes i)) (unless_full D (λ q. given D q (Head.InstallHead i p.world.view.number) (InputAt i (Input.Install p.world.view))) p) p
-      (unless_goes (λ q. given D q (Head.InstallHead i p.world.view.number) (InputAt i (Input.Install p.world.view))) p (given_goes D p (Head.InstallHead i p.world.view.number) (InputAt i (Input.Install p.world.view)))) (goes_nowhere p)
+      if_holds (Goes p) (is_older D p.world.view (p.world.nodes i)) (unless_full D (λ q. given D q (Head.Asked i (Ask.Install p.world.view.number)) (InputAt i (Input.Install p.world.view))) p) p
+      (unless_goes (λ q. given D q (Head.Asked i (Ask.Install p.world.view.number)) (InputAt i (Input.Install p.world.view))) p (given_goes D p (Head.Asked i (Ask.Install p.world.view.number)) (InputAt i (Input.Install p.world.view)))) (goes_nowhere p)
 
   pub goes_installs : GoesOn (installs D)
   goes_installs p = goes_fold (install_last D) goes_install (identities_of p.world.view) p

@@ -1,12 +1,13 @@
 -- A settle.
+--     told_asked        a member is asked
 --     told_install, told_tick, told_gossip, told_delivery        its calls that tell one event
 --     exchange_ends        an exchange: a member gossips to the leader, and at most three messages are delivered as they are sent
 --     halts_installs, halts_sweep_1 .. halts_sweep_2        memory was wanted in a part
 --     plays_stopped, plays_settled, remains_settle        the contract of the step
 --     remains_same        what stands before the first call of any step
-use Rattle.std.proofs.Common.{◌≡◌, ◌≢◌, ℕ, ◌-◌, ◌<◌, List, [], ◌∷◌, ◌++◌, refl, sym, ap, ◌∙◌, Bool, true, false, Option, Some, None, subst, Ok, Err}
+use Rattle.std.proofs.Common.{option_map, ◌≡◌, ◌≢◌, ℕ, ◌-◌, ◌<◌, List, [], ◌∷◌, ◌++◌, refl, sym, ap, ◌∙◌, Bool, true, false, Option, Some, None, subst, Ok, Err}
 use Rattle.std.specs.List.{AllZip}
-use Rattle.std.specs.Prelude.{if◌then◌else◌, is_some, nat_lt, slice_get, ◌==◌, Result, OnOk}
+use Rattle.std.specs.Prelude.{if◌then◌else◌, nat_lt, ◌==◌, Result, OnOk}
 use Rattle.std.proofs.lemmas.Bool.{false_from_ne_true, eq-eqb, ne_eqb}
 use Rattle.model_history.specs.Table.{identity_limit}
 use Rattle.model_history.specs.Texts.{Text}
@@ -19,9 +20,8 @@ use Rattle.model_members.specs.Script as script
 use Rattle.model_members.specs.View.{View, leader}
 use Rattle.model_members.specs.DataType.{Replication}
 use Rattle.model_members.specs.Node.{KeyDecl, Input}
-use Rattle.model_members.specs.World.{views_of}
 use Rattle.model_members.specs.World.Event.{InputAt}
-use Rattle.model_members.specs.Script.{Playing, Head, given, deliver, install, last_number, unless_full, deliver_last, tick, is_older, install_last, ScriptStep, sweep, posted, last_answer_blocked, settle_line, played}
+use Rattle.model_members.specs.Script.{Playing, Head, given, deliver, asked, asked_by, last_number, unless_full, deliver_last, tick, is_older, install_last, ScriptStep, sweep, posted, last_answer_blocked, settle_line, played}
 use Rattle.theorem_runs.proofs.Safety.{runs_are_safe}
 use Rattle.member_views.specs.Sound.{last_view}
 use Rattle.member_keeper.specs.declared.keeper.Keeper.{Ghosts as Keeping}
@@ -29,6 +29,9 @@ use Rattle.data_lattice.specs.declared.replica.Replica.{Ghosts}
 use Rattle.data_lattice.specs.declared.spelled.SpelledData.{Ghosts as Spelling}
 use Rattle.member_node.specs.declared.node.Node.{Node}
 use Rattle.member_node.specs.Steps.{replication}
+use Rattle.script_reading.specs.Meant.{ask_of}
+use Rattle.script_reading.specs.declared.ask.Ask.{Ask}
+use Rattle.script_reading.specs.declared.ask.Ask.TheVariants as question
 use Rattle.script_reading.specs.declared.script.Step.TheVariants as form
 use Rattle.script_reading.specs.declared.script.Step.{Step}
 use Rattle.world_members.specs.declared.event.Answer.TheVariants as answer
@@ -41,7 +44,7 @@ use Rattle.world_members.specs.Lines.{is_damage, IsLine, IsAnswer}
 use Rattle.world_members.specs.Places.{member_of}
 use Rattle.world_members.specs.Settling.{met_full, sent_in, is_behind, gossips, Settles, HaltsIn, SettlesOr, exchanges, last_blocked, installs, sweeps_twice}
 use Rattle.world_members.specs.Standing.{StandsForRunning}
-use Rattle.world_members.specs.Steps.{step_of, Plays, Remains, RemainsSo, Stays, IsDamaged, LoadsWhatItTook, Foretells, Reaches}
+use Rattle.world_members.specs.Steps.{Plays, Remains, Foretells, Reaches}
 use Rattle.world_members.specs.Ways.{Means, IsPrefix}
 use Rattle.world_members.specs.Keeping.{Given}
 use Rattle.world_members.specs.declared.event.Answer.{Answer}
@@ -112,56 +115,60 @@ apart p = record p { lines = [] }
 
 module _ {T K Kind Delta : Type 0} {ghosts : Ghosts T Kind Op Delta} {keeping : Keeping K} (spelling : Spelling T Kind Op Delta) where
   module _ (a b : World T K Kind Op Delta ghosts keeping) where
-    -- A STEP THAT IS NO RESTART
+    -- A QUESTION
 
-    does_step : (step : Step) → (IsDamaged spelling step a b → ⊥) → LoadsWhatItTook spelling step a → (event : Event) → Plays spelling step a b (event ∷ []) → Does spelling (λ p. script.played (replication ghosts spelling) p (step_of step)) a b (event ∷ [])
-    does_step step never loads event plays = record { given = plays.given; kept = plays.kept; undamaged = false_from_ne_true (is_damage event.answer) (λ e. never (plays.damaged e)); leads = (plays.does loads).1 }
+    remains_asked : (i : ℕ) (ask : Ask) → Remains spelling (form.Ask i ask) a b → IsAsBefore spelling a b
+    remains_asked i ask r = record { kept = r.kept; stays = r.remains }
 
-    pub as_remained : (step : Step) → (RemainsSo spelling step a b → Stays spelling a b) → Remains spelling step a b → IsAsBefore spelling a b
-    as_remained step stays r = record { kept = r.kept; stays = stays r.remains }
+    module _ (i : ℕ) (ask : Ask) (goes : Playing Kind Op Shown → Playing Kind Op Shown) (on : GoesOn goes) (same : (kinds : Text → Kind) (members : ℕ) (decls : List (KeyDecl Kind)) (p : Playing Kind Op Shown) → Means spelling kinds members decls p a → asked (replication ghosts spelling) p i (ask_of ask) ≡ goes p)
+        (es : List Event) (room : met_full es ≡ false) where
+      told_asked : (event : Event) → Plays spelling (form.Ask i ask) a b (event ∷ []) → (fs : List Event) {X E : Type 0} (pushed : Result X E) → OnOk pushed (fs ≡ es ++ event ∷ []) → SettlesOr spelling (unless_full (replication ghosts spelling) goes) a b es fs pushed
+      told_asked event plays fs pushed is =
+          told_unless spelling goes a b es on room fs event
+          (does_as spelling (λ p. asked (replication ghosts spelling) p i (ask_of ask)) goes a b (event ∷ []) same
+          (record { given = plays.given; kept = plays.kept; undamaged = false_from_ne_true (is_damage event.answer) (λ e. let d = plays.damaged e in cc d.restarts); leads = (plays.does tt).1 })) pushed is
+
+      halts_asked : Remains spelling (form.Ask i ask) a b → HaltsIn spelling (unless_full (replication ghosts spelling) goes) a b es
+      halts_asked r = halts_unless spelling goes a b es room (halts_before spelling goes on a b es (remains_asked i ask r))
 
     -- GOSSIP
 
     module _ (lead i : ℕ) (es : List Event) (room : met_full es ≡ false) where
       abbrev gossip : Playing Kind Op Shown → Playing Kind Op Shown
-      gossip p = given (replication ghosts spelling) p (Head.GossipHead i lead) (InputAt i (Input.GossipTo lead))
+      gossip p = given (replication ghosts spelling) p (Head.Asked i (script.Ask.Gossip lead)) (InputAt i (Input.GossipTo lead))
 
-      pub told_gossip : (event : Event) → Plays spelling (form.Gossip i lead) a b (event ∷ []) → (fs : List Event) {X E : Type 0} (pushed : Result X E) → OnOk pushed (fs ≡ es ++ event ∷ []) → SettlesOr spelling (gossips (replication ghosts spelling) lead i) a b es fs pushed
-      told_gossip event plays fs pushed is =
-          told_unless spelling gossip a b es (goes_given (replication ghosts spelling) (λ p. Head.GossipHead i lead) (λ p. InputAt i (Input.GossipTo lead))) room fs event (does_step (form.Gossip i lead) (λ d. cc d.restarts) tt event plays) pushed is
+      goes_gossip : GoesOn gossip
+      goes_gossip = goes_given (replication ghosts spelling) (λ p. Head.Asked i (script.Ask.Gossip lead)) (λ p. InputAt i (Input.GossipTo lead))
 
-      pub halts_gossip_call : Remains spelling (form.Gossip i lead) a b → HaltsIn spelling (gossips (replication ghosts spelling) lead i) a b es
-      halts_gossip_call r =
-          halts_unless spelling gossip a b es room (halts_before spelling gossip (goes_given (replication ghosts spelling) (λ p. Head.GossipHead i lead) (λ p. InputAt i (Input.GossipTo lead))) a b es (as_remained (form.Gossip i lead) (λ s. s) r))
+      pub told_gossip : (event : Event) → Plays spelling (form.Ask i (question.Gossip lead)) a b (event ∷ []) → (fs : List Event) {X E : Type 0} (pushed : Result X E) → OnOk pushed (fs ≡ es ++ event ∷ []) → SettlesOr spelling (gossips (replication ghosts spelling) lead i) a b es fs pushed
+      told_gossip = told_asked i (question.Gossip lead) gossip goes_gossip (λ kinds members decls p m. refl) es room
+
+      pub halts_gossip_call : Remains spelling (form.Ask i (question.Gossip lead)) a b → HaltsIn spelling (gossips (replication ghosts spelling) lead i) a b es
+      halts_gossip_call = halts_asked i (question.Gossip lead) gossip goes_gossip (λ kinds members decls p m. refl) es room
 
     pub skips_gossip : (lead i : ℕ) (es : List Event) → met_full es ≡ true → Settles spelling (gossips (replication ghosts spelling) lead i) a a es es
-    skips_gossip lead i es full = settles_skipped spelling (λ p. given (replication ghosts spelling) p (Head.GossipHead i lead) (InputAt i (Input.GossipTo lead))) a a es full
+    skips_gossip lead i es full = settles_skipped spelling (λ p. given (replication ghosts spelling) p (Head.Asked i (script.Ask.Gossip lead)) (InputAt i (Input.GossipTo lead))) a a es full
 
     -- A TICK OF THE LEADER
 
     module _ (lead : ℕ) (leads : lead ≡ leader (last_view a.views)) (es : List Event) (room : met_full es ≡ false) where
       abbrev ticked : Playing Kind Op Shown → Playing Kind Op Shown
-      ticked p = given (replication ghosts spelling) p (Head.TickHead (leader p.world.view)) (InputAt (leader p.world.view) Input.PruneTick)
+      ticked p = given (replication ghosts spelling) p (Head.Asked (leader p.world.view) script.Ask.Tick) (InputAt (leader p.world.view) Input.PruneTick)
 
       goes_tick_of : GoesOn ticked
-      goes_tick_of = goes_given (replication ghosts spelling) (λ p. Head.TickHead (leader p.world.view)) (λ p. InputAt (leader p.world.view) Input.PruneTick)
+      goes_tick_of = goes_given (replication ghosts spelling) (λ p. Head.Asked (leader p.world.view) script.Ask.Tick) (λ p. InputAt (leader p.world.view) Input.PruneTick)
 
-      leader_is : (kinds : Text → Kind) (members : ℕ) (decls : List (KeyDecl Kind)) (p : Playing Kind Op Shown) → Means spelling kinds members decls p a → lead ≡ leader p.world.view
-      leader_is kinds members decls p m = leads ∙ ap leader (view_of spelling kinds members decls p a m)
+      ticks_so : (kinds : Text → Kind) (members : ℕ) (decls : List (KeyDecl Kind)) (p : Playing Kind Op Shown) → Means spelling kinds members decls p a → asked (replication ghosts spelling) p lead script.Ask.Tick ≡ ticked p
+      ticks_so kinds members decls p m = ap (λ l. given (replication ghosts spelling) p (Head.Asked l script.Ask.Tick) (InputAt l Input.PruneTick)) (leads ∙ ap leader (view_of spelling kinds members decls p a m))
 
-      does_tick : (event : Event) → Plays spelling (form.Tick lead) a b (event ∷ []) → Does spelling ticked a b (event ∷ [])
-      does_tick event plays =
-          does_as spelling (λ p. script.played (replication ghosts spelling) p (script.ScriptStep.Tick lead)) ticked a b (event ∷ []) (λ kinds members decls p m. ap (λ l. given (replication ghosts spelling) p (Head.TickHead l) (InputAt l Input.PruneTick)) (leader_is kinds members decls p m))
-          (does_step (form.Tick lead) (λ d. cc d.restarts) tt event plays)
+      pub told_tick : (event : Event) → Plays spelling (form.Ask lead question.Tick) a b (event ∷ []) → (fs : List Event) {X E : Type 0} (pushed : Result X E) → OnOk pushed (fs ≡ es ++ event ∷ []) → SettlesOr spelling (tick (replication ghosts spelling)) a b es fs pushed
+      told_tick = told_asked lead question.Tick ticked goes_tick_of ticks_so es room
 
-      pub told_tick : (event : Event) → Plays spelling (form.Tick lead) a b (event ∷ []) → (fs : List Event) {X E : Type 0} (pushed : Result X E) → OnOk pushed (fs ≡ es ++ event ∷ []) → SettlesOr spelling (tick (replication ghosts spelling)) a b es fs pushed
-      told_tick event plays fs pushed is = told_unless spelling ticked a b es goes_tick_of room fs event (does_tick event plays) pushed is
-
-      pub halts_tick_call : Remains spelling (form.Tick lead) a b → HaltsIn spelling (tick (replication ghosts spelling)) a b es
-      halts_tick_call r = halts_unless spelling ticked a b es room (halts_before spelling ticked goes_tick_of a b es (as_remained (form.Tick lead) (λ s. s) r))
+      pub halts_tick_call : Remains spelling (form.Ask lead question.Tick) a b → HaltsIn spelling (tick (replication ghosts spelling)) a b es
+      halts_tick_call = halts_asked lead question.Tick ticked goes_tick_of ticks_so es room
 
     pub skips_tick : (es : List Event) → met_full es ≡ true → Settles spelling (tick (replication ghosts spelling)) a a es es
-    skips_tick es full = settles_skipped spelling (λ p. given (replication ghosts spelling) p (Head.TickHead (leader p.world.view)) (InputAt (leader p.world.view) Input.PruneTick)) a a es full
+    skips_tick es full = settles_skipped spelling (λ p. given (replication ghosts spelling) p (Head.Asked (leader p.world.view) script.Ask.Tick) (InputAt (leader p.world.view) Input.PruneTick)) a a es full
 
     -- A MESSAGE
 
@@ -202,17 +209,18 @@ module _ {T K Kind Delta : Type 0} {ghosts : Ghosts T Kind Op Delta} {keeping : 
 
     module _ (i : ℕ) where
       abbrev takes_up : Playing Kind Op Shown → Playing Kind Op Shown
-      takes_up p = given (replication ghosts spelling) p (Head.InstallHead i p.world.view.number) (InputAt i (Input.Install p.world.view))
+      takes_up p = given (replication ghosts spelling) p (Head.Asked i (script.Ask.Install p.world.view.number)) (InputAt i (Input.Install p.world.view))
 
       goes_up : GoesOn takes_up
-      goes_up = goes_given (replication ghosts spelling) (λ p. Head.InstallHead i p.world.view.number) (λ p. InputAt i (Input.Install p.world.view))
+      goes_up = goes_given (replication ghosts spelling) (λ p. Head.Asked i (script.Ask.Install p.world.view.number)) (λ p. InputAt i (Input.Install p.world.view))
 
       abbrev by_behind : Playing Kind Op Shown → Bool → Playing Kind Op Shown
       by_behind p x = if x then unless_full (replication ghosts spelling) takes_up p else p
 
-      older_runs : (view : View) (o : Option (nodes.Node Kind Op Shown)) → is_older (replication ghosts spelling) view o ≡ true → is_some o ≡ true
-      older_runs view None e = e
-      older_runs view (Some node) e = refl
+      installs_last : (number : ℕ) → number ≡ (last_view a.views).number → (kinds : Text → Kind) (members : ℕ) (decls : List (KeyDecl Kind)) (p : Playing Kind Op Shown) → Means spelling kinds members decls p a → asked (replication ghosts spelling) p i (script.Ask.Install number) ≡ takes_up p
+      installs_last number numbered kinds members decls p m =
+          ap (λ n. asked (replication ghosts spelling) p i (script.Ask.Install n)) (numbered ∙ ap (λ (v : View). v.number) (view_of spelling kinds members decls p a m))
+          ∙ ap (λ o. asked_by (replication ghosts spelling) p i (script.Ask.Install p.world.view.number) (option_map Input.Install o)) (runs_are_safe (replication ghosts spelling) members decls p.events p.world m.run).views.views.listed
 
       module _ (behind : Bool) (is : behind ≡ is_behind (last_view a.views) (member_of (last_view a.views) a.nodes.items i)) where
         module _ (kinds : Text → Kind) (members : ℕ) (decls : List (KeyDecl Kind)) (p : Playing Kind Op Shown) (m : Means spelling kinds members decls p a) where
@@ -225,16 +233,6 @@ module _ {T K Kind Delta : Type 0} {ghosts : Ghosts T Kind Op Delta} {keeping : 
               let l = way_logs (replication ghosts spelling) members decls p m.run in
               by_member l.0 p.world.view (member_of (last_view a.views) a.nodes.items i) (p.world.nodes i) ((m.stands l.0 l.1).running i)
               ∙ ap (λ (v : View). is_behind v (member_of (last_view a.views) a.nodes.items i)) (sym (view_of spelling kinds members decls p a m)) ∙ sym is
-
-          abbrev with_view : ℕ → Option View → Playing Kind Op Shown
-          with_view n o = elim o [ None ↦ script.told p (Head.InstallHead i n) script.Answer.NoSuchView | Some view ↦ given (replication ghosts spelling) p (Head.InstallHead i n) (InputAt i (Input.Install view)) ]
-
-          installs_last : behind ≡ true → (number : ℕ) → number ≡ (last_view a.views).number → install (replication ghosts spelling) p i number ≡ takes_up p
-          installs_last late number numbered =
-              let same : number ≡ p.world.view.number = numbered ∙ ap (λ (v : View). v.number) (view_of spelling kinds members decls p a m) in
-              let listed = (runs_are_safe (replication ghosts spelling) members decls p.events p.world m.run).views.views.listed in
-              ap (λ x. if x then with_view number (slice_get (views_of p.world) number) else script.told p (Head.InstallHead i number) script.Answer.Gone) (older_runs p.world.view (p.world.nodes i) (older_is ∙ late))
-              ∙ ap (λ n. with_view n (slice_get (views_of p.world) n)) same ∙ ap (with_view p.world.view.number) listed
 
         module _ (es : List Event) where
           pub skips_upto_date : behind ≡ false → Settles spelling (λ p. install_last (replication ghosts spelling) p i) a a es es
@@ -249,17 +247,12 @@ module _ {T K Kind Delta : Type 0} {ghosts : Ghosts T Kind Op Delta} {keeping : 
             skips_install full = settles_as spelling (unless_full (replication ghosts spelling) takes_up) (λ p. install_last (replication ghosts spelling) p i) a a es takes_so es (settles_skipped spelling takes_up a a es full)
 
             module _ (room : met_full es ≡ false) (number : ℕ) (numbered : number ≡ (last_view a.views).number) where
-              does_install : (event : Event) → Plays spelling (form.Install i number) a b (event ∷ []) → Does spelling takes_up a b (event ∷ [])
-              does_install event plays =
-                  does_as spelling (λ p. script.played (replication ghosts spelling) p (script.ScriptStep.Install i number)) takes_up a b (event ∷ []) (λ kinds members decls p m. installs_last kinds members decls p m late number numbered)
-                  (does_step (form.Install i number) (λ d. cc d.restarts) tt event plays)
-
-              pub told_install : (event : Event) → Plays spelling (form.Install i number) a b (event ∷ []) → (fs : List Event) {X E : Type 0} (pushed : Result X E) → OnOk pushed (fs ≡ es ++ event ∷ []) → SettlesOr spelling (λ p. install_last (replication ghosts spelling) p i) a b es fs pushed
+              pub told_install : (event : Event) → Plays spelling (form.Ask i (question.Install number)) a b (event ∷ []) → (fs : List Event) {X E : Type 0} (pushed : Result X E) → OnOk pushed (fs ≡ es ++ event ∷ []) → SettlesOr spelling (λ p. install_last (replication ghosts spelling) p i) a b es fs pushed
               told_install event plays fs pushed pushes =
-                  settles_or_as spelling (unless_full (replication ghosts spelling) takes_up) (λ p. install_last (replication ghosts spelling) p i) a b es takes_so fs pushed (told_unless spelling takes_up a b es goes_up room fs event (does_install event plays) pushed pushes)
+                  settles_or_as spelling (unless_full (replication ghosts spelling) takes_up) (λ p. install_last (replication ghosts spelling) p i) a b es takes_so fs pushed (told_asked i (question.Install number) takes_up goes_up (installs_last number numbered) es room event plays fs pushed pushes)
 
-              pub halts_install : Remains spelling (form.Install i number) a b → HaltsIn spelling (λ p. install_last (replication ghosts spelling) p i) a b es
-              halts_install r = halts_before spelling (λ p. install_last (replication ghosts spelling) p i) (goes_install (replication ghosts spelling) i) a b es (as_remained (form.Install i number) (λ s. s) r)
+              pub halts_install : Remains spelling (form.Ask i (question.Install number)) a b → HaltsIn spelling (λ p. install_last (replication ghosts spelling) p i) a b es
+              halts_install r = halts_before spelling (λ p. install_last (replication ghosts spelling) p i) (goes_install (replication ghosts spelling) i) a b es (remains_asked i (question.Install number) r)
 
   -- AN EXCHANGE
 
@@ -375,8 +368,8 @@ module _ {T K Kind Delta : Type 0} {ghosts : Ghosts T Kind Op Delta} {keeping : 
     means_apart : (kinds : Text → Kind) (members : ℕ) (decls : List (KeyDecl Kind)) (p : Playing Kind Op Shown) → Means spelling kinds members decls p a → Means spelling kinds members decls (apart p) a
     means_apart kinds members decls p m = means_same spelling kinds members decls p (apart p) a refl refl m
 
-    nothing_told : (es : List Event) → es ≡ [] → AllZip (IsLine {Op = Op}) es []
-    nothing_told es none = subst (λ (xs : List Event). AllZip (IsLine {Op = Op}) xs []) (sym none) tt
+    nothing_told : (es : List Event) → es ≡ [] → AllZip IsLine es []
+    nothing_told es none = subst (λ (xs : List Event). AllZip IsLine xs []) (sym none) tt
 
     pub remains_settle : (b : World T K Kind Op Delta ghosts keeping) (es : List Event) → es ≡ [] → HaltsIn spelling (swept_last (replication ghosts spelling)) a b es → Remains spelling form.Settle a b
     remains_settle b es none halts =

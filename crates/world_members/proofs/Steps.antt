@@ -1,11 +1,11 @@
 -- Each step of one event, by its form.
 --     call_reply, call_other        a message is handed to its receiver, and passed where it was the next one due
 --     plays_lost        the next message due on a link is lost
---     installs        a member is given a view of the list
---     updates .. times_out        the inputs of clients
+--     asks_given, times_out        a question that is an input, and a timeout
 --     delivers_this, delivers_next        a message by its number, and the next one due
+--     asks_gone, asks_viewless        a question that names no view
 use Rattle.std.proofs.Common.{◌≡◌, ℕ, ◌<◌, ◌≤◌, List, [], ◌∷◌, length-append, refl, sym, ap, subst, ◌∙◌, arith, Bool, true, false, Option, Some, None, ◌+◌, length, Result, Ok, Err}
-use Rattle.std.specs.Prelude.{is_some, if◌then◌else◌, ◌==◌, ◌&&◌, option_map, slice_get, MatchResult}
+use Rattle.std.specs.Prelude.{is_some, if◌then◌else◌, ◌==◌, ◌&&◌, option_map, MatchResult}
 use Rattle.std.proofs.lemmas.Option.{slice_get_within}
 use Rattle.std.proofs.lemmas.Bool.{lt-ltb, le-ltb}
 use Rattle.base_bytes.specs.declared.memory.Memory.{Memory}
@@ -18,12 +18,12 @@ use Rattle.model_members.specs.Message as sending
 use Rattle.model_members.specs.Node as nodes
 use Rattle.model_members.specs.Script as script
 use Rattle.model_members.specs.World as worlds
-use Rattle.model_members.specs.View.{is_member, View}
+use Rattle.model_members.specs.View.{is_member}
 use Rattle.model_members.specs.Message.{Message as Sent}
 use Rattle.model_members.specs.Node.{KeyDecl, Input}
 use Rattle.model_members.specs.World.{IsRun, message_at, moved_on, with_posts, views_of}
 use Rattle.model_members.specs.World.Event.{Delivery, Loss, InputAt}
-use Rattle.model_members.specs.Script.{Playing, told, deliver, given, ScriptStep, did_plainly, lose, install, IsStep, played}
+use Rattle.model_members.specs.Script.{Playing, told, deliver, given, ScriptStep, did_plainly, lose, IsStep, played}
 use Rattle.theorem_runs.proofs.Playing.{deliver_is_run, deliver_appends, step_is_run, played_appends}
 use Rattle.member_views.specs.Sound.{IsView, AreViews, last_view}
 use Rattle.member_keeper.specs.declared.keeper.Keeper.{Ghosts as Keeping}
@@ -32,8 +32,6 @@ use Rattle.data_lattice.specs.declared.spelled.SpelledData.{Ghosts as Spelling}
 use Rattle.member_messages.specs.declared.message.Message.{Message}
 use Rattle.member_messages.specs.Sketches.{sketch_of}
 use Rattle.member_messages.specs.declared.sketch.Sketch.{Sketch}
-use Rattle.member_quorum.specs.declared.level.Level.{Level}
-use Rattle.member_quorum.specs.Levels.{level_meant}
 use Rattle.member_node.specs.declared.input.Input.TheVariants as input
 use Rattle.member_node.specs.declared.input.Input as given_input
 use Rattle.member_node.specs.declared.node.Node.{Node}
@@ -44,6 +42,8 @@ use Rattle.member_node.specs.Steps.{replication}
 use Rattle.member_node.specs.declared.key.KeyState.{KeyState}
 use Rattle.member_node.specs.Inputs.{StandsForInput}
 use Rattle.member_node.proofs.Takings.{told_whole}
+use Rattle.script_reading.specs.Meant.{ask_of, step_of}
+use Rattle.script_reading.specs.declared.ask.Ask.{Ask}
 use Rattle.script_reading.specs.declared.script.Step.TheVariants as form
 use Rattle.script_reading.specs.declared.script.Step.{Step}
 use Rattle.world_members.specs.declared.event.Head.TheVariants as head
@@ -53,33 +53,23 @@ use Rattle.world_members.specs.declared.event.Head.{Head}
 use Rattle.world_members.specs.declared.event.Event.{Event}
 use Rattle.world_members.specs.declared.sending.Answered.{Answered}
 use Rattle.world_members.specs.Channels.{Channel, channel_at, count_on, message_on, passed, extended, ChangesOne, next_on}
-use Rattle.world_members.specs.Lines.{IsHead}
+use Rattle.world_members.specs.Asking.{input_of}
+use Rattle.world_members.specs.Lines.{IsHead, IsAnswer, is_damage}
 use Rattle.world_members.specs.Places.{seat_of}
 use Rattle.world_members.specs.Sending.{messages_to, AreFew}
 use Rattle.world_members.specs.Standing.{StandsForLink, StandsForWorld}
-use Rattle.world_members.specs.Steps.{Foretells, Reaches, Plays, Remains, step_of}
+use Rattle.world_members.specs.Steps.{Foretells, Reaches, Plays, Remains}
 use Rattle.world_members.specs.Ways.{IsPrefix, Means}
 use Rattle.world_members.specs.Giving.{IsSame, IsAlikeButLinks, ChangesAt, Refuses, Makes, Gives, Hands, gone, full, made, Does, delivers, IsAsBefore}
 use Rattle.world_members.specs.declared.event.Answer.{Answer}
 use Rattle.world_members.proofs.Seats.{last_sound}
-use Rattle.world_members.proofs.Answering.{reaches_gone, reaches_full, kept_changed, called_keeps, kept_refused, given_at, reaches_made, answers_of, step_does, install as whole_install, outcome_given, IsWhole, remains_as, update, get, flush, gossip, tick, timeout, deliver as whole_deliver}
+use Rattle.world_members.proofs.Answering.{reaches_gone, reaches_full, kept_changed, called_keeps, kept_refused, given_at, reaches_made, answers_of, step_does, outcome_given, IsWhole, remains_as, ask as whole_ask, timeout, deliver as whole_deliver}
 use Rattle.world_members.proofs.Linking.{link_message, links_sent, links_moved, passed_first, same_sketch, link_next, link_count}
 use Rattle.world_members.proofs.Onward.{way_logs, stands_before}
 use Rattle.world_members.proofs.Standings.{absent_gone, present_runs, same_itself, but_links, kept_alike, stands_with_links, kept_with_links}
-use Rattle.world_members.proofs.Lists.{IsPair, both, neither}
+use Rattle.world_members.proofs.Asking.{asked_some, asked_none, asks_so}
+use Rattle.world_members.proofs.Lists.{IsPair, pair_both, pair_some, pair_none}
 use Rattle.world_members.proofs.Telling.{IsEventAt, delivery_at, does_told, plays_does, plays_told}
-
-pair_both : {X Y : Type 0} (R : X → Y → Type 0) (a : Option X) (b : Option Y) (x : X) (y : Y) → IsPair R a b → a ≡ Some x → b ≡ Some y → R x y
-pair_both R _ _ x y (both {x = a} {y = b} r) e f = subst (R x) (cc f) (subst (λ z. R z b) (cc e) r)
-pair_both R _ _ x y neither e f = absurd (cc e)
-
-pair_some : {X Y : Type 0} (R : X → Y → Type 0) (a : Option X) (b : Option Y) (x : X) → IsPair R a b → a ≡ Some x → (y : Y) × (b ≡ Some y)
-pair_some R _ _ x (both {y = y} r) e = (y, refl)
-pair_some R _ _ x neither e = absurd (cc e)
-
-pair_none : {X Y : Type 0} (R : X → Y → Type 0) (a : Option X) (b : Option Y) → IsPair R a b → a ≡ None → b ≡ None
-pair_none R _ _ (both r) e = absurd (cc e)
-pair_none R _ _ neither e = refl
 
 pub sent_within : {M : Type 0} (o : Option (Channel M)) (index : ℕ) (message : M) → message_on o index ≡ Some message → index < count_on o
 sent_within None index message e = absurd (cc e)
@@ -352,44 +342,6 @@ module _ {T K Kind Delta : Type 0} {ghosts : Ghosts T Kind Op Delta} {keeping : 
         plays_told spelling old old (same_itself old) (form.Lose from to) (head.Lose from to (next_on (channel_at old.links from to))) answer.NoSuchMessage event (lost_line answer.NoSuchMessage is) refl
         (λ kinds members decls p m. (script.Head.LoseHead from to (next_on (channel_at old.links from to)), script.Answer.NoSuchMessage, none old from to small few kinds members decls p m (omega arith), refl, refl))
 
-  -- VIEWS
-
-  module _ (old : World T K Kind Op Delta ghosts keeping) (i number : ℕ) (are : AreViews old.views) (here_is : Bool) (contains : here_is ≡ is_member (last_view old.views) i) where
-    module _ (kinds : Text → Kind) (members : ℕ) (decls : List (KeyDecl Kind)) (p : Playing Kind Op Shown) (m : Means spelling kinds members decls p old) where
-      abbrev with_view : Option View → Playing Kind Op Shown
-      with_view o = elim o [ None ↦ told p (script.Head.InstallHead i number) script.Answer.NoSuchView | Some view ↦ given (replication ghosts spelling) p (script.Head.InstallHead i number) (InputAt i (Input.Install view)) ]
-
-      abbrev by_member : Option (nodes.Node Kind Op Shown) → Playing Kind Op Shown
-      by_member o = if is_some o then with_view (slice_get (views_of p.world) number) else told p (script.Head.InstallHead i number) script.Answer.Gone
-
-      gone_is : here_is ≡ false → install (replication ghosts spelling) p i number ≡ told p (script.Head.InstallHead i number) script.Answer.Gone
-      gone_is absent = ap by_member (absent_gone spelling old kinds members decls p m i (sym contains ∙ absent))
-
-      views_are : views_of p.world ≡ old.views
-      views_are = let logged = way_logs (replication ghosts spelling) members decls p m.run in (m.stands logged.0 logged.1).views
-
-      view_is : here_is ≡ true → (o : Option View) → o ≡ slice_get old.views number → install (replication ghosts spelling) p i number ≡ with_view o
-      view_is present o is = ap by_member (present_runs spelling old kinds members decls p m i (last_sound old.views are) (sym contains ∙ present)).1 ∙ ap with_view (ap (λ (views : List View). slice_get views number) views_are ∙ sym is)
-
-    pub installs_gone : here_is ≡ false → (event : Event) → event ≡ record { head = head.Install i number; answer = answer.Gone; sent = []; finished = None } → Plays spelling (form.Install i number) old old (event ∷ [])
-    installs_gone absent event line =
-        plays_told spelling old old (same_itself old) (form.Install i number) (head.Install i number) answer.Gone event line refl (λ kinds members decls p m. (script.Head.InstallHead i number, script.Answer.Gone, gone_is kinds members decls p m absent, refl, refl))
-
-    module _ (present : here_is ≡ true) (asked : Option View) (asks : asked ≡ slice_get old.views number) where
-      pub installs_none : asked ≡ None → (event : Event) → event ≡ record { head = head.Install i number; answer = answer.NoSuchView; sent = []; finished = None } → Plays spelling (form.Install i number) old old (event ∷ [])
-      installs_none none event line =
-          plays_told spelling old old (same_itself old) (form.Install i number) (head.Install i number) answer.NoSuchView event line refl
-          (λ kinds members decls p m. (script.Head.InstallHead i number, script.Answer.NoSuchView, view_is kinds members decls p m present asked asks ∙ ap (with_view kinds members decls p m) none, refl, refl))
-
-      pub installs : (alike : (a b : K) → is_some (keeping.table a) ≡ is_some (keeping.table b)) (view copy : View) → asked ≡ Some view → copy ≡ view → (new : World T K Kind Op Delta ghosts keeping) (outcome : Result Event Memory)
-          → MatchResult outcome (Gives spelling i (head.Install i number) (input.Install copy) old new) (λ e. Refuses i old new)
-          → MatchResult outcome (λ event. Plays spelling (form.Install i number) old new (event ∷ [])) (λ e. Remains spelling (form.Install i number) old new)
-      installs alike view copy found same new outcome gives =
-          step_does spelling (form.Install i number) (whole_install i number) old new outcome
-          (outcome_given spelling alike (ScriptStep.Install i number) tt (script.Head.InstallHead i number) i (Input.Install view) (head.Install i number) refl (input.Install copy) old new
-          (λ kinds members decls p m. view_is kinds members decls p m present asked asks ∙ ap (with_view kinds members decls p m) found)
-          (λ kinds logs keys. ap Input.Install (sym same)) outcome gives)
-
   -- BY THE FORM
 
   module _ (old new : World T K Kind Op Delta ghosts keeping) where
@@ -402,25 +354,12 @@ module _ {T K Kind Delta : Type 0} {ghosts : Ghosts T Kind Op Delta} {keeping : 
           → ((kinds : Text → Kind) (logs : Text → History Op) (keys : List (KeyState T Kind Op Delta)) → StandsForInput kinds logs keys given sent) → MatchResult outcome (Gives spelling at kept given old new) (λ e. Refuses at old new) → PlaysOr step outcome
       takes step whole is_step head at sent kept is_head given goes stands gives = step_does spelling step whole old new outcome (outcome_given spelling alike (step_of step) is_step head at sent kept is_head given old new goes stands outcome gives)
 
-      pub updates : (at : ℕ) (key told taken : Text) (op copy : Op) (level : Level) → told ≡ key → taken ≡ key → copy ≡ op → MatchResult outcome (Gives spelling at (head.Update at told) (input.Update taken copy level) old new) (λ e. Refuses at old new)
-          → PlaysOr (form.Update at key op level) outcome
-      updates at key told taken op copy level same_told same_taken same_op =
-          takes (form.Update at key op level) (update at key op level) tt (script.Head.UpdateHead at key) at (Input.Update key op (level_meant level)) (head.Update at told) (ap (script.Head.UpdateHead at) (sym same_told)) (input.Update taken copy level)
-          (λ kinds members decls p m. refl) (λ kinds logs keys. λ i. Input.Update (sym same_taken i) (sym same_op i) (level_meant level))
-
-      pub gets : (at : ℕ) (key told taken : Text) (level : Level) → told ≡ key → taken ≡ key → MatchResult outcome (Gives spelling at (head.Get at told) (input.Get taken level) old new) (λ e. Refuses at old new) → PlaysOr (form.Get at key level) outcome
-      gets at key told taken level same_told same_taken =
-          takes (form.Get at key level) (get at key level) tt (script.Head.GetHead at key) at (Input.Get key (level_meant level)) (head.Get at told) (ap (script.Head.GetHead at) (sym same_told)) (input.Get taken level)
-          (λ kinds members decls p m. refl) (λ kinds logs keys. ap (λ key. Input.Get key (level_meant level)) (sym same_taken))
-
-      pub flushes : (at : ℕ) → MatchResult outcome (Gives spelling at (head.Flush at) input.Flush old new) (λ e. Refuses at old new) → PlaysOr (form.Flush at) outcome
-      flushes at = takes (form.Flush at) (flush at) tt (script.Head.FlushHead at) at Input.Flush (head.Flush at) refl input.Flush (λ kinds members decls p m. refl) (λ kinds logs keys. refl)
-
-      pub gossips : (at to : ℕ) → MatchResult outcome (Gives spelling at (head.Gossip at to) (input.GossipTo to) old new) (λ e. Refuses at old new) → PlaysOr (form.Gossip at to) outcome
-      gossips at to = takes (form.Gossip at to) (gossip at to) tt (script.Head.GossipHead at to) at (Input.GossipTo to) (head.Gossip at to) refl (input.GossipTo to) (λ kinds members decls p m. refl) (λ kinds logs keys. refl)
-
-      pub ticks : (at : ℕ) → MatchResult outcome (Gives spelling at (head.Tick at) input.PruneTick old new) (λ e. Refuses at old new) → PlaysOr (form.Tick at) outcome
-      ticks at = takes (form.Tick at) (tick at) tt (script.Head.TickHead at) at Input.PruneTick (head.Tick at) refl input.PruneTick (λ kinds members decls p m. refl) (λ kinds logs keys. refl)
+      -- a question that is this input
+      pub asks_given : (i : ℕ) (ask copy : Ask) → copy ≡ ask → (given : given_input.Input T Kind Op Delta ghosts) → input_of old.views ask ≡ Some given → MatchResult outcome (Gives spelling i (head.Asked i copy) given old new) (λ e. Refuses i old new) → PlaysOr (form.Ask i ask) outcome
+      asks_given i ask copy same given is =
+          let there = asked_some old.views ask given is in
+          takes (form.Ask i ask) (whole_ask i ask) tt (script.Head.Asked i (ask_of ask)) i there.0 (head.Asked i copy) (ap (λ q. script.Head.Asked i (ask_of q)) (sym same)) given
+          (λ kinds members decls p m. asks_so spelling kinds members decls p old m i ask (Some there.0) there.1) there.2
 
       pub times_out : (at op : ℕ) → MatchResult outcome (Gives spelling at (head.Timeout at op) (input.Timeout op) old new) (λ e. Refuses at old new) → PlaysOr (form.Timeout at op) outcome
       times_out at op = takes (form.Timeout at op) (timeout at op) tt (script.Head.TimeoutHead at op) at (Input.Timeout op) (head.Timeout at op) refl (input.Timeout op) (λ kinds members decls p m. refl) (λ kinds logs keys. refl)
@@ -446,3 +385,20 @@ module _ {T K Kind Delta : Type 0} {ghosts : Ghosts T Kind Op Delta} {keeping : 
       pub delivers_next : (outcome : Result Event Memory) (index : Option ℕ) → index ≡ None → MatchResult outcome (λ event. Does spelling (delivers ghosts spelling from to number) old new (event ∷ [])) (λ e. IsAsBefore spelling old new) → PlaysOr (form.Deliver from to index) outcome
       delivers_next (Ok event) index is d = subst (λ (o : Option ℕ). Plays spelling (form.Deliver from to o) old new (event ∷ [])) (sym is) (plays_does spelling (form.Deliver from to None) old new (event ∷ []) (next_does (event ∷ []) d))
       delivers_next (Err e) index is b = subst (λ (o : Option ℕ). Remains spelling (form.Deliver from to o) old new) (sym is) (remains_as spelling (form.Deliver from to None) (whole_deliver from to None) old new b)
+
+  -- A QUESTION THAT NAMES NO VIEW
+
+  module _ (old : World T K Kind Op Delta ghosts keeping) (i : ℕ) (ask copy : Ask) (same : copy ≡ ask) (none : input_of {ghosts = ghosts} old.views ask ≡ None) (are : AreViews old.views) (here_is : Bool) (contains : here_is ≡ is_member (last_view old.views) i) where
+    abbrev answered_by : Bool → script.Answer Shown
+    answered_by b = if b then script.Answer.NoSuchView else script.Answer.Gone
+
+    tells : (here : Bool) (a : Answer) → IsAnswer a (answered_by here) → is_damage a ≡ false → ((kinds : Text → Kind) (members : ℕ) (decls : List (KeyDecl Kind)) (p : Playing Kind Op Shown) → Means spelling kinds members decls p old → is_some (p.world.nodes i) ≡ here) → (event : Event) → event ≡ record { head = head.Asked i copy; answer = a; sent = []; finished = None } → Plays spelling (form.Ask i ask) old old (event ∷ [])
+    tells here a is_answer sound runs event line =
+        plays_told spelling old old (same_itself old) (form.Ask i ask) (head.Asked i copy) a event line sound
+        (λ kinds members decls p m. (script.Head.Asked i (ask_of ask), answered_by here, asks_so spelling kinds members decls p old m i ask None (asked_none old.views ask none) ∙ ap (λ b. told p (script.Head.Asked i (ask_of ask)) (answered_by b)) (runs kinds members decls p m), ap (λ q. script.Head.Asked i (ask_of q)) (sym same), is_answer))
+
+    pub asks_gone : here_is ≡ false → (event : Event) → event ≡ record { head = head.Asked i copy; answer = answer.Gone; sent = []; finished = None } → Plays spelling (form.Ask i ask) old old (event ∷ [])
+    asks_gone absent = tells false answer.Gone refl refl (λ kinds members decls p m. ap is_some (absent_gone spelling old kinds members decls p m i (sym contains ∙ absent)))
+
+    pub asks_viewless : here_is ≡ true → (event : Event) → event ≡ record { head = head.Asked i copy; answer = answer.NoSuchView; sent = []; finished = None } → Plays spelling (form.Ask i ask) old old (event ∷ [])
+    asks_viewless present = tells true answer.NoSuchView refl refl (λ kinds members decls p m. ap is_some (present_runs spelling old kinds members decls p m i (last_sound old.views are) (sym contains ∙ present)).1)

@@ -26,13 +26,14 @@ use Rattle.member_keeper.specs.declared.keeper.Keeper.{Ghosts as Keeping}
 use Rattle.data_lattice.specs.declared.replica.Replica.{Ghosts}
 use Rattle.data_lattice.specs.declared.spelled.SpelledData.{Ghosts as Spelling}
 use Rattle.member_node.specs.Steps.{replication}
+use Rattle.script_reading.specs.Meant.{step_of}
 use Rattle.script_reading.specs.declared.script.Step.{Step}
 use Rattle.world_members.specs.declared.world.World.{World}
 use Rattle.world_members.specs.declared.event.Head.{Head}
 use Rattle.world_members.specs.declared.event.Answer.{Answer}
 use Rattle.world_members.specs.Lines.{IsHead, IsAnswer, is_damage}
 use Rattle.world_members.specs.Ways.{Means}
-use Rattle.world_members.specs.Steps.{Reaches, HaveAnswered, Plays, step_of}
+use Rattle.world_members.specs.Steps.{Reaches, HaveAnswered, Plays}
 use Rattle.world_members.specs.Standing.{StandsForWorld}
 use Rattle.world_members.specs.Keeping.{Given}
 use Rattle.world_members.specs.declared.event.Event.{Event as Line}

@@ -1,5 +1,6 @@
 -- Which lines of a section the lines of clients are.
 use Rattle.std.specs.Prelude.{◌≡◌, map, Some, option_map}
+use Rattle.model_kinds.specs.declared.operation.Op.{Op}
 use Rattle.model_kinds.specs.declared.shown.Shown.{Shown}
 use Rattle.member_node.specs.Operations.{finished_meant}
 use Rattle.theorem_sections.specs.Sections.{Ending, Line}
@@ -14,7 +15,7 @@ ending_meant (ended.TimedOut op) = Ending.TimedOut op
 ending_meant (ended.LeftOpen op) = Ending.LeftOpen op
 
 -- the line says what that of the section says
-pub record IsClientLine {Op : Type 0} (line : ClientLine) (told : Line Op Shown) : Type 0 where
+pub record IsClientLine (line : ClientLine) (told : Line Op Shown) : Type 0 where
   pub client : told.client ≡ Some line.client
   pub head : IsHead line.head told.head
   pub answer : IsAnswer line.answer told.answer

@@ -1,10 +1,11 @@
 -- What comes of an input that is given to an identity.
 --     IsSame, IsAlikeButLinks        nothing is changed, or the links alone
+--     RunsAt        where the member of an identity runs
 --     ChangesAt        the member at one place is changed, and of the rest at most the links
 --     Gives, Hands        no member has the identity, or the member is full, or it made its step
 --     Refuses        memory was wanted
 --     Does, IsAsBefore, DoesOr        what a call of one event does to a world, and what it leaves after want of memory
-use Rattle.std.specs.Prelude.{◌≡◌, ℕ, ◌<◌, false, List, [], ◌∷◌, length, set, Some, None, Result, MatchResult}
+use Rattle.std.specs.Prelude.{◌≡◌, ◌≢◌, ℕ, ◌<◌, false, List, [], ◌∷◌, length, set, Some, None, Result, MatchResult}
 use Rattle.data_lattice.specs.declared.replica.Replica.{Ghosts}
 use Rattle.data_lattice.specs.declared.spelled.SpelledData.{Ghosts as Spelling}
 use Rattle.member_keeper.specs.declared.keeper.Keeper.{Ghosts as Keeping}
@@ -44,6 +45,13 @@ module _ {T K Kind Op Delta : Type 0} {ghosts : Ghosts T Kind Op Delta} {keeping
     pub keys : new.keys ≡ old.keys
     pub spare : new.spare ≡ old.spare
     pub nodes : new.nodes.items ≡ old.nodes.items
+
+  -- the member of an identity runs at this place
+  pub record RunsAt (i place : ℕ) (world : World T K Kind Op Delta ghosts keeping) : Type 0 where
+    pub sound : IsView (last_view world.views)
+    pub seat : seat_of (last_view world.views) i ≡ Some place
+    pub within : place < length world.nodes.items
+    pub there : item_at world.nodes.items place ≢ None
 
   pub record ChangesAt (i place : ℕ) (before after : Node T K Kind Op Delta ghosts keeping) (old new : World T K Kind Op Delta ghosts keeping) : Type 0 where
     pub views : new.views ≡ old.views

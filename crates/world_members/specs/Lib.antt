@@ -8,6 +8,7 @@ pub mod Lines
 pub mod ClientLines
 pub mod Ways
 pub mod Sending
+pub mod Asking
 pub mod Steps
 pub mod Giving
 pub mod Entering

@@ -1,6 +1,7 @@
 -- Which lines of the model's report events are.
 use Rattle.std.specs.Prelude.{◌≡◌, List, ◌∷◌, [], ◌++◌, map, length, Bool, true, false, Option, option_map}
 use Rattle.std.specs.List.{AllZip}
+use Rattle.model_kinds.specs.declared.operation.Op.{Op}
 use Rattle.model_kinds.specs.declared.shown.Shown.{Shown}
 use Rattle.model_members.specs.Message as model
 use Rattle.model_members.specs.Script as script
@@ -9,6 +10,7 @@ use Rattle.member_node.specs.Members.{meant}
 use Rattle.member_node.specs.Operations.{finished_meant}
 use Rattle.member_messages.specs.declared.sketch.MessageKind.TheVariants as kind
 use Rattle.member_messages.specs.declared.sketch.Sketch.{Sketch}
+use Rattle.script_reading.specs.Meant.{ask_of}
 use Rattle.world_members.specs.declared.event.Head.{Head}
 use Rattle.world_members.specs.declared.event.Head.TheVariants as head
 use Rattle.world_members.specs.declared.event.Answer.{Answer}
@@ -60,33 +62,26 @@ abbrev pub are_damaged : List Event → Bool
 are_damaged (event ∷ []) = is_damage event.answer
 are_damaged _ = false
 
-module _ {Op : Type 0} where
-  -- of a delivered message the sketch is told
-  abbrev pub IsHead : Head → script.Head Op → Type 0
-  IsHead (head.Update at key) told = told ≡ script.Head.UpdateHead at key
-  IsHead (head.Get at key) told = told ≡ script.Head.GetHead at key
-  IsHead (head.Flush at) told = told ≡ script.Head.FlushHead at
-  IsHead (head.Tick at) told = told ≡ script.Head.TickHead at
-  IsHead (head.Gossip at to) told = told ≡ script.Head.GossipHead at to
-  IsHead (head.Deliver from to index sketch) told =
-      (message : Option (model.Message Op)) × (told ≡ script.Head.DeliverHead from to index message) × (sketch ≡ option_map sketched message)
-  IsHead (head.Lose from to index) told = told ≡ script.Head.LoseHead from to index
-  IsHead (head.Timeout at op) told = told ≡ script.Head.TimeoutHead at op
-  IsHead head.Round told = told ≡ script.Head.RoundHead
-  IsHead (head.Remove id) told = told ≡ script.Head.RemoveHead id
-  IsHead (head.Join place) told = told ≡ script.Head.JoinHead place
-  IsHead (head.Restart id) told = told ≡ script.Head.RestartHead id
-  IsHead (head.Install at view) told = told ≡ script.Head.InstallHead at view
-  IsHead head.Settle told = told ≡ script.Head.SettleHead
+-- of a delivered message the sketch is told
+abbrev pub IsHead : Head → script.Head Op → Type 0
+IsHead (head.Asked at ask) told = told ≡ script.Head.Asked at (ask_of ask)
+IsHead (head.Deliver from to index sketch) told =
+    (message : Option (model.Message Op)) × (told ≡ script.Head.DeliverHead from to index message) × (sketch ≡ option_map sketched message)
+IsHead (head.Lose from to index) told = told ≡ script.Head.LoseHead from to index
+IsHead (head.Timeout at op) told = told ≡ script.Head.TimeoutHead at op
+IsHead head.Round told = told ≡ script.Head.RoundHead
+IsHead (head.Remove id) told = told ≡ script.Head.RemoveHead id
+IsHead (head.Join place) told = told ≡ script.Head.JoinHead place
+IsHead (head.Restart id) told = told ≡ script.Head.RestartHead id
+IsHead head.Settle told = told ≡ script.Head.SettleHead
 
-  -- the event says what the line says
-  pub record IsLine (event : Event) (told : Told Op Shown) : Type 0 where
-    pub head : IsHead event.head told.head
-    pub answer : IsAnswer event.answer told.answer
-    pub sent : event.sent ≡ map sketched_post told.posts
-    pub ended : told.ended ≡ option_map finished_meant event.finished
+-- the event says what the line says
+pub record IsLine (event : Event) (told : Told Op Shown) : Type 0 where
+  pub head : IsHead event.head told.head
+  pub answer : IsAnswer event.answer told.answer
+  pub sent : event.sent ≡ map sketched_post told.posts
+  pub ended : told.ended ≡ option_map finished_meant event.finished
 
-module _ {Kind Op : Type 0} where
-  -- what was told between the two
-  abbrev pub AreNextLines : List Event → Playing Kind Op Shown → Playing Kind Op Shown → Type 0
-  AreNextLines events before after = (told : List (Told Op Shown)) × (after.lines ≡ before.lines ++ told) × AllZip IsLine events told
+-- what was told between the two
+abbrev pub AreNextLines : {Kind : Type 0} → List Event → Playing Kind Op Shown → Playing Kind Op Shown → Type 0
+AreNextLines events before after = (told : List (Told Op Shown)) × (after.lines ≡ before.lines ++ told) × AllZip IsLine events told

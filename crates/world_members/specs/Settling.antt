@@ -11,7 +11,7 @@ use Rattle.model_members.specs.View.{View, identities_of}
 use Rattle.model_members.specs.DataType.{Replication}
 use Rattle.model_members.specs.World.Event.{InputAt}
 use Rattle.model_members.specs.Script as script
-use Rattle.model_members.specs.Script.{Playing, Head, blocked_in_answer, last_of, given, unless_full, install_last, sweep, exchange}
+use Rattle.model_members.specs.Script.{Ask, Playing, Head, blocked_in_answer, last_of, given, unless_full, install_last, sweep, exchange}
 use Rattle.model_kinds.specs.declared.operation.Op.{Op}
 use Rattle.model_kinds.specs.declared.shown.Shown.{Shown}
 use Rattle.data_lattice.specs.declared.replica.Replica.{Ghosts}
@@ -68,7 +68,7 @@ module _ {Kind Op Shown : Type 0} (D : Replication Kind Op Shown) where
 
   -- a member gossips to the leader, unless a member was full
   abbrev pub gossips : (lead i : ℕ) → Playing Kind Op Shown → Playing Kind Op Shown
-  gossips lead i = unless_full D (λ p. given D p (Head.GossipHead i lead) (InputAt i (Input.GossipTo lead)))
+  gossips lead i = unless_full D (λ p. given D p (Head.Asked i (Ask.Gossip lead)) (InputAt i (Input.GossipTo lead)))
 
   abbrev pub exchanges : (lead i : ℕ) → Playing Kind Op Shown → Playing Kind Op Shown
   exchanges lead i p = exchange D lead p i

@@ -13,10 +13,10 @@ use Rattle.data_lattice.specs.declared.replica.Replica.{Ghosts}
 use Rattle.data_lattice.specs.declared.spelled.SpelledData.{Ghosts as Spelling}
 use Rattle.member_keeper.specs.declared.keeper.Keeper.{Ghosts as Keeping}
 use Rattle.member_views.specs.Sound.{last_view}
-use Rattle.member_quorum.specs.Levels.{level_meant}
 use Rattle.member_node.specs.declared.key.KeyDecl.{KeyDecl}
 use Rattle.member_node.specs.Members.{AreOfKinds, declared}
 use Rattle.member_node.specs.Steps.{replication}
+use Rattle.script_reading.specs.Meant.{step_of}
 use Rattle.script_reading.specs.declared.script.Step.{Step}
 use Rattle.script_reading.specs.declared.script.Step.TheVariants as form
 use Rattle.world_members.specs.declared.event.Event.{Event}
@@ -27,22 +27,6 @@ use Rattle.world_members.specs.Lines.{are_damaged, AreNextLines}
 use Rattle.world_members.specs.Places.{item_at, keeper_of}
 use Rattle.world_members.specs.Keeping.{Given, KeepsAt, IsKept, AreKept, IsNotCleared}
 use Rattle.world_members.specs.Ways.{IsPrefix, Means}
-
-abbrev pub step_of : Step → ScriptStep Op
-step_of (form.Update at key op level) = ScriptStep.Update at key op (level_meant level)
-step_of (form.Get at key level) = ScriptStep.Get at key (level_meant level)
-step_of (form.Flush at) = ScriptStep.Flush at
-step_of (form.Gossip at to) = ScriptStep.Gossip at to
-step_of (form.Deliver from to index) = ScriptStep.Deliver from to index
-step_of (form.Lose from to) = ScriptStep.Lose from to
-step_of form.Round = ScriptStep.Round
-step_of (form.Tick at) = ScriptStep.Tick at
-step_of (form.Timeout at op) = ScriptStep.Timeout at op
-step_of (form.Remove id) = ScriptStep.Remove id
-step_of (form.Join place) = ScriptStep.Join place
-step_of (form.Restart id) = ScriptStep.Restart id
-step_of (form.Install at view) = ScriptStep.Install at view
-step_of form.Settle = ScriptStep.Settle
 
 -- THE KEEPERS' ANSWERS
 
@@ -56,7 +40,7 @@ HaveAnswered p q given = (place : ℕ) → q.calls place ≡ p.calls place + len
 
 -- A STEP
 
-module _ {T K Kind Op Delta : Type 0} {ghosts : Ghosts T Kind Op Delta} {keeping : Keeping K} (spelling : Spelling T Kind Op Delta) where
+module _ {T K Kind Delta : Type 0} {ghosts : Ghosts T Kind Op Delta} {keeping : Keeping K} (spelling : Spelling T Kind Op Delta) where
   -- the world then means where the script is, these lines were told, and these calls were answered
   pub record Reaches (kinds : Text → Kind) (members : ℕ) (decls : List (nodes.KeyDecl Kind)) (p q : Playing Kind Op Shown) (given : Given) (new : World T K Kind Op Delta ghosts keeping) (events : List Event) : Type 0 where
     pub means : Means spelling kinds members decls q new

@@ -12,10 +12,9 @@ use Rattle.model_kinds.specs.declared.shown.Shown.{Shown}
 use Rattle.data_lattice.specs.declared.replica.Replica.{Ghosts}
 use Rattle.data_lattice.specs.declared.spelled.SpelledData.{Ghosts as Spelling}
 use Rattle.member_keeper.specs.declared.keeper.Keeper.{Ghosts as Keeping}
-use Rattle.member_quorum.specs.Levels.{level_meant}
 use Rattle.member_node.specs.Steps.{replication}
+use Rattle.script_reading.specs.Meant.{ask_of, step_of}
 use Rattle.script_reading.specs.declared.clients.Command.{Command}
-use Rattle.script_reading.specs.declared.clients.Command.TheVariants as command
 use Rattle.script_reading.specs.declared.clients.Repeated.{Repeated}
 use Rattle.script_reading.specs.declared.clients.RunStep.{RunStep}
 use Rattle.script_reading.specs.declared.clients.RunStep.TheVariants as form
@@ -27,18 +26,13 @@ use Rattle.world_members.specs.declared.world.World.{World}
 use Rattle.world_members.specs.ClientLines.{IsClientLine}
 use Rattle.world_members.specs.Places.{keeper_of}
 use Rattle.world_members.specs.Keeping.{Given, KeepsAt, IsKept}
-use Rattle.world_members.specs.Steps.{step_of, Foretells, HaveAnswered}
+use Rattle.world_members.specs.Steps.{Foretells, HaveAnswered}
 use Rattle.world_members.specs.Ways.{Means}
 
 -- STEPS AND COMMANDS
 
 abbrev pub command_of : Command → sections.Command Op
-command_of (command.Update at key op level) = sections.Command.Update at key op (level_meant level)
-command_of (command.Get at key level) = sections.Command.Get at key (level_meant level)
-command_of (command.Flush at) = sections.Command.Flush at
-command_of (command.Gossip at to) = sections.Command.Gossip at to
-command_of (command.Tick at) = sections.Command.Tick at
-command_of (command.Install at view) = sections.Command.Install at view
+command_of c = record { at = c.at; ask = ask_of c.ask }
 
 abbrev pub repeated_of : Repeated → sections.Repeated Op
 repeated_of c = record { command = command_of c.command; times = c.times }

@@ -1,32 +1,15 @@
 use base_bytes::{Items, Text};
 use base_vectors::Id;
 use member_node::{Finished, Reply, Sketch};
+use script_reading::Ask;
 
 /// What was done.
 #[derive(Drop)]
 pub enum Head {
-    /// A member was given an operation on a key.
-    Update {
+    /// A member was asked.
+    Asked {
         at: Id,
-        key: Text,
-    },
-    /// A member was asked for a key's value.
-    Get {
-        at: Id,
-        key: Text,
-    },
-    /// A member sent what it had not sent.
-    Flush {
-        at: Id,
-    },
-    /// A member was to mark, or to prune, what is left of members that left.
-    Tick {
-        at: Id,
-    },
-    /// A member told another the digests of its entries.
-    Gossip {
-        at: Id,
-        to: Id,
+        ask: Ask,
     },
     /// A message was handed to its receiver. There is a sketch where there are the receiver and the message.
     Deliver {
@@ -59,11 +42,6 @@ pub enum Head {
     /// A member was to come back as a new one.
     Restart {
         id: Id,
-    },
-    /// A member was given the view of a number.
-    Install {
-        at: Id,
-        view: u32,
     },
     /// All members were to agree.
     Settle,

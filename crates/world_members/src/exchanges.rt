@@ -13,6 +13,7 @@ use base_vectors::Id;
 use data_lattice::SpelledData;
 use member_keeper::Keeper;
 use model_kinds::Op;
+use script_reading::Ask;
 
 impl<T: SpelledData<Op = Op>, K: Keeper + Drop> World<T, K> {
     /// Two sweeps: what the leader takes in the first goes to all in the second.
@@ -68,7 +69,7 @@ impl<T: SpelledData<Op = Op>, K: Keeper + Drop> World<T, K> {
         if met_full(events.as_slice()) {
             return Ok(());
         }
-        let event = self.gossip(at, lead)?;
+        let event = self.ask(at, &Ask::Gossip { to: lead })?;
         events.push(event)
     }
 

@@ -1,33 +1,41 @@
-ghost use Rattle.std.specs.Prelude.{◌≡◌, ◌≢◌, IfOk, MatchResult};
+ghost use Rattle.std.specs.Prelude.{◌≡◌, ◌≢◌, ℕ, List, Some, IfOk, MatchResult};
 ghost use Rattle.model_members.specs.Script.{IsStep};
+ghost use Rattle.model_members.specs.View.{View};
+ghost use Rattle.script_reading.specs.Meant.{step_of};
+ghost use Rattle.script_reading.specs.declared.ask.Ask.TheVariants as question;
 ghost use Rattle.script_reading.specs.declared.script.Step.TheVariants as form;
-ghost use Rattle.world_members.specs.Steps.{step_of, Plays, Remains, MakesStep};
+ghost use Rattle.world_members.specs.Asking.{input_of};
+ghost use Rattle.world_members.specs.Steps.{Plays, Remains, MakesStep};
 
-use crate::event::{Event, Events, Head};
-use crate::world::World;
-use base_bytes::{Items, Memory, Text};
+use crate::event::{Answer, Event, Events, Head};
+use crate::world::{World, line};
+use base_bytes::{Items, Memory};
 use base_vectors::Id;
-use data_lattice::SpelledData;
+use data_lattice::{Replica, SpelledData};
 use member_keeper::Keeper;
-use member_node::{Input, Level};
+use member_node::Input;
 use model_kinds::Op;
-use script_reading::Step;
-use std::alloc::Global;
+use script_reading::{Ask, Step};
 
-/// An equal operation.
-fn copy_op(alloc: Global, op: &Op) -> Result<Op, Memory>
-    ensures { IfOk result (λ copy. copy ≡ op.now) }
+/// The input that a question is, if it installs no view.
+pub fn input_of<T: Replica<Op = Op>>(ask: &Ask) -> Input<T>
+    requires { (view : ℕ) → ask.now ≢ question.Install view }
+    ensures { (views : List View) → input_of views ask.now ≡ Some result }
 {
-    match op {
-        Op::Increment(amount) => Ok(Op::Increment(*amount)),
-        Op::Decrement(amount) => Ok(Op::Decrement(*amount)),
-        Op::Add(element) => Ok(Op::Add(element.copy(alloc)?)),
-        Op::Remove(element) => Ok(Op::Remove(element.copy(alloc)?)),
-        Op::Enable => Ok(Op::Enable),
-        Op::Assign { text, now } => Ok(Op::Assign {
-            text: text.copy(alloc)?,
-            now: *now,
-        }),
+    match ask {
+        Ask::Update { key, op, level } => Input::Update {
+            key: key.copied(),
+            op: op.copied(),
+            level: *level,
+        },
+        Ask::Get { key, level } => Input::Get {
+            key: key.copied(),
+            level: *level,
+        },
+        Ask::Flush => Input::Flush,
+        Ask::Gossip { to } => Input::GossipTo(*to),
+        Ask::Tick => Input::PruneTick,
+        Ask::Install { .. } => unreachable!(),
     }
 }
 
@@ -58,67 +66,46 @@ impl<T: SpelledData<Op = Op>, K: Keeper + Drop> World<T, K> {
         ensures { MakesStep T.SpelledData.own step.now self.old self.new result }
     {
         match step {
-            Step::Update { at, key, op, level } => self.update(*at, key, op, *level),
-            Step::Get { at, key, level } => self.get(*at, key, *level),
-            Step::Flush { at } => self.flush(*at),
-            Step::Gossip { at, to } => self.gossip(*at, *to),
+            Step::Ask { at, ask } => self.ask(*at, ask),
             Step::Deliver { from, to, index } => self.deliver_one(*from, *to, *index),
             Step::Lose { from, to } => Ok(self.lose(*from, *to)),
             Step::Round => unreachable!(),
-            Step::Tick { at } => self.tick(*at),
             Step::Timeout { at, op } => self.timeout(*at, *op),
             Step::Remove { id } => self.remove(*id),
             Step::Join { place } => self.join(*place),
             Step::Restart { id } => self.restart(*id),
-            Step::Install { at, view } => self.install(*at, *view),
             Step::Settle => self.settle(),
         }
     }
 
-    /// A member is to change the value of a key, at so many members.
-    fn update(&mut self, at: Id, key: &Text, op: &Op, level: Level) -> Result<Event, Memory>
-        ensures { MakesStep T.SpelledData.own (form.Update at key.now op.now level) self.old self.new result }
+    /// A member is asked.
+    pub(crate) fn ask(&mut self, at: Id, ask: &Ask) -> Result<Event, Memory>
+        ensures { MakesStep T.SpelledData.own (form.Ask at ask.now) self.old self.new result }
     {
-        let head = Head::Update {
+        let head = Head::Asked {
             at,
-            key: key.copy(self.alloc)?,
+            ask: ask.copied(),
         };
-        let key = key.copy(self.alloc)?;
-        let op = copy_op(self.alloc, op)?;
-        self.give(at, head, &Input::Update { key, op, level })
+        match self.asked_input(ask)? {
+            Some(input) => self.give(at, head, &input),
+            None if self.views.last().contains(at) => {
+                Ok(line(self.alloc, head, Answer::NoSuchView))
+            }
+            None => Ok(line(self.alloc, head, Answer::Gone)),
+        }
     }
 
-    /// A member is to show the value of a key, as so many members have it.
-    fn get(&mut self, at: Id, key: &Text, level: Level) -> Result<Event, Memory>
-        ensures { MakesStep T.SpelledData.own (form.Get at key.now level) self.old self.new result }
+    /// The input that a question is, and none where no view has the number that it names.
+    fn asked_input(&self, ask: &Ask) -> Result<Option<Input<T>>, Memory>
+        ensures { IfOk result (λ input. input ≡ input_of self.now.views ask.now) }
     {
-        let head = Head::Get {
-            at,
-            key: key.copy(self.alloc)?,
+        let Ask::Install { view } = ask else {
+            return Ok(Some(input_of(ask)));
         };
-        let key = key.copy(self.alloc)?;
-        self.give(at, head, &Input::Get { key, level })
-    }
-
-    /// A member is to send what its peers may lack.
-    fn flush(&mut self, at: Id) -> Result<Event, Memory>
-        ensures { MakesStep T.SpelledData.own (form.Flush at) self.old self.new result }
-    {
-        self.give(at, Head::Flush { at }, &Input::Flush)
-    }
-
-    /// A member is to send another the digests of its entries.
-    pub(crate) fn gossip(&mut self, at: Id, to: Id) -> Result<Event, Memory>
-        ensures { MakesStep T.SpelledData.own (form.Gossip at to) self.old self.new result }
-    {
-        self.give(at, Head::Gossip { at, to }, &Input::GossipTo(to))
-    }
-
-    /// A member is to mark, or to prune, what is left of members that left.
-    pub(crate) fn tick(&mut self, at: Id) -> Result<Event, Memory>
-        ensures { MakesStep T.SpelledData.own (form.Tick at) self.old self.new result }
-    {
-        self.give(at, Head::Tick { at }, &Input::PruneTick)
+        match self.views.get(*view) {
+            Some(view) => Ok(Some(Input::Install(view.copy(self.alloc)?))),
+            None => Ok(None),
+        }
     }
 
     /// An open operation of a member is to be closed without a result.

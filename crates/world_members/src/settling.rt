@@ -18,6 +18,7 @@ use data_lattice::SpelledData;
 use member_keeper::Keeper;
 use member_node::{KeyOutcome, Outcome, Reply};
 use model_kinds::Op;
+use script_reading::Ask;
 
 /// Whether a member was full.
 pub(crate) fn met_full(events: &[Event]) -> bool
@@ -136,7 +137,7 @@ impl<T: SpelledData<Op = Op>, K: Keeper + Drop> World<T, K> {
             return Ok(());
         }
         let number = self.views.last().number();
-        let event = self.install(at, number)?;
+        let event = self.ask(at, &Ask::Install { view: number })?;
         events.push(event)
     }
 
@@ -158,7 +159,7 @@ impl<T: SpelledData<Op = Op>, K: Keeper + Drop> World<T, K> {
             return Ok(());
         }
         let lead = self.views.last().leader();
-        let event = self.tick(lead)?;
+        let event = self.ask(lead, &Ask::Tick)?;
         events.push(event)
     }
 }

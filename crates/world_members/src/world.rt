@@ -1,10 +1,10 @@
-ghost use Rattle.std.specs.Prelude.{◌≡◌, ◌+◌, ◌<◌, ◌≤◌, ◌++◌, ◌∷◌, [], map, vec_len, vec_capacity, option_copied, option_to_list, MatchResult, None, true, is_some};
+ghost use Rattle.std.specs.Prelude.{◌≡◌, ◌+◌, ◌<◌, ◌≤◌, ◌++◌, ◌∷◌, [], map, vec_len, vec_capacity, option_copied, option_to_list, MatchOption, MatchResult, None, true, is_some};
 ghost use Rattle.member_node.specs.Members.{AreDistinct};
 ghost use Rattle.member_views.specs.Sound.{last_view};
 ghost use Rattle.world_members.specs.declared.event.Head.TheVariants as head;
 ghost use Rattle.world_members.specs.Channels.{channel_at, message_on};
 ghost use Rattle.world_members.specs.Keeping.{AreSeated};
-ghost use Rattle.world_members.specs.Places.{item_at, first_keeper, keepers_of};
+ghost use Rattle.world_members.specs.Places.{item_at, seat_of, first_keeper, keepers_of};
 
 use crate::event::{Answer, Event, Head};
 use crate::links::Links;
@@ -133,23 +133,31 @@ impl<T: SpelledData, K: Keeper + Drop> World<T, K> {
 }
 
 impl<T: SpelledData<Op = Op>, K: Keeper + Drop> World<T, K> {
-    ghost use Rattle.world_members.specs.Giving.{Gives, Hands, Refuses, delivers, DoesOr};
-    ghost use Rattle.world_members.specs.Steps.{Plays, MakesStep};
+    ghost use Rattle.world_members.specs.Giving.{RunsAt, Gives, Hands, Refuses, delivers, DoesOr};
+    ghost use Rattle.world_members.specs.Steps.{Plays};
     ghost use Rattle.script_reading.specs.declared.script.Step.TheVariants as form;
+
+    /// The place where the member of an identity runs.
+    fn place_of(&self, id: Id) -> Option<usize>
+        ensures { MatchOption result (seat_of (last_view self.now.views) id ≡ None) (λ place. RunsAt id place self.now) }
+    {
+        let place = self.views.last().place_of(id)?;
+        Some(usize::from(place))
+    }
 
     /// Gives an input to the member of an identity.
     pub(crate) fn give(&mut self, at: Id, head: Head, input: &Input<T>) -> Result<Event, Memory>
         ensures { MatchResult result (Gives T.SpelledData.own at head input.now self.old self.new) (λ _. Refuses at self.old self.new) }
     {
-        let Some(place) = self.views.last().place_of(at) else {
+        let Some(place) = self.place_of(at) else {
             return Ok(line(self.alloc, head, Answer::Gone));
         };
-        match &mut self.nodes[usize::from(place)] {
+        match &mut self.nodes[place] {
             Some(node) => {
                 let outcome = step_on(self.alloc, node, &mut self.links, at, input);
                 event_of(self.alloc, head, outcome)
             }
-            None => Ok(line(self.alloc, head, Answer::Gone)),
+            None => unreachable!(),
         }
     }
 
@@ -158,15 +166,15 @@ impl<T: SpelledData<Op = Op>, K: Keeper + Drop> World<T, K> {
         requires { is_some (message_on (channel_at self.old.links from to) index) ≡ true }
         ensures { MatchResult result (Hands T.SpelledData.own from to index head self.old self.new) (λ _. Refuses to self.old self.new) }
     {
-        let Some(place) = self.views.last().place_of(to) else {
+        let Some(place) = self.place_of(to) else {
             return Ok(line(self.alloc, head, Answer::Gone));
         };
-        match &mut self.nodes[usize::from(place)] {
+        match &mut self.nodes[place] {
             Some(node) => {
                 let outcome = take_on(self.alloc, node, &mut self.links, from, to, index);
                 event_of(self.alloc, head, outcome)
             }
-            None => Ok(line(self.alloc, head, Answer::Gone)),
+            None => unreachable!(),
         }
     }
 
@@ -204,23 +212,6 @@ impl<T: SpelledData<Op = Op>, K: Keeper + Drop> World<T, K> {
             self.links.pass(from, to, index);
         }
         Ok(event)
-    }
-
-    /// Gives a member the view of a number.
-    pub(crate) fn install(&mut self, at: Id, number: u32) -> Result<Event, Memory>
-        ensures { MakesStep T.SpelledData.own (form.Install at number) self.old self.new result }
-    {
-        let head = Head::Install { at, view: number };
-        if !self.views.last().contains(at) {
-            return Ok(line(self.alloc, head, Answer::Gone));
-        }
-        match self.views.get(number) {
-            Some(view) => {
-                let view = view.copy(self.alloc)?;
-                self.give(at, head, &Input::Install(view))
-            }
-            None => Ok(line(self.alloc, head, Answer::NoSuchView)),
-        }
     }
 }
 

@@ -4,7 +4,7 @@ use Rattle.member_node.proofs.Common.{has_records, state_of, keyed_entry, Keyed,
 use Rattle.member_node.proofs.Lists.{one_more, zip_push}
 use Rattle.member_node.proofs.Takings.{named_of, named_all, named_one, named_none, is_asked, entry_now, keyed_now}
 use Rattle.member_node.proofs.answering.named.Goals as goal
-use Rattle.member_node.proofs.answering.named.Goals.{then-contains+then-has_records+in_ok-key+in_ok-item+in_ok-push, else-contains, else-contains-via-then-contains+else-has_records, else-contains-via-else-contains}
+use Rattle.member_node.proofs.answering.named.Goals.{then-contains+then-has_records+in_ok-item+in_ok-push, else-contains, else-contains-via-then-contains+else-has_records, else-contains-via-else-contains}
 
 pub loop-index-preserved : goal.loop-index-preserved
 loop-index-preserved g c = λ digest kinds logs id view before node held kept work.
@@ -21,11 +21,11 @@ loop-index-preserved g c = λ digest kinds logs id view before node held kept wo
     let now = entry_now R.kind_of R.IsDataOf kinds logs id keys view before held c.args.changes.now kept node work i state change c.loop-index-test.true c.index-keys-index.is c.index-changes-index.is mine c.current-now.ensures in
     let more = one_more keys i state c.loop-index-test.true c.index-keys-index.is in
     elim c.if-contains.branch [
-      | then-contains+then-has_records+in_ok-key+in_ok-item+in_ok-push w ↦
+      | then-contains+then-has_records+in_ok-item+in_ok-push w ↦
           let asked : is_asked D names (state_of node (declared_by state)) ≡ true =
           (λ j. sym (sym w.if-contains.true ∙ c.contains.ensures) j && sym (sym w.if-has_records.true ∙ w.has_records.ensures.image (logs state.name) (node.entries state.name) now.image) j) in
-          let keyed : Keyed (Envelope g.row.T.Denot g.row.T-Kind.Denot g.row.T-Op.Denot g.row.T-Delta.Denot) = record { key = w.in_ok-key.key; item = w.in_ok-item.item } in
-          let here = keyed_now R.kind_of R.IsDataOf kinds logs id keys view before held c.args.changes.now kept node work i state change c.loop-index-test.true c.index-keys-index.is c.index-changes-index.is mine c.current-now.ensures keyed w.in_ok-key.ensures w.in_ok-item.ensures in
+          let keyed : Keyed (Envelope g.row.T.Denot g.row.T-Kind.Denot g.row.T-Op.Denot g.row.T-Delta.Denot) = record { key = w.copied-key.result; item = w.in_ok-item.item } in
+          let here = keyed_now R.kind_of R.IsDataOf kinds logs id keys view before held c.args.changes.now kept node work i state change c.loop-index-test.true c.index-keys-index.is c.index-changes-index.is mine c.current-now.ensures keyed w.copied-key.ensures w.in_ok-item.ensures in
           subst (λ ys. AllZip S c.if-contains.entries ys) (sym (ap (named_of D node names) more ∙ named_one D node names (take i keys) state asked))
           (subst (λ xs. AllZip S xs (named_of D node names (take i keys) ++ keyed_entry (state_of node (declared_by state)) ∷ [])) (sym (w.entries-is ∙ w.in_ok-push.ensures.ok))
           (zip_push S c.loop-index.entries (named_of D node names (take i keys)) keyed (keyed_entry (state_of node (declared_by state))) so_far here))

@@ -7,7 +7,7 @@ use Rattle.member_node.specs.Gossip.{digests_of}
 use Rattle.member_node.proofs.Lists.{one_more}
 use Rattle.member_node.proofs.Sendings.{chosen_one, chosen_none, states_are, digest_is}
 use Rattle.member_node.proofs.gossip.digests.Goals as goal
-use Rattle.member_node.proofs.gossip.digests.Goals.{then-has_records+in_ok-key+in_ok-item+in_ok-push, else-has_records}
+use Rattle.member_node.proofs.gossip.digests.Goals.{then-has_records+in_ok-item+in_ok-push, else-has_records}
 
 pub loop-state-preserved : goal.loop-state-preserved
 loop-state-preserved g c = λ D kinds logs node same holds.
@@ -22,10 +22,10 @@ loop-state-preserved g c = λ D kinds logs node same holds.
     let so_far = c.loop-state.invariant D kinds logs node same holds in
     let more = ap (λ ks. digests_of D (map (λ state. state_of node (declared_by state)) ks)) (one_more keys i state within c.state-item.is) in
     elim c.if-has_records.branch [
-      | then-has_records+in_ok-key+in_ok-item+in_ok-push w ↦
+      | then-has_records+in_ok-item+in_ok-push w ↦
           let own = w.in_ok-item.ensures (logs state.name) (node.entries state.name) here.held.image ∙ digest_is S.byte_of S.history_spelled R.kind_of R.IsDataOf kinds logs D same node state here in
           ap (map digest_told) (w.digests-is ∙ w.in_ok-push.ensures.ok) ∙ map-append digest_told c.loop-state.digests _
-          ∙ (λ j. so_far j ++ record { key = w.in_ok-key.ensures j; item = own j } ∷ [])
+          ∙ (λ j. so_far j ++ record { key = w.copied-key.ensures j; item = own j } ∷ [])
           ∙ sym (more ∙ chosen_one (λ state. state_of node (declared_by state)) (λ k. has_records k.entry) (λ k. record { key = k.name; item = digest_of D k }) (take i keys) state (sym has ∙ w.if-has_records.true))
       | else-has_records w ↦
           ap (map digest_told) w.digests-is ∙ so_far

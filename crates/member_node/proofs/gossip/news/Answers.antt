@@ -6,7 +6,7 @@ use Rattle.member_node.specs.Gossip.{is_news, is_wanted, news_of, wants_of}
 use Rattle.member_node.proofs.Lists.{one_more, zip_push}
 use Rattle.member_node.proofs.Sendings.{chosen_one, chosen_none, states_are, keyed_of}
 use Rattle.member_node.proofs.gossip.news.Goals as goal
-use Rattle.member_node.proofs.gossip.news.Goals.{then-comparison+in_ok-key+in_ok-item+in_ok-push, else-comparison, then-comparison-2+in_ok-name+in_ok-push-2, else-comparison-2}
+use Rattle.member_node.proofs.gossip.news.Goals.{then-comparison+in_ok-item+in_ok-push, else-comparison, then-comparison-2+in_ok-push-2, else-comparison-2}
 
 pub loop-state-preserved : goal.loop-state-preserved
 loop-state-preserved g c =
@@ -24,12 +24,12 @@ loop-state-preserved g c =
           let so_far = c.loop-state.invariant.entries D kinds logs node same holds in
           let more = ap (λ ks. news_of D ds (map (λ state. state_of node (declared_by state)) ks)) (one_more keys i state within c.state-item.is) in
           elim c.if-comparison.branch [
-            | then-comparison+in_ok-key+in_ok-item+in_ok-push w ↦
-                let keyed : Keyed (Envelope g.row.T.Denot g.row.T-Kind.Denot g.row.T-Op.Denot g.row.T-Delta.Denot) = record { key = w.in_ok-key.key; item = w.in_ok-item.item } in
+            | then-comparison+in_ok-item+in_ok-push w ↦
+                let keyed : Keyed (Envelope g.row.T.Denot g.row.T-Kind.Denot g.row.T-Op.Denot g.row.T-Delta.Denot) = record { key = w.copied-key.result; item = w.in_ok-item.item } in
                 subst (λ ys. AllZip S c.if-comparison.entries ys) (sym (more ∙ chosen_one (λ state. state_of node (declared_by state)) (is_news D ds) keyed_entry (take i keys) state (sym compared.news ∙ w.if-comparison.true)))
                 (subst (λ xs. AllZip S xs (news_of D ds (map (λ state. state_of node (declared_by state)) (take i keys)) ++ keyed_entry (state_of node (declared_by state)) ∷ [])) (sym (w.entries-is ∙ w.in_ok-push.ensures.ok))
                 (zip_push S c.loop-state.entries (news_of D ds (map (λ state. state_of node (declared_by state)) (take i keys))) keyed (keyed_entry (state_of node (declared_by state))) so_far
-                (keyed_of R.kind_of R.IsDataOf kinds logs node state w.in_ok-key.key w.in_ok-item.item here w.in_ok-key.ensures (w.in_ok-item.ensures ∙ w.envelope.ensures))))
+                (keyed_of R.kind_of R.IsDataOf kinds logs node state w.copied-key.result w.in_ok-item.item here w.copied-key.ensures (w.in_ok-item.ensures ∙ w.envelope.ensures))))
             | else-comparison w ↦
                 subst (λ ys. AllZip S c.if-comparison.entries ys) (sym (more ∙ chosen_none (λ state. state_of node (declared_by state)) (is_news D ds) keyed_entry (take i keys) state (sym compared.news ∙ w.if-comparison.false)))
                 (subst (λ xs. AllZip S xs (news_of D ds (map (λ state. state_of node (declared_by state)) (take i keys)))) (sym w.entries-is) so_far)
@@ -40,8 +40,8 @@ loop-state-preserved g c =
           let so_far = c.loop-state.invariant.wants D kinds logs node same holds in
           let more = ap (λ ks. wants_of D ds (map (λ state. state_of node (declared_by state)) ks)) (one_more keys i state within c.state-item.is) in
           elim c.if-comparison-2.branch [
-            | then-comparison-2+in_ok-name+in_ok-push-2 w ↦
-                w.wants-is ∙ w.in_ok-push-2.ensures.ok ∙ (λ j. so_far j ++ w.in_ok-name.ensures j ∷ [])
+            | then-comparison-2+in_ok-push-2 w ↦
+                w.wants-is ∙ w.in_ok-push-2.ensures.ok ∙ (λ j. so_far j ++ w.copied-name.ensures j ∷ [])
                 ∙ sym (more ∙ chosen_one (λ state. state_of node (declared_by state)) (is_wanted D ds) (λ k. k.name) (take i keys) state (sym compared.wanted ∙ w.if-comparison-2.true))
             | else-comparison-2 w ↦
                 w.wants-is ∙ so_far ∙ sym (more ∙ chosen_none (λ state. state_of node (declared_by state)) (is_wanted D ds) (λ (k : nodes.KeyState g.row.T-Kind.Denot g.row.T-Op.Denot). k.name) (take i keys) state (sym compared.wanted ∙ w.if-comparison-2.false))

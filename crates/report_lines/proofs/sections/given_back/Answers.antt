@@ -1,4 +1,4 @@
-use Rattle.report_lines.proofs.SectionRuns.{back_as_they_are}
+use Rattle.report_lines.proofs.Runs.{back_as_they_are}
 use Rattle.report_lines.proofs.sections.given_back.Goals as goal
 
 pub returns : goal.returns

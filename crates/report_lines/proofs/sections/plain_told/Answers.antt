@@ -1,4 +1,4 @@
-use Rattle.report_lines.proofs.SectionStages.{back_further}
+use Rattle.report_lines.proofs.Stages.{back_further}
 use Rattle.report_lines.proofs.sections.plain_told.Goals as goal
 
 pub returns-in-Err : goal.returns-in-Err

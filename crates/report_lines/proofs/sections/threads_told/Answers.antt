@@ -1,5 +1,4 @@
-use Rattle.report_lines.proofs.SectionStages.{back_further}
-use Rattle.report_lines.proofs.Stages.{all_kept}
+use Rattle.report_lines.proofs.Stages.{all_kept, back_further}
 use Rattle.report_lines.proofs.sections.threads_told.Goals as goal
 
 pub returns : goal.returns

@@ -1,8 +1,8 @@
 use Rattle.std.proofs.Common.{refl, ◌≡◌, ◌+◌, ◌++◌, ◌∷◌, [], sym, ap₂, ◌∙◌, subst, arith, append_assoc}
 use Rattle.std.proofs.lemmas.List.FromFn.{map-range_with_len_more}
-use Rattle.script_reading.specs.WellFormed.{IsWellFormed}
+use Rattle.script_reading.specs.WellFormed.{HasNoClients, IsWellFormed}
 use Rattle.script_generated.specs.Generated.{generated_step}
-use Rattle.script_generated.proofs.Spelled.{well_formed}
+use Rattle.script_generated.proofs.Spelled.{has_no_clients, well_formed}
 use Rattle.script_generated.proofs.script.generated.Goals as goal
 
 pub loop-done-preserved : goal.loop-done-preserved
@@ -17,3 +17,6 @@ returns-clause-script c =
 
 pub returns-clause-bounds : goal.returns-clause-bounds
 returns-clause-bounds c = subst IsWellFormed (sym (returns-clause-script c)) (well_formed c.args.n c.requires.low c.requires.high)
+
+pub returns-clause-plain : goal.returns-clause-plain
+returns-clause-plain c = subst HasNoClients (sym (returns-clause-script c)) (has_no_clients c.args.n c.requires.low c.requires.high)

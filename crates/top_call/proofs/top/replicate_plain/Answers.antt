@@ -1,52 +1,41 @@
-use Rattle.std.proofs.Common.{◌≡◌, ap, ◌∙◌, sym, inl}
-use Rattle.top_call.specs.Status.{code_of}
-use Rattle.top_call.specs.Due.{text_due, status_due}
-use Rattle.top_call.specs.declared.words.Asked.TheVariants.{Plain, Generate, Summarize}
-use Rattle.top_call.proofs.Called.{due_for, is_refused, is_fulfilled, is_reported, report_called, script_called_for, summary_called, answered}
-use Rattle.top_call.proofs.TextDue.{is_text_due, below_some}
+use Rattle.std.proofs.Common.{sym, subst}
+use Rattle.script_reading.specs.declared.clients.Clients.TheVariants.{Allowed, Refused}
+use Rattle.report_lines.specs.Kept.{AreKept}
+use Rattle.top_call.specs.Due.{IsDue}
+use Rattle.top_call.specs.Passages.{reading, traffic}
+use Rattle.top_call.specs.declared.words.Asked.TheVariants.{Report}
+use Rattle.top_call.proofs.Called.{Called, has_cause, is_done, answers_all}
+use Rattle.top_call.proofs.top.replicate_plain.Given as given
 use Rattle.top_call.proofs.top.replicate_plain.Goals as goal
 
-pub returns-in-Ok-clause-complete : goal.returns-in-Ok-clause-complete
-returns-in-Ok-clause-complete g c = λ bytes wanted plain told calls.
-    let due = rw told at (due_for g.D.Keeper _ _ _ _ _ _ _ _ Plain plain c.due-due.ensures.due) in
-    let code : c.from.result ≡ code_of (status_due c.due-due.result.due) = c.from.ensures ∙ ap code_of c.status.ensures in
-    answered _ _ _ _ _ _ code (report_called g.D.Keeper _ _ _ _ _ _ _ wanted c.requires due calls)
+-- what was due and written
+called : (g : given.Over) (c : goal.After-written g) → Called g.D.Keeper (traffic g.S.Source g.K.Sink c.args.source.now c.due.new.source c.args.sink.now c.written.new.sink c.args.keepers.items c.written.result.keepers.items) Refused c.args.words.now c.written.result.status
+called g c = record {
+  asked = c.asked_by-asked.result;
+  asks = c.asked_by-asked.ensures.asked;
+  due = c.due.result.due;
+  is = subst (λ keepers. IsDue g.D.Keeper c.asked_by-asked.result (reading g.S.Source c.args.source.now c.due.new.source) c.args.keepers.items keepers.items c.due.result.due) (sym c.written.ensures.keepers) c.due.ensures.due;
+  told = c.written.ensures.status;
+}
 
-pub returns-in-Ok-clause-generates : goal.returns-in-Ok-clause-generates
-returns-in-Ok-clause-generates g c = λ n asked.
-    let due = due_for g.D.Keeper _ _ _ _ _ _ _ _ (Generate n) asked c.due-due.ensures.due in
-    let code : c.from.result ≡ code_of (status_due c.due-due.result.due) = c.from.ensures ∙ ap code_of c.status.ensures in
-    answered _ _ _ _ _ _ code (script_called_for g.D.Keeper n _ _ _ _ _ _ _ due)
+pub due-requires-clause-plain : goal.due-requires-clause-plain
+due-requires-clause-plain g c = λ is. (c.asked_by-asked.ensures.asked (Report Allowed)).0 is
 
-pub returns-in-Ok-clause-summarizes : goal.returns-in-Ok-clause-summarizes
-returns-in-Ok-clause-summarizes g c = λ n asked.
-    let due = due_for g.D.Keeper _ _ _ _ _ _ _ _ (Summarize n) asked c.due-due.ensures.due in
-    let code : c.from.result ≡ code_of (status_due c.due-due.result.due) = c.from.ensures ∙ ap code_of c.status.ensures in
-    answered _ _ _ _ _ _ code (summary_called g.D.Keeper n _ _ _ _ _ _ _ c.requires due)
+pub returns-clause-done : goal.returns-clause-done
+returns-clause-done g c = is_done g.D.Keeper _ Refused c.args.words.now c.written.result.status (called g c)
 
-pub returns-in-Ok-clause-done : goal.returns-in-Ok-clause-done
-returns-in-Ok-clause-done g c = λ given asked none.
-    let due = due_for g.D.Keeper _ _ _ _ _ _ _ _ given asked c.due-due.ensures.due in
-    let code : c.from.result ≡ code_of (status_due c.due-due.result.due) = c.from.ensures ∙ ap code_of c.status.ensures in
-    let text : c.as_bytes.result.now ≡ text_due c.due-due.result.due = c.as_bytes.ensures.value ∙ c.text.ensures in
-    (text_due c.due-due.result.due, is_fulfilled g.D.Keeper given _ _ _ _ _ _ _ due (sym code ∙ none), rw text at c.in-Ok.ensures.all)
+pub returns-clause-cause : goal.returns-clause-cause
+returns-clause-cause g c = has_cause g.D.Keeper _ Refused c.args.words.now c.written.result.status (called g c)
 
-pub returns-in-Ok-clause-told : goal.returns-in-Ok-clause-told
-returns-in-Ok-clause-told g c = λ bytes before plain none told earlier.
-    let due = rw told at (due_for g.D.Keeper _ _ _ _ _ _ _ _ Plain plain c.due-due.ensures.due) in
-    let code : c.from.result ≡ code_of (status_due c.due-due.result.due) = c.from.ensures ∙ ap code_of c.status.ensures in
-    let text : c.as_bytes.result.now ≡ text_due c.due-due.result.due = c.as_bytes.ensures.value ∙ c.text.ensures in
-    is_reported g.D.Keeper bytes before _ _ _ _ _ _ _ due (sym code ∙ none) (rw earlier at (rw text at c.in-Ok.ensures.all))
+pub returns-clause-answers : goal.returns-clause-answers
+returns-clause-answers g c = answers_all g.D.Keeper _ Refused c.args.words.now c.written.result.status (called g c) c.requires
 
-pub returns-in-Ok-clause-words : goal.returns-in-Ok-clause-words
-returns-in-Ok-clause-words g c = λ none.
-    let code : c.from.result ≡ code_of (status_due c.due-due.result.due) = c.from.ensures ∙ ap code_of c.status.ensures in
-    inl (code ∙ ap code_of (is_refused g.D.Keeper _ _ _ _ _ _ _ _ none c.due-due.ensures.due))
+pub returns-clause-returns : goal.returns-clause-returns
+returns-clause-returns g c = record {
+  kept = subst (λ keepers. AreKept g.D.Keeper c.args.keepers.items keepers.items) (sym c.written.ensures.keepers) c.due.ensures.kept;
+  source_later = c.due.ensures.later;
+  sink_later = c.written.ensures.later;
+}
 
-pub returns-clause-write_failed : goal.returns-clause-write_failed
-returns-clause-write_failed g c = λ status.
-    let text : c.as_bytes.result.now ≡ text_due c.due-due.result.due = c.as_bytes.ensures.value ∙ c.text.ensures in
-    let prefix = rw text at c.in-Err.ensures.prefix in (
-      c.in-Err.ensures.cause.failed,
-      (text_due c.due-due.result.due, is_text_due g.D.Keeper _ _ _ _ _ _ _ _ (below_some prefix.1) c.due-due.ensures.due, prefix),
-    )
+pub returns-clause-unread : goal.returns-clause-unread
+returns-clause-unread g c = λ none. c.due.ensures.unread (λ clients is. none clients ((c.asked_by-asked.ensures.asked (Report clients)).0 is))

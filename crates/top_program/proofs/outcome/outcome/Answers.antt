@@ -1,19 +1,19 @@
-use Rattle.std.proofs.Common.{subst, sym}
-use Rattle.top_call.specs.Asking.{IsPlain}
-use Rattle.top_call.specs.Running.{IsRunWord}
+use Rattle.std.proofs.Common.{ap, ◌∙◌, subst}
+use Rattle.script_reading.specs.declared.clients.Clients.TheVariants.{Allowed}
+use Rattle.top_call.specs.Passages.{traffic}
+use Rattle.top_call.specs.Serving.{IsDone, Cause, Answers}
 use Rattle.top_program.proofs.outcome.outcome.Goals as goal
 
-pub returns-in-Ok-clause-run : goal.returns-in-Ok-clause-run
-returns-in-Ok-clause-run g c = rw c.in-Ok.is (λ word. (c.replicate.result.keepers.items, rw c.from.ensures (c.replicate.ensures.run_ends (subst IsRunWord (sym c.deref.ensures.value) word))))
-
-pub returns-in-Ok-clause-run_complete : goal.returns-in-Ok-clause-run_complete
-returns-in-Ok-clause-run_complete g c = rw c.in-Ok.is (λ bytes status word told calls.
-    (c.replicate.result.keepers.items, rw c.from.ensures (c.replicate.ensures.run_complete bytes status (subst IsRunWord (sym c.deref.ensures.value) word) told calls)))
-
-pub returns-in-Ok-clause-others : goal.returns-in-Ok-clause-others
-returns-in-Ok-clause-others g c = rw c.in-Ok.is (λ other.
-    (c.replicate.result.keepers.items, rw (c.from.ensures, ← c.deref.ensures.value) (c.replicate.ensures.others (λ word. other (subst IsRunWord c.deref.ensures.value word)))))
-
-pub returns-in-Ok-clause-unread : goal.returns-in-Ok-clause-unread
-returns-in-Ok-clause-unread g c = rw c.in-Ok.is (λ other unread.
-    c.replicate.ensures.unread (λ word. other (subst IsRunWord c.deref.ensures.value word)) (λ plain. unread (subst IsPlain c.deref.ensures.value plain)))
+pub returns-in-Ok-clause-serves : goal.returns-in-Ok-clause-serves
+returns-in-Ok-clause-serves g c =
+    let end = c.replicate-outcome.result.status in
+    let after = c.replicate-outcome.result.keepers.items in
+    let found = traffic g.S.Source g.K.Sink c.args.source.now c.replicate-outcome.new.source c.args.sink.now c.replicate-outcome.new.sink c.args.keepers.items in
+    rw c.in-Ok.is (record {
+      after = after;
+      end = end;
+      is = c.from-in-Ok.ensures ∙ c.from.ensures;
+      done = subst (λ words. IsDone g.D.Keeper (found after) Allowed words end) c.deref.ensures.value c.replicate-outcome.ensures.done;
+      cause = subst (λ words. Cause g.D.Keeper (found after) Allowed words end) c.deref.ensures.value c.replicate-outcome.ensures.cause;
+      answers = subst (λ words. Answers g.D.Keeper (found after) Allowed words end) c.deref.ensures.value c.replicate-outcome.ensures.answers;
+    })

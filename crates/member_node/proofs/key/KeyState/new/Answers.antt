@@ -20,4 +20,4 @@ returns-clause-fresh g c =
 pub returns-clause-declared : goal.returns-clause-declared
 returns-clause-declared g c =
     let decl = c.args.decl.now in
-    ap (λ name. record { name = name; kind = decl.kind; durable = decl.durable }) c.in_ok-name.ensures
+    ap (λ name. record { name = name; kind = decl.kind; durable = decl.durable }) c.copied-name.ensures

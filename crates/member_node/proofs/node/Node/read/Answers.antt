@@ -7,4 +7,4 @@ pub returns-clause-opened : goal.returns-clause-opened
 returns-clause-opened g c =
     let R = g.T.Replica in
     subst (λ (m : Message g.row.T.Denot g.row.T-Kind.Denot g.row.T-Op.Denot g.row.T-Delta.Denot R). IfOk c.opened.result (IsOpened c.args.self.now c.args.name.now true c.args.number m))
-    (λ i. Read (c.next_op.ensures i) (c.in_ok-copy.ensures i)) c.opened.ensures.opened
+    (λ i. Read (c.next_op.ensures i) (c.copied.ensures i)) c.opened.ensures.opened

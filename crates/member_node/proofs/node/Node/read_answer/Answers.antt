@@ -17,7 +17,7 @@ returns-in_default g c = λ digest kinds logs node s.
     let key = c.args.key.now in
     let none = position-none (λ state. bytes_eq state.name key) code.keys.items c.in_default.ensures in
     let is = ap (option_map (state_of node)) (undeclared R.kind_of R.IsDataOf kinds logs code node s key none) in
-    ap (λ o. Sent.ReadAnswer op key (answered_entry D o)) is ∙ ap (λ k. Sent.ReadAnswer op k None) (sym c.in_ok-key.ensures)
+    ap (λ o. Sent.ReadAnswer op key (answered_entry D o)) is ∙ ap (λ k. Sent.ReadAnswer op k None) (sym c.copied-key.ensures)
 
 pub returns : goal.returns
 returns g c = λ digest kinds logs node s.
@@ -36,6 +36,6 @@ returns g c = λ digest kinds logs node s.
     let copy =
     c.in_ok-envelope.ensures (logs key) (node.entries key) (subst (λ entry. StandsFor R.IsDataOf (parts_of entry) (logs key) (node.entries key)) (sym c.envelope.ensures) held.image)
     ∙ ap (λ entry. if held_records then Some entry else None) c.envelope.ensures in
-    subst₂ (λ k o. StandsForMessage {ghosts = R} R.kind_of R.IsDataOf kinds logs (ReadAnswer op k o) (Sent.ReadAnswer op key (answered_entry D (key_state node key)))) (sym c.in_ok-key-2.ensures) (sym copy)
+    subst₂ (λ k o. StandsForMessage {ghosts = R} R.kind_of R.IsDataOf kinds logs (ReadAnswer op k o) (Sent.ReadAnswer op key (answered_entry D (key_state node key)))) (sym c.copied-key-2.ensures) (sym copy)
     (subst (λ o. StandsForMessage {ghosts = R} R.kind_of R.IsDataOf kinds logs (ReadAnswer op key (if held_records then Some at.entry else None)) (Sent.ReadAnswer op key (answered_entry D o))) (sym is)
     (read_stands R kinds logs op key held_records at.entry (node.entries key) held))

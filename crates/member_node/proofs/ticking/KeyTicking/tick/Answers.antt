@@ -40,4 +40,4 @@ returns-clause-told g c = λ digest log node so_far ticks course first same.
     c.in-Some.is (c.in_ok-told.ensures.image log so_far.entry course.entry) in
     on_ok_weaker c.push.result (λ pushed.
     told_more R digest log node c.args.state.now so_far c.args.id c.args.view c.args.removed c.args.members.now c.args.self.now c.args.self.now course ticks c.requires.own.kind first c.args.outcomes.now same c.outcome_of.new.entry
-    c.in-Some.outcome made c.push.new.self (pushed ∙ ap (λ key. c.args.outcomes.now ++ record { key = key; removed = c.args.removed; outcome = c.in-Some.outcome } ∷ []) c.in_ok-key.ensures)) c.push.ensures.ok
+    c.in-Some.outcome made c.push.new.self (pushed ∙ ap (λ key. c.args.outcomes.now ++ record { key = key; removed = c.args.removed; outcome = c.in-Some.outcome } ∷ []) c.copied-key.ensures)) c.push.ensures.ok

@@ -13,5 +13,5 @@ returns-in_default-clause-install g c =
 pub returns-in-Ok-clause-install : goal.returns-in-Ok-clause-install
 returns-in-Ok-clause-install g c =
     let listed : slice_get c.args.self.now.views c.args.number ≡ Some c.in-Ok.view = sym c.in-Some.ensures.view ∙ ap (λ (v : View). Some v) (sym c.in-Ok.ensures) in
-    install_called _ g.N.Section.ids c.args.self.now.views c.args.id c.args.number c.args.session.now c.call.new.session
-    (is_somewhere c.has.result (IsNowhere g.N.Section.ids c.args.id) c.has.ensures c.if-not-has.false) c.in-Ok.view listed c.call.result c.call.ensures.call c.call.ensures.no_view
+    install_called _ g.N.Section.ids c.args.self.now.views c.args.id c.args.number c.args.session.now c.ask.new.session
+    (is_somewhere c.has.result (IsNowhere g.N.Section.ids c.args.id) c.has.ensures c.if-not-has.false) c.in-Ok.view listed c.ask.result c.ask.ensures.call c.ask.ensures.no_view

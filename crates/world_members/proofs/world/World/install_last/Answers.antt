@@ -18,11 +18,11 @@ returns-then-not-is_behind g c =
 pub returns-in_err-event : goal.returns-in_err-event
 returns-in_err-event g c =
     match_err _ _ c.from_residual.result c.from_residual.ensures.0
-    (halts_install g.T.SpelledData c.args.self.now c.install.new.self c.args.at c.is_behind.result c.is_behind.ensures c.args.events.now c.if-not-is_behind.false
+    (halts_install g.T.SpelledData c.args.self.now c.ask.new.self c.args.at c.is_behind.result c.is_behind.ensures c.args.events.now c.if-not-is_behind.false
     (ap met_full (sym c.as_slice.ensures) ∙ sym c.met_full.ensures ∙ c.if-met_full.false) c.number-number.result (c.number-number.ensures.number ∙ ap (λ (v : View). v.number) c.last.ensures.last) c.in_err-event.ensures)
 
 pub returns : goal.returns
 returns g c =
-    told_install g.T.SpelledData c.args.self.now c.install.new.self c.args.at c.is_behind.result c.is_behind.ensures c.args.events.now c.if-not-is_behind.false
+    told_install g.T.SpelledData c.args.self.now c.ask.new.self c.args.at c.is_behind.result c.is_behind.ensures c.args.events.now c.if-not-is_behind.false
     (ap met_full (sym c.as_slice.ensures) ∙ sym c.met_full.ensures ∙ c.if-met_full.false) c.number-number.result (c.number-number.ensures.number ∙ ap (λ (v : View). v.number) c.last.ensures.last)
     c.in_ok-event.event c.in_ok-event.ensures c.push.new.self c.push.result c.push.ensures.ok

@@ -1,0 +1,3 @@
+mod Puts
+mod Tellings
+mod Runs

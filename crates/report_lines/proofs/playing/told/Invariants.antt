@@ -1,6 +1,0 @@
-use Rattle.std.proofs.Common.{take, string_bytes}
-use Rattle.report_lines.proofs.Stages.{Stage}
-use Rattle.report_lines.proofs.playing.told.Given as goal
-
-abbrev pub invariant-loop-i : goal.invariant-loop-i
-invariant-loop-i g l = Stage g.T.SpelledData (take l.i l.steps) l.initial.world l.world (string_bytes l.text)

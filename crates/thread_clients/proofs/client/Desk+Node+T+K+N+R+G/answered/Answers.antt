@@ -1,0 +1,17 @@
+use Rattle.std.proofs.Common.{◌∙◌, refl, ap, map}
+use Rattle.world_members.specs.Sending.{told_of}
+use Rattle.world_members.specs.declared.event.Head.TheVariants.{Asked}
+use Rattle.thread_cluster.proofs.Growing.{goes_on_self}
+use Rattle.thread_clients.proofs.client.Desk+Node+T+K+N+R+G.answered.Goals as goal
+
+pub returns-in_err-sent-clause-goes_on : goal.returns-in_err-sent-clause-goes_on
+returns-in_err-sent-clause-goes_on g c = goes_on_self c.args.session.now
+
+pub returns-clause-ok : goal.returns-clause-ok
+returns-clause-ok g c = record {
+  client_is = refl;
+  head_is = ap (Asked c.args.command.now.at) c.copied.ensures;
+  answer_is = refl;
+  sent = c.in_ok-sent.ensures ∙ ap (map told_of) c.as_slice.ensures;
+  settles = c.in_ok-ended.ensures.ok;
+}

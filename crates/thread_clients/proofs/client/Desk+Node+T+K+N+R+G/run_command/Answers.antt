@@ -1,0 +1,32 @@
+use Rattle.thread_cluster.proofs.Growing.{goes_on_trans}
+use Rattle.thread_clients.proofs.Settled.{made_reply, made_refusal, runs_here, made_on}
+use Rattle.thread_clients.proofs.client.Desk+Node+T+K+N+R+G.run_command.Goals as goal
+
+pub answered-requires-clause-runs : goal.answered-requires-clause-runs
+answered-requires-clause-runs g c = λ κs outlive. runs_here _ g.N.Section.ids c.args.self.now.cluster.now.views c.args.command.now c.args.session.now c.call-result.new.session c.in-Ok.receipt c.in-Ok.ensures.called.ok
+
+pub returns-in_err-line-in-Ok-clause-goes_on : goal.returns-in_err-line-in-Ok-clause-goes_on
+returns-in_err-line-in-Ok-clause-goes_on g c =
+    goes_on_trans c.args.session.now c.call-result.new.session c.answered.new.session
+    (made_on _ g.N.Section.ids c.args.self.now.cluster.now.views c.args.command.now c.args.session.now c.call-result.new.session c.in-Ok.receipt c.in-Ok.ensures.called.ok) c.in_err-line-in-Ok.ensures.goes_on
+
+pub returns-in_err-line-in-Err-clause-goes_on : goal.returns-in_err-line-in-Err-clause-goes_on
+returns-in_err-line-in-Err-clause-goes_on g c = c.in-Err.ensures.called.err.goes_on
+
+pub returns-in_ok-line-in-Ok-clause-ok : goal.returns-in_ok-line-in-Ok-clause-ok
+returns-in_ok-line-in-Ok-clause-ok g c =
+    made_reply _ g.N.Section.ids c.args.self.now.cluster.now.views c.args.command.now c.args.client c.in_ok-line-in-Ok.line c.args.session.now c.call-result.new.session c.answered.new.session c.in-Ok.receipt
+    c.in-Ok.ensures.called.ok c.in_ok-line-in-Ok.ensures.ok c.facts.ensures.timed
+
+pub returns-in_ok-line-in-Ok-clause-goes_on : goal.returns-in_ok-line-in-Ok-clause-goes_on
+returns-in_ok-line-in-Ok-clause-goes_on g c =
+    goes_on_trans c.args.session.now c.call-result.new.session c.answered.new.session
+    (made_on _ g.N.Section.ids c.args.self.now.cluster.now.views c.args.command.now c.args.session.now c.call-result.new.session c.in-Ok.receipt c.in-Ok.ensures.called.ok) c.in_ok-line-in-Ok.ensures.goes_on
+
+pub returns-in_ok-line-in-Err-clause-ok : goal.returns-in_ok-line-in-Err-clause-ok
+returns-in_ok-line-in-Err-clause-ok g c =
+    made_refusal _ g.N.Section.ids c.args.self.now.cluster.now.views c.args.command.now c.args.client c.in_ok-line-in-Err.line c.args.session.now c.call-result.new.session c.in-Err.error
+    c.in-Err.ensures.called c.in_ok-line-in-Err.ensures c.facts-in-Err.ensures.timed
+
+pub returns-in_ok-line-in-Err-clause-goes_on : goal.returns-in_ok-line-in-Err-clause-goes_on
+returns-in_ok-line-in-Err-clause-goes_on g c = c.in-Err.ensures.called.err.goes_on

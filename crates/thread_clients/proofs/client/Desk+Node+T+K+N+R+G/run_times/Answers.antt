@@ -1,0 +1,30 @@
+use Rattle.std.proofs.Common.{◌≡◌, arith}
+use Rattle.thread_cluster.proofs.Growing.{goes_on_self, goes_on_trans}
+use Rattle.thread_clients.proofs.Walking.{further_none, further_again, further_all}
+use Rattle.thread_clients.proofs.client.Desk+Node+T+K+N+R+G.run_times.Goals as goal
+
+pub loop-time-init : goal.loop-time-init
+loop-time-init g c = record {
+  further = further_none _ g.N.Section.ids c.args.self.now.cluster.now.views c.args.client c.args.session.now c.args.lines.now;
+  goes_on = goes_on_self c.args.session.now;
+  table = c.requires;
+}
+
+pub returns-in_err-line-clause-goes_on : goal.returns-in_err-line-clause-goes_on
+returns-in_err-line-clause-goes_on g c = goes_on_trans c.args.session.now c.loop-time.session c.run_command.new.session c.loop-time.invariant.goes_on c.in_err-line.ensures.goes_on
+
+pub returns-in_err-push-clause-goes_on : goal.returns-in_err-push-clause-goes_on
+returns-in_err-push-clause-goes_on g c = goes_on_trans c.args.session.now c.loop-time.session c.run_command.new.session c.loop-time.invariant.goes_on c.in_ok-line.ensures.goes_on
+
+pub loop-time-preserved : goal.loop-time-preserved
+loop-time-preserved g c = record {
+  further = further_again _ g.N.Section.ids c.args.self.now.cluster.now.views c.args.client c.loop-time._time c.args.repeated.now.command c.args.session.now c.loop-time.session c.run_command.new.session
+      c.args.lines.now c.loop-time.lines c.push.new.self c.in_ok-line.line c.loop-time.invariant.further c.in_ok-line.ensures.ok c.in_ok-push.ensures.ok;
+  goes_on = goes_on_trans c.args.session.now c.loop-time.session c.run_command.new.session c.loop-time.invariant.goes_on c.in_ok-line.ensures.goes_on;
+  table = c.in_ok-line.ensures.table;
+}
+
+pub returns-clause-ok : goal.returns-clause-ok
+returns-clause-ok g c =
+    let all : c.loop-time._time ≡ c.args.repeated.now.times = let a = c.loop-time-test.false in let b = c.loop-time.auto._time-end in omega arith in
+    further_all _ g.N.Section.ids c.args.self.now.cluster.now.views c.args.client c.loop-time._time c.args.repeated.now.times c.args.repeated.now.command c.args.session.now c.loop-time.session c.args.lines.now c.loop-time.lines all c.loop-time.invariant.further

@@ -1,0 +1,19 @@
+use Rattle.std.proofs.Common.{sym, subst}
+use Rattle.script_reading.specs.declared.clients.Clients.TheVariants.{Refused}
+use Rattle.report_lines.specs.Kept.{AreKept}
+use Rattle.top_call.specs.Due.{IsDueFor}
+use Rattle.top_call.specs.Passages.{reading}
+use Rattle.top_call.specs.declared.words.Asked.TheVariants.{Report}
+use Rattle.top_call.proofs.Refusals.{refusal_due, played_due}
+use Rattle.top_call.proofs.answer.report_due.Goals as goal
+
+pub returns-in-Ok-clause-due : goal.returns-in-Ok-clause-due
+returns-in-Ok-clause-due g c =
+    subst (λ keepers. IsDueFor g.K.Keeper (Report Refused) (reading g.S.Source c.args.source.now c.script.new.source) c.args.keepers.items keepers.items c.told.result.due) (sym c.told.ensures.keepers)
+    (played_due g.K.Keeper Refused _ c.in-Ok.script c.args.keepers.items c.play.result.keepers.items c.play.result.ending c.told.result.due c.in-Ok.ensures.script c.play.ensures c.told.ensures.due)
+
+pub returns-in-Ok-clause-kept : goal.returns-in-Ok-clause-kept
+returns-in-Ok-clause-kept g c = subst (λ keepers. AreKept g.K.Keeper c.args.keepers.items keepers.items) (sym c.told.ensures.keepers) c.play.ensures.kept
+
+pub returns-in-Err-clause-due : goal.returns-in-Err-clause-due
+returns-in-Err-clause-due g c = refusal_due g.K.Keeper Refused _ c.args.keepers.items c.in-Err.due c.in-Err.ensures.refused

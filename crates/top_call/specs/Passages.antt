@@ -1,0 +1,37 @@
+-- What a call found and left at its source, its sink and its keepers.
+use Rattle.std.specs.Prelude.{ℕ, ◌≤◌, List, Option}
+use Rattle.base_outside.specs.declared.traits.Source.{Ghosts as Sourcing}
+use Rattle.base_outside.specs.declared.traits.Sink.{Ghosts as Sinking}
+use Rattle.member_keeper.specs.declared.keeper.Keeper.{Ghosts as Keeping}
+use Rattle.report_lines.specs.Kept.{AreKept}
+
+-- The bytes that a source had left, or that a sink had taken, before a call and after it, where they are told; and its counts of faults.
+pub record Passage : Type 0 where
+  pub old : Option (List ℕ)
+  pub new : Option (List ℕ)
+  pub faults : ℕ
+  pub now : ℕ
+
+-- of a source, before a call and after it
+abbrev pub reading : {S : Type 0} → Sourcing S → (source left : S) → Passage
+reading sourcing source left = record { old = sourcing.left source; new = sourcing.left left; faults = sourcing.faults source; now = sourcing.faults left }
+
+-- of a sink
+abbrev pub writing : {W : Type 0} → Sinking W → (sink filled : W) → Passage
+writing sinking sink filled = record { old = sinking.written sink; new = sinking.written filled; faults = sinking.faults sink; now = sinking.faults filled }
+
+-- What went through a call.
+pub record Traffic (K : Type 0) : Type 0 where
+  pub read : Passage
+  pub written : Passage
+  pub before : List K
+  pub after : List K
+
+abbrev pub traffic : {S W K : Type 0} → Sourcing S → Sinking W → (source left : S) → (sink filled : W) → (before after : List K) → Traffic K
+traffic sourcing sinking source left sink filled before after = record { read = reading sourcing source left; written = writing sinking sink filled; before = before; after = after }
+
+-- Whatever was asked, the keepers come back in their order, and no count falls.
+pub record Returns {K : Type 0} (keeping : Keeping K) (t : Traffic K) : Type 0 where
+  pub kept : AreKept keeping t.before t.after
+  pub source_later : t.read.faults ≤ t.read.now
+  pub sink_later : t.written.faults ≤ t.written.now

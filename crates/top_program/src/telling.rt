@@ -1,0 +1,59 @@
+use script_hints::hint;
+use script_reading::Clients;
+use std::alloc::AllocError;
+use std::process::ExitCode;
+use top_call::Status;
+
+const USAGE: &str =
+    "bad words: usage: replicator run|plain < script.json, replicator gen N, replicator sum N (N: 1 to 4094)";
+
+/// What is said of the statuses whose cause is known by them alone.
+const SAID: [(Status, &str); 6] = [
+    (Status::Usage, USAGE),
+    (Status::ReadFailed, "reading failed"),
+    (Status::WriteFailed, "writing failed"),
+    (
+        Status::TooLong,
+        "too long: a script has at most 8388608 bytes",
+    ),
+    (Status::Memory, "memory ran out"),
+    (
+        Status::ClearFailed,
+        "store failed: what is stored at that place could not be cleared",
+    ),
+];
+
+/// Whether the words ask for a script that may have clients.
+pub(crate) fn clients_of(words: &Result<Vec<String>, AllocError>) -> Clients {
+    match words {
+        Ok(words) => match words.as_slice() {
+            [word] if word.as_str() == "run" => Clients::Allowed,
+            _ => Clients::Refused,
+        },
+        Err(_) => Clients::Refused,
+    }
+}
+
+/// Says on standard error why the program did not do what it was asked, if it did not. A failure to say so changes nothing.
+pub(crate) fn tell<R: Eprint + AllocGlobal>(
+    rt: &R,
+    code: ExitCode,
+    clients: Clients,
+    bytes: Option<&[u8]>,
+) {
+    for (status, line) in SAID {
+        if is(code, status) {
+            let _ = eprintln!(rt; "{line}");
+        }
+    }
+    if is(code, Status::NotJson) || is(code, Status::NotAScript) {
+        let line = bytes.and_then(|bytes| hint(rt.alloc(), clients, bytes));
+        if let Some(line) = line {
+            let _ = eprintln!(rt; "{line}");
+        }
+    }
+}
+
+fn is(code: ExitCode, status: Status) -> bool {
+    code == ExitCode::from(u8::from(status))
+}
