@@ -1,5 +1,7 @@
 // What tools/try_viewer does in the page of tools/viewer.html. TASK stands above: what to do, and with which cases.
 
+const SAVED_WIDTH = 860;
+
 /* The numbers of the report's lines that are drawn. */
 function drawnLines() {
   const numbers = [...document.querySelectorAll("[data-lines]")].flatMap((part) => part.dataset.lines.split(" "));
@@ -51,7 +53,7 @@ function faultsOfClicks(script) {
 }
 
 function faultsOfSaved() {
-  const parsed = new DOMParser().parseFromString(savedPicture(900), "image/svg+xml");
+  const parsed = new DOMParser().parseFromString(savedPicture(SAVED_WIDTH), "image/svg+xml");
   const texts = parsed.querySelectorAll("text").length;
   return parsed.querySelector("parsererror") || texts === 0 ? ["what is saved is no picture"] : [];
 }
@@ -104,7 +106,7 @@ function drive({ task, cases }) {
   if (task === "drop") return faultsOfDrop(one).then((faults) => leave([{ faults }]));
   page.names = { script: `${one.name}.json`, report: "its report" };
   const faults = showTexts(one.script, one.report).map((fault) => `${fault.where}: ${fault.why}`);
-  return task === "draw" ? leave([{ faults, picture: savedPicture(page.width) }]) : undefined;
+  return task === "draw" ? leave([{ faults, picture: savedPicture(SAVED_WIDTH) }]) : undefined;
 }
 
 drive(TASK);
