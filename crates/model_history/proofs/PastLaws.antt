@@ -75,6 +75,13 @@ module _ {Op : Type 0} where
       (let own = history.numbered i k r has in let below = slice_get-below (H i) r k has in rw (at-cut H r.past i) (omega arith))
   -- THE EQUATION OF A DEFINITION BY RECURSION ON PASTS
 
+-- what is below something that is below the number after d is below d
+below_it : (n m d : ℕ) → n < m → m < suc d → n < d
+below_it n m d less few = omega arith
+
+below_next : (n : ℕ) → n < suc n
+below_next n = omega arith
+
 module _ {Op X A : Type 0} where
   -- what the step says of x depends on the pasts of the history's records alone
   abbrev pub LooksAtPasts : (History Op → X → Type 0) → ((History Op → X → A) → History Op → X → A) → Type 0
@@ -91,10 +98,10 @@ module _ {Op X A : Type 0} where
     enough (suc d) (suc e) H history h h' x belongs =
         looks (by_past_within otherwise step d) (by_past_within otherwise step e) H x belongs (λ i k r has y belongs_there.
         let shorter = past_is_shorter H history i k r has in
-        enough d e (cut H r.past) (past_is_history H history i k r has) (omega arith) (omega arith) y belongs_there)
+        enough d e (cut H r.past) (past_is_history H history i k r has) (below_it (size (cut H r.past)) (size H) d shorter h) (below_it (size (cut H r.past)) (size H) e shorter h') y belongs_there)
 
     pub by_past_equation : (H : History Op) → IsHistory H → (x : X) → Belongs H x → by_past otherwise step H x ≡ step (by_past otherwise step) H x
     by_past_equation H history x belongs =
         looks (by_past_within otherwise step (size H)) (by_past otherwise step) H x belongs (λ i k r has y belongs_there.
         let shorter = past_is_shorter H history i k r has in
-        enough (size H) (suc (size (cut H r.past))) (cut H r.past) (past_is_history H history i k r has) (omega arith) (omega arith) y belongs_there)
+        enough (size H) (suc (size (cut H r.past))) (cut H r.past) (past_is_history H history i k r has) shorter (below_next (size (cut H r.past))) y belongs_there)
