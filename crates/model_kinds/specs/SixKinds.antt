@@ -1,19 +1,19 @@
--- What histories of the six kinds mean, and what they refuse.
-use Rattle.std.specs.Prelude.{ℕ, Bool, true, false, ◌==◌, if◌then◌else◌, Option, None, Some, pos, neg_ℤ, ◌+ℤ◌}
+-- What histories of the six kinds mean, and what they refuse. And what a delete means, for all kinds alike.
+use Rattle.std.specs.Prelude.{ℕ, Bool, true, false, ◌||◌, ◌==◌, if◌then◌else◌, Option, None, Some, pos, neg_ℤ, ◌+ℤ◌}
 use Rattle.std.specs.Str.{bytes_eq}
 use Rattle.model_history.specs.Texts.{Text}
 use Rattle.model_history.specs.History.{History}
 use Rattle.model_meanings.specs.Counter.{total, share}
-use Rattle.model_meanings.specs.Growing.{Assignment, added_elements, is_on, newest, winning_text}
+use Rattle.model_meanings.specs.Growing.{Assignment, added_elements, has_operation, newest, winning_text}
 use Rattle.model_meanings.specs.ObservedRemove.{SetOperations, live_elements}
 use Rattle.model_meanings.specs.Refusal.{Refusal, Shares, greatest_share, overflow, full, too_much}
 use Rattle.model_members.specs.DataType.{DataType}
 use Rattle.model_kinds.specs.declared.kind.Kind.{Kind}
 use Rattle.model_kinds.specs.declared.kind.Kind.TheVariants.{GCounter, PnCounter, GSet, OrSet, Flag, LwwRegister}
 use Rattle.model_kinds.specs.declared.operation.Op.{Op}
-use Rattle.model_kinds.specs.declared.operation.Op.TheVariants.{Increment, Decrement, Add, Remove, Enable, Assign}
+use Rattle.model_kinds.specs.declared.operation.Op.TheVariants.{Increment, Decrement, Add, Remove, Enable, Assign, Delete}
 use Rattle.model_kinds.specs.declared.shown.Shown.{Shown}
-use Rattle.model_kinds.specs.declared.shown.Shown.TheVariants.{Count, Signed, Elements, Switch, Written}
+use Rattle.model_kinds.specs.declared.shown.Shown.TheVariants.{Count, Signed, Elements, Switch, Written, Deleted}
 
 abbrev pub increment : Op → ℕ
 increment (Increment n) = n
@@ -62,7 +62,7 @@ shown GCounter H = Count (total increment H)
 shown PnCounter H = Signed (pos (total increment H) +ℤ neg_ℤ (pos (total decrement H)))
 shown GSet H = Elements (added_elements added H)
 shown OrSet H = Elements (live_elements set_operations H)
-shown Flag H = Switch (is_on enables H)
+shown Flag H = Switch (has_operation enables H)
 shown LwwRegister H = Written (winning_text assigned H)
 
 abbrev pub refusal : Kind → ℕ → Op → History Op → Option Refusal
@@ -78,14 +78,34 @@ blocked GCounter owner r H = too_much (share increment H owner) (share increment
 blocked PnCounter owner r H = too_much (share increment H owner) (share increment H r) (too_much (share decrement H owner) (share decrement H r) None)
 blocked _ owner r H = None
 
-abbrev pub six_kinds : DataType Kind Op Shown
-six_kinds = record { fits = fits; refusal = refusal; blocked = blocked; shown = shown }
+-- the six kinds, of which no key is deleted
+abbrev pub values : DataType Kind Op Shown
+values = record { fits = fits; refusal = refusal; blocked = blocked; shown = shown; deleted = λ H. false }
 
--- one of the kinds alone, as a data type of its own
+-- a data type whose keys may be deleted: a delete fits every kind and is never refused, and a history with a delete blocks no prune and is shown as deleted, whatever else it has
+abbrev pub with_deletes : {Kind Op Shown : Type 0} → (Op → Bool) → Shown → DataType Kind Op Shown → DataType Kind Op Shown
+with_deletes deletes deleted_value D = record {
+  fits = λ kind op. deletes op || D.fits kind op;
+  refusal = λ kind i op H. if deletes op then None else D.refusal kind i op H;
+  blocked = λ kind owner r H. if has_operation deletes H then None else D.blocked kind owner r H;
+  shown = λ kind H. if has_operation deletes H then deleted_value else D.shown kind H;
+  deleted = has_operation deletes;
+}
+
+abbrev pub is_delete : Op → Bool
+is_delete Delete = true
+is_delete _ = false
+
+-- the six kinds, of which keys may be deleted
+abbrev pub six_kinds : DataType Kind Op Shown
+six_kinds = with_deletes is_delete Deleted values
+
+-- one of the kinds alone, as a data type of its own, of which no key is deleted
 abbrev pub of_kind : Kind → DataType (Unit {0}) Op Shown
 of_kind kind = record {
   fits = λ _ op. fits kind op;
   refusal = λ _ i op H. refusal kind i op H;
   blocked = λ _ owner r H. blocked kind owner r H;
   shown = λ _ H. shown kind H;
+  deleted = λ H. false;
 }

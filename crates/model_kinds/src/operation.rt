@@ -3,7 +3,7 @@ ghost use Rattle.std.specs.Prelude.{◌≡◌};
 use crate::moment::Moment;
 use base_bytes::Text;
 
-/// An operation on a value. Which of them belong to a kind is said by `fits` of `specs/SixKinds.antt`.
+/// An operation on a key. Which of them belong to a kind is said by `fits` of `specs/SixKinds.antt`; a delete belongs to all.
 #[derive(Drop)]
 pub enum Op {
     /// Adds to a counter.
@@ -18,6 +18,8 @@ pub enum Op {
     Enable,
     /// Writes the text of a register, by a clock that stands at `now`.
     Assign { text: Text, now: Moment },
+    /// Deletes the key, whatever its kind.
+    Delete,
 }
 
 impl Op {
@@ -35,6 +37,7 @@ impl Op {
                 text: text.copied(),
                 now: *now,
             },
+            Op::Delete => Op::Delete,
         }
     }
 }

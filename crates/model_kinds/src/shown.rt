@@ -16,4 +16,6 @@ pub enum Shown {
     Switch(bool),
     /// The text of a register.
     Written(Text),
+    /// That the key is deleted.
+    Deleted,
 }

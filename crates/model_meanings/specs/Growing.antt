@@ -1,4 +1,4 @@
--- The meaning of sets that only grow, of flags, and of registers.
+-- The meaning of sets that only grow and of registers, and whether a history has an operation: so a flag is on, and a key deleted.
 use Rattle.std.specs.Prelude.{ℕ, ◌+◌, max, List, [], Bool, false, ◌&&◌, not, ◌==◌, Option, None, Some, map, filter_map, fold, find, option_map, unwrap_or}
 use Rattle.std.specs.List.{list_any}
 use Rattle.model_history.specs.Texts.{Text, text_set}
@@ -29,13 +29,14 @@ module _ {Op : Type 0} where
   abbrev pub added_elements : (Op → Option Text) → History Op → List Text
   added_elements added H = text_set (filter_map (λ x. found added x.action) (all_records H))
 
-  abbrev pub switches_on : (Op → Bool) → Action Op → Bool
-  switches_on on (Operation op) = on op
-  switches_on on (Prune r) = false
+  -- an operation that passes the test
+  abbrev pub is_operation : (Op → Bool) → Action Op → Bool
+  is_operation test (Operation op) = test op
+  is_operation test (Prune r) = false
 
-  -- whether some record switches on
-  abbrev pub is_on : (Op → Bool) → History Op → Bool
-  is_on on H = list_any (λ x. switches_on on x.action) (all_records H)
+  -- whether some record is such an operation
+  abbrev pub has_operation : (Op → Bool) → History Op → Bool
+  has_operation test H = list_any (λ x. is_operation test x.action) (all_records H)
 
   abbrev pub timestamp : (Op → Option Assignment) → History Op → Stamped Op → ℕ
   timestamp assigned =

@@ -4,7 +4,7 @@ ghost use Rattle.model_history.specs.Table.{identity_limit, identities};
 ghost use Rattle.model_history.specs.Texts.{Text};
 ghost use Rattle.model_history.specs.History.{History, Stamped, cut, all_records, precedes, IsHistory, IsExactlyPruned, is_pruned};
 ghost use Rattle.model_meanings.specs.Counter.{brought, share, total};
-ghost use Rattle.model_meanings.specs.Growing.{Assignment, greatest, timestamp_after, found, added_elements, is_on, timestamp, winning_text};
+ghost use Rattle.model_meanings.specs.Growing.{Assignment, greatest, timestamp_after, found, added_elements, has_operation, timestamp, winning_text};
 ghost use Rattle.model_meanings.specs.ObservedRemove.{SetOperations, is_adding_by, touches_by, touches, is_live, live_elements};
 ghost use Rattle.model_meanings.specs.Prunes.{after_prune};
 
@@ -33,7 +33,7 @@ pub fn meanings_by_pasts<Operation>()
 pub fn prunes_mean_nothing_new<Operation>()
     ensures total { (amount : Operation → ℕ) (H : History Operation) (owner removed : ℕ) → owner < identity_limit → total amount (after_prune H owner removed) ≡ total amount H }
     ensures elements { (added : Operation → Option Text) (H : History Operation) (owner removed : ℕ) → owner < identity_limit → added_elements added (after_prune H owner removed) ≡ added_elements added H }
-    ensures switch { (on : Operation → Bool) (H : History Operation) (owner removed : ℕ) → owner < identity_limit → is_on on (after_prune H owner removed) ≡ is_on on H }
+    ensures operation { (test : Operation → Bool) (H : History Operation) (owner removed : ℕ) → owner < identity_limit → has_operation test (after_prune H owner removed) ≡ has_operation test H }
     ensures text { (assigned : Operation → Option Assignment) (H : History Operation) (owner removed : ℕ) → owner < identity_limit → IsHistory H → winning_text assigned (after_prune H owner removed) ≡ winning_text assigned H }
     ensures live { (operations : SetOperations Operation) (H : History Operation) (owner removed : ℕ) → owner < identity_limit → IsHistory H → live_elements operations (after_prune H owner removed) ≡ live_elements operations H }
 {}

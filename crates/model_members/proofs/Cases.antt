@@ -10,8 +10,8 @@ use Rattle.model_members.specs.DataType.{Replication}
 use Rattle.model_members.specs.Message.{Message}
 use Rattle.model_members.specs.Message.Message.{Write, Read}
 use Rattle.model_members.specs.Node.{KeyState, OpenOperation, Finished, Node, Level, Input, Fate, Stepped, with_entry, needed}
-use Rattle.model_members.specs.Node.Reply.{Done, UnknownKey, WrongKind, TooFew, Refused, NotStored}
-use Rattle.model_members.specs.Step.{AfterGroups, Ticking, answered, opened, member_count, has_failed, is_entry_passed_over, is_group_passed_over, value_reply, shown_of, with_answer, result_of, tick_key}
+use Rattle.model_members.specs.Node.Reply.{Done, UnknownKey, Deleted, WrongKind, TooFew, Refused, NotStored}
+use Rattle.model_members.specs.Step.{AfterGroups, Ticking, answered, opened, member_count, has_failed, is_entry_passed_over, is_group_passed_over, value_reply, meaning_of, with_answer, result_of, tick_key}
 use Rattle.model_members.specs.World.{World, after_turn, turn_at, moved_on}
 
 -- TAKING ENTRIES AND GROUPS
@@ -61,16 +61,19 @@ module _ {Kind Op Shown : Type 0} (D : Replication Kind Op Shown) where
     | Some n ↦ updated_unless node k op n fate (D.data_type.refusal k.kind node.identity op k.entry.history)
   ]
 
+  abbrev pub updated_undeleted : Node Kind Op Shown → KeyState Kind Op → Op → Level → Fate → Stepped Kind Op Shown
+  updated_undeleted node k op level fate = if D.data_type.fits k.kind op then updated_needing node k op (needed level (member_count node)) fate else answered node WrongKind
+
   abbrev pub updated : Node Kind Op Shown → Option (KeyState Kind Op) → Op → Level → Fate → Stepped Kind Op Shown
   updated node state op level fate = elim state [
     | None ↦ answered node UnknownKey
-    | Some k ↦ if D.data_type.fits k.kind op then updated_needing node k op (needed level (member_count node)) fate else answered node WrongKind
+    | Some k ↦ if D.data_type.deleted k.entry.history then answered node Deleted else updated_undeleted node k op level fate
   ]
 
   abbrev pub got_needing : Node Kind Op Shown → KeyState Kind Op → Option ℕ → Stepped Kind Op Shown
   got_needing node k number = elim number [
     | None ↦ answered node TooFew
-    | Some n ↦ if nat_le n 1 then answered node (value_reply D (shown_of D k)) else opened node k.name true n (Read node.next_op k.name)
+    | Some n ↦ if nat_le n 1 then answered node (value_reply D (meaning_of D k)) else opened node k.name true n (Read node.next_op k.name)
   ]
 
   abbrev pub got : Node Kind Op Shown → Option (KeyState Kind Op) → Level → Stepped Kind Op Shown

@@ -9,7 +9,7 @@ use Rattle.model_meanings.specs.Refusal.{Refusal}
 use Rattle.model_members.specs.Entry.{Entry, with_action}
 use Rattle.model_members.specs.DataType.{Replication}
 use Rattle.model_members.specs.Node.{KeyDecl, KeyState, Node, Input, Fate, Level, key_state, state_of, with_entry, one_step_later, needed}
-use Rattle.model_members.specs.Node.Reply.{Done, WrongKind, NotStored}
+use Rattle.model_members.specs.Node.Reply.{Done, Deleted, WrongKind, NotStored}
 use Rattle.model_members.specs.Step.{step, answered, has_failed, member_count}
 use Rattle.model_members.proofs.Steps.{bytes_eq-tells}
 use Rattle.model_members.proofs.Cases.{updated, updated_needing, updated_unless, got, got_needing}
@@ -44,9 +44,11 @@ module _ {Kind Op Shown : Type 0} (D : Replication Kind Op Shown) (node : Node K
   needing k op same true = unless k op same (D.data_type.refusal k.kind node.identity op k.entry.history)
   needing k op same false = nothing
 
-  at_state : (k : KeyState Kind Op) (op : Op) → k.name ≡ key → (b : Bool) → ChangesOnly node key (if b then updated_needing D later k op (needed Level.Local (member_count later)) fate else answered later WrongKind).node
-  at_state k op same true = needing k op same (nat_le 1 (member_count later))
-  at_state k op same false = nothing
+  at_state : (k : KeyState Kind Op) (op : Op) → k.name ≡ key → (b c : Bool)
+      → ChangesOnly node key (if b then answered later Deleted else (if c then updated_needing D later k op (needed Level.Local (member_count later)) fate else answered later WrongKind)).node
+  at_state k op same true c = nothing
+  at_state k op same false true = needing k op same (nat_le 1 (member_count later))
+  at_state k op same false false = nothing
 
   -- an update changes nothing but the entry of its key
   pub step-update-only : (op : Op) → ChangesOnly node key (step D node (Input.Update key op Level.Local) fate).node
@@ -57,7 +59,7 @@ module _ {Kind Op Shown : Type 0} (D : Replication Kind Op Shown) (node : Node K
       by_search None is = nothing
       by_search (Some decl) is =
           let same : decl.name ≡ key = bytes_eq-tells decl.name key (found (λ (decl : KeyDecl Kind). bytes_eq decl.name key) node.keys decl is) in
-          at_state (state_of (one_step_later node) decl) op same (D.data_type.fits decl.kind op)
+          at_state (state_of (one_step_later node) decl) op same (D.data_type.deleted (node.entries decl.name).history) (D.data_type.fits decl.kind op)
 
   got_at : (o : Option (KeyState Kind Op)) → (got D later o Level.Local).node ≡ later
   got_at None = refl

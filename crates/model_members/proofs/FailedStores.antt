@@ -10,7 +10,7 @@ use Rattle.model_members.specs.Message.{Message}
 use Rattle.model_members.specs.Message.Message.{Deltas, Nack, Status, Gossip, Write, WriteAck, WriteNack, Read, ReadAnswer}
 use Rattle.model_members.specs.Node.{Node, KeyState, OpenOperation, Input, Level, Stepped, key_state, needed, one_step_later}
 use Rattle.model_members.specs.Node.Fate.{StoreFailed}
-use Rattle.model_members.specs.Node.Reply.{Done, Pending, NotStored, WrongKind, TickedNotStored, NotFromMember}
+use Rattle.model_members.specs.Node.Reply.{Done, Pending, NotStored, Deleted, WrongKind, TickedNotStored, NotFromMember}
 use Rattle.model_history.specs.Vector.{members_of}
 use Rattle.model_members.specs.Step.{step, step_of_take, answered, member_count, outcomes_of, with_answer}
 use Rattle.model_members.specs.Relations.{MayChange}
@@ -33,14 +33,15 @@ module _ {Kind Op Shown : Type 0} (D : Replication Kind Op Shown) where
   needing_told node k op None = (λ e. cc e, λ number e. cc e)
   needing_told node k op (Some n) = unless_told node k op n (D.data_type.refusal k.kind node.identity op k.entry.history)
 
-  at_kind : (node : Node Kind Op Shown) (k : KeyState Kind Op) (op : Op) (level : Level) (b : Bool)
-      → IsTold (if b then updated_needing D node k op (needed level (member_count node)) StoreFailed else answered node WrongKind)
-  at_kind node k op level true = needing_told node k op (needed level (member_count node))
-  at_kind node k op level false = (λ e. cc e, λ number e. cc e)
+  at_kind : (node : Node Kind Op Shown) (k : KeyState Kind Op) (op : Op) (level : Level) (b c : Bool)
+      → IsTold (if b then answered node Deleted else (if c then updated_needing D node k op (needed level (member_count node)) StoreFailed else answered node WrongKind))
+  at_kind node k op level true c = (λ e. cc e, λ number e. cc e)
+  at_kind node k op level false true = needing_told node k op (needed level (member_count node))
+  at_kind node k op level false false = (λ e. cc e, λ number e. cc e)
 
   at_key : (node : Node Kind Op Shown) (op : Op) (level : Level) (o : Option (KeyState Kind Op)) → IsTold (updated D node o op level StoreFailed)
   at_key node op level None = (λ e. cc e, λ number e. cc e)
-  at_key node op level (Some k) = at_kind node k op level (D.data_type.fits k.kind op)
+  at_key node op level (Some k) = at_kind node k op level (D.data_type.deleted k.entry.history) (D.data_type.fits k.kind op)
 
   pub update_told : (node : Node Kind Op Shown) (key : Text) (op : Op) (level : Level) → IsTold (step D node (Input.Update key op level) StoreFailed)
   update_told node key op level = at_key (one_step_later node) op level (key_state (one_step_later node) key)

@@ -10,10 +10,10 @@ use Rattle.model_meanings.specs.Refusal.{Refusal}
 use Rattle.model_members.specs.Entry.{with_action}
 use Rattle.model_members.specs.DataType.{Replication}
 use Rattle.model_members.specs.Node.{KeyDecl, KeyState, Node, Input, Fate, Level, HasKey, key_state, state_of, with_entry, with_text_at, one_step_later, needed}
-use Rattle.model_members.specs.Node.Reply.{Done, UnknownKey, WrongKind, Refused, NotStored}
+use Rattle.model_members.specs.Node.Reply.{Done, UnknownKey, Deleted, WrongKind, Refused, NotStored}
 use Rattle.model_members.specs.Node.{Stepped}
-use Rattle.model_members.specs.Step.{step, shown_of, value_reply, answered, has_failed, member_count}
-use Rattle.model_members.proofs.Cases.{updated, updated_needing, updated_unless, got, got_needing}
+use Rattle.model_members.specs.Step.{step, meaning_of, value_reply, answered, has_failed, member_count}
+use Rattle.model_members.proofs.Cases.{updated, updated_undeleted, updated_needing, updated_unless, got, got_needing}
 
 pub bytes_eq-same : (xs : Text) → bytes_eq xs xs ≡ true
 bytes_eq-same xs = (slice_eq-Decides Decides-eqb xs xs _ refl).1 refl
@@ -42,30 +42,41 @@ module _ {Kind Op Shown : Type 0} (D : Replication Kind Op Shown) (node : Node K
   abbrev state : KeyState Kind Op
   state = state_of (one_step_later node) (record { name = key; kind = kind; durable = has.0 })
 
-  by_kind : step D node (Input.Update key op Level.Local) fate
+  abbrev IsDeletedKey : Bool → Type 0
+  IsDeletedKey b = D.data_type.deleted (node.entries key).history ≡ b
+
+  by_delete : step D node (Input.Update key op Level.Local) fate
+      ≡ (if D.data_type.deleted (node.entries key).history then answered (one_step_later node) Deleted else updated_undeleted D (one_step_later node) state op Level.Local fate)
+  by_delete = ap (λ o. updated D (one_step_later node) (option_map (state_of (one_step_later node)) o) op Level.Local fate) has.1
+
+  -- a key that is deleted
+  pub step-deleted : IsDeletedKey true → step D node (Input.Update key op Level.Local) fate ≡ answered (one_step_later node) Deleted
+  step-deleted deleted = by_delete ∙ ap (λ b. if b then answered (one_step_later node) Deleted else updated_undeleted D (one_step_later node) state op Level.Local fate) deleted
+
+  by_kind : IsDeletedKey false → step D node (Input.Update key op Level.Local) fate
       ≡ (if D.data_type.fits kind op then updated_needing D (one_step_later node) state op (needed Level.Local (member_count node)) fate else answered (one_step_later node) WrongKind)
-  by_kind = ap (λ o. updated D (one_step_later node) (option_map (state_of (one_step_later node)) o) op Level.Local fate) has.1
+  by_kind kept = by_delete ∙ ap (λ b. if b then answered (one_step_later node) Deleted else updated_undeleted D (one_step_later node) state op Level.Local fate) kept
 
   -- an operation of another kind
-  pub step-unfit : D.data_type.fits kind op ≡ false → step D node (Input.Update key op Level.Local) fate ≡ answered (one_step_later node) WrongKind
-  step-unfit unfit = by_kind ∙ ap (λ b. if b then updated_needing D (one_step_later node) state op (needed Level.Local (member_count node)) fate else answered (one_step_later node) WrongKind) unfit
+  pub step-unfit : IsDeletedKey false → D.data_type.fits kind op ≡ false → step D node (Input.Update key op Level.Local) fate ≡ answered (one_step_later node) WrongKind
+  step-unfit kept unfit = by_kind kept ∙ ap (λ b. if b then updated_needing D (one_step_later node) state op (needed Level.Local (member_count node)) fate else answered (one_step_later node) WrongKind) unfit
 
-  by_refusal : 0 < member_count node → D.data_type.fits kind op ≡ true
+  by_refusal : IsDeletedKey false → 0 < member_count node → D.data_type.fits kind op ≡ true
       → step D node (Input.Update key op Level.Local) fate ≡ updated_unless D (one_step_later node) state op 1 fate (D.data_type.refusal kind node.identity op (node.entries key).history)
-  by_refusal some fits =
-      by_kind ∙ ap (λ b. if b then updated_needing D (one_step_later node) state op (needed Level.Local (member_count node)) fate else answered (one_step_later node) WrongKind) fits
+  by_refusal kept some fits =
+      by_kind kept ∙ ap (λ b. if b then updated_needing D (one_step_later node) state op (needed Level.Local (member_count node)) fate else answered (one_step_later node) WrongKind) fits
       ∙ ap (λ o. updated_needing D (one_step_later node) state op o fate) (one_is_enough (member_count node) some)
 
   -- an operation that is refused
-  pub step-refused : (refusal : Refusal) → 0 < member_count node → D.data_type.fits kind op ≡ true → D.data_type.refusal kind node.identity op (node.entries key).history ≡ Some refusal
+  pub step-refused : (refusal : Refusal) → IsDeletedKey false → 0 < member_count node → D.data_type.fits kind op ≡ true → D.data_type.refusal kind node.identity op (node.entries key).history ≡ Some refusal
       → step D node (Input.Update key op Level.Local) fate ≡ answered (one_step_later node) (Refused refusal)
-  step-refused refusal some fits refused = by_refusal some fits ∙ ap (updated_unless D (one_step_later node) state op 1 fate) refused
+  step-refused refusal kept some fits refused = by_refusal kept some fits ∙ ap (updated_unless D (one_step_later node) state op 1 fate) refused
 
   -- an operation that becomes the member's next record
-  pub step-accepted : 0 < member_count node → D.data_type.fits kind op ≡ true → D.data_type.refusal kind node.identity op (node.entries key).history ≡ None → has_failed fate ≡ false
+  pub step-accepted : IsDeletedKey false → 0 < member_count node → D.data_type.fits kind op ≡ true → D.data_type.refusal kind node.identity op (node.entries key).history ≡ None → has_failed fate ≡ false
       → step D node (Input.Update key op Level.Local) fate ≡ answered (with_entry (one_step_later node) key (with_action (node.entries key) node.identity (Operation op))) Done
-  step-accepted some fits unrefused stored =
-      by_refusal some fits ∙ ap (updated_unless D (one_step_later node) state op 1 fate) unrefused
+  step-accepted kept some fits unrefused stored =
+      by_refusal kept some fits ∙ ap (updated_unless D (one_step_later node) state op 1 fate) unrefused
       ∙ ap (λ b. if b then answered (with_entry (one_step_later node) key (with_action (node.entries key) node.identity (Operation op))) NotStored
       else answered (with_entry (one_step_later node) key (with_action (node.entries key) node.identity (Operation op))) Done) stored
 
@@ -73,7 +84,7 @@ module _ {Kind Op Shown : Type 0} (D : Replication Kind Op Shown) (node : Node K
 
 module _ {Kind Op Shown : Type 0} (D : Replication Kind Op Shown) (node : Node Kind Op Shown) (key : Text) (kind : Kind) (fate : Fate) (has : HasKey node key kind) where
   pub step-get : 0 < member_count node
-      → step D node (Input.Get key Level.Local) fate ≡ answered (one_step_later node) (value_reply D (shown_of D (state_of (one_step_later node) (record { name = key; kind = kind; durable = has.0 }))))
+      → step D node (Input.Get key Level.Local) fate ≡ answered (one_step_later node) (value_reply D (meaning_of D (state_of (one_step_later node) (record { name = key; kind = kind; durable = has.0 }))))
   step-get some =
       ap (λ o. got D (one_step_later node) (option_map (state_of (one_step_later node)) o) Level.Local) has.1
       ∙ ap (got_needing D (one_step_later node) (state_of (one_step_later node) (record { name = key; kind = kind; durable = has.0 }))) (one_is_enough (member_count node) some)
@@ -103,11 +114,12 @@ module _ {Kind Op Shown : Type 0} (D : Replication Kind Op Shown) (node : Node K
 
   quiet_updated : (o : Option (KeyState Kind Op)) (op : Op) → IsQuiet (updated D later o op Level.Local fate)
   quiet_updated None op = record { posts = refl; ended = refl }
-  quiet_updated (Some k) op = go (D.data_type.fits k.kind op)
+  quiet_updated (Some k) op = go (D.data_type.deleted k.entry.history) (D.data_type.fits k.kind op)
     where
-      go : (b : Bool) → IsQuiet (if b then updated_needing D later k op (needed Level.Local (member_count later)) fate else answered later WrongKind)
-      go true = quiet_update_needing k op (nat_le 1 (member_count later))
-      go false = record { posts = refl; ended = refl }
+      go : (b c : Bool) → IsQuiet (if b then answered later Deleted else (if c then updated_needing D later k op (needed Level.Local (member_count later)) fate else answered later WrongKind))
+      go true c = record { posts = refl; ended = refl }
+      go false true = quiet_update_needing k op (nat_le 1 (member_count later))
+      go false false = record { posts = refl; ended = refl }
 
   -- an update at the local level sends nothing
   pub step-update-quiet : (op : Op) → IsQuiet (step D node (Input.Update key op Level.Local) fate)

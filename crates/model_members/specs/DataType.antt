@@ -1,5 +1,5 @@
 -- What the layers above need to know of a replicated data type.
-use Rattle.std.specs.Prelude.{ℕ, List, Bool, Option}
+use Rattle.std.specs.Prelude.{ℕ, List, Bool, if◌then◌else◌, Option}
 use Rattle.model_history.specs.History.{History}
 use Rattle.model_members.specs.Entry.{Entry}
 use Rattle.model_meanings.specs.Refusal.{Refusal, Shares}
@@ -12,8 +12,18 @@ pub record DataType (Kind Op Shown : Type 0) : Type 0 where
   pub refusal : Kind → ℕ → Op → History Op → Option Refusal
   -- why an owner may not prune an identity
   pub blocked : Kind → (owner removed : ℕ) → History Op → Option Shares
-  -- the meaning of a history
+  -- the value of a history
   pub shown : Kind → History Op → Shown
+  -- the history has a delete: its key is deleted for ever, whatever its kind
+  pub deleted : History Op → Bool
+
+-- what a history with records means: that its key is deleted, or a value
+pub data Meaning (Shown : Type 0) : Type 0 where
+  IsDeleted : Meaning Shown
+  Shows : Shown → Meaning Shown
+
+abbrev pub meaning : {Kind Op Shown : Type 0} → DataType Kind Op Shown → Kind → History Op → Meaning Shown
+meaning D kind H = if D.deleted H then IsDeleted else Shows (D.shown kind H)
 
 -- a data type, the digests of its entries, and how many of its last own records of a key a member keeps, to send them as a group
 pub record Replication (Kind Op Shown : Type 0) : Type 0 where

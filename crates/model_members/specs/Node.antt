@@ -26,6 +26,7 @@ pub record OpenOperation : Type 0 where
 pub data Result (Shown : Type 0) : Type 0 where
   Wrote : Result Shown
   ReadValue : Shown → Result Shown
+  ReadDeleted : Result Shown
   ReadNothing : Result Shown
 
 pub record Finished (Shown : Type 0) : Type 0 where
@@ -85,6 +86,7 @@ pub data Reply (Shown : Type 0) : Type 0 where
   Done : Reply Shown
   Pending : (op : ℕ) → Reply Shown
   Value : Shown → Reply Shown
+  Deleted : Reply Shown
   NotFound : Reply Shown
   UnknownKey : Reply Shown
   WrongKind : Reply Shown

@@ -14,8 +14,8 @@ use Rattle.model_meanings.specs.Refusal.Refusal.{Overflow, ClockSpent, SetFull}
 use Rattle.model_members.specs.Message.{Message, Post}
 use Rattle.model_members.specs.Message.Message.{Deltas, Nack, Status, Gossip, Write, WriteAck, WriteNack, Read, ReadAnswer}
 use Rattle.model_members.specs.Node.{KeyDecl, KeyState, Node, key_states, Result, Finished, KeyOutcome, Reply}
-use Rattle.model_members.specs.Node.Result.{Wrote, ReadValue, ReadNothing}
-use Rattle.model_members.specs.Node.Reply.{Done, Pending, Value, NotFound, UnknownKey, WrongKind, TooFew, Refused, NotStored, Taken, Already, Gap, NotFromMember, Installed, OldView, NotAPeer, Ticked, TickedNotStored, NotLeader, TimedOut, NoSuchOp}
+use Rattle.model_members.specs.Node.Result.{Wrote, ReadValue, ReadDeleted, ReadNothing}
+use Rattle.model_members.specs.Node.Reply.{Done, Pending, Value, Deleted, NotFound, UnknownKey, WrongKind, TooFew, Refused, NotStored, Taken, Already, Gap, NotFromMember, Installed, OldView, NotAPeer, Ticked, TickedNotStored, NotLeader, TimedOut, NoSuchOp}
 use Rattle.model_members.specs.World.{World}
 use Rattle.model_members.specs.Script.{Told, Head, Answer, ScriptStep, KeeperAnswers, opening, played_all, lines_of}
 use Rattle.model_members.specs.Script.{Ask as ask}
@@ -68,6 +68,7 @@ module _ {Shown : Type 0} (value_text : Shown → Text) where
   reply_text Done = codes "done"
   reply_text (Pending op) = codes "pending " ++ decimal op
   reply_text (Value shown) = codes "value " ++ value_text shown
+  reply_text Deleted = codes "deleted"
   reply_text NotFound = codes "not found"
   reply_text UnknownKey = codes "unknown key"
   reply_text WrongKind = codes "wrong kind"
@@ -108,6 +109,7 @@ module _ {Shown : Type 0} (value_text : Shown → Text) where
   abbrev pub result_text : Result Shown → Text
   result_text Wrote = codes "done"
   result_text (ReadValue shown) = codes "value " ++ value_text shown
+  result_text ReadDeleted = codes "deleted"
   result_text ReadNothing = codes "not found"
 
   abbrev pub ended_words : Option (Finished Shown) → List Text

@@ -1,5 +1,5 @@
 -- One step of a member: a function of its state, the input and what the store did.
-use Rattle.std.specs.Prelude.{ℕ, ◌+◌, List, [], ◌∷◌, ◌++◌, length, drop, map, filter, fold, Bool, true, false, ◌&&◌, ◌||◌, not, nat_lt, nat_le, ◌==◌, if◌then◌else◌, Option, None, Some, is_some, find, option_map, flat_map}
+use Rattle.std.specs.Prelude.{ℕ, ◌+◌, List, [], ◌∷◌, ◌++◌, length, drop, map, filter, fold, Bool, true, false, ◌&&◌, ◌||◌, not, nat_lt, nat_le, ◌==◌, if◌then◌else◌, Option, None, Some, is_some, find, option_map, option_and_then, flat_map}
 use Rattle.std.specs.List.{list_any}
 use Rattle.std.specs.Str.{bytes_eq}
 use Rattle.model_history.specs.Texts.{Text, contains_text}
@@ -8,14 +8,14 @@ use Rattle.model_members.specs.View.{View, identities_of, is_member, leader, oth
 use Rattle.model_history.specs.History.{Action, Record, at, is_pruned}
 use Rattle.model_members.specs.Entry.{Entry, Group, merged, seen_by, with_action, judged, with_group, group_after, is_prune, has_records, is_unchanged, ticked}
 use Rattle.model_members.specs.Entry.Judgement.{Wanted, Stale, Missing}
-use Rattle.model_members.specs.DataType.{Replication}
+use Rattle.model_members.specs.DataType.{Replication, Meaning, IsDeleted, Shows, meaning}
 use Rattle.model_members.specs.Message.{Keyed, Message, Post}
 use Rattle.model_members.specs.Message.Message.{Deltas, Nack, Status, Gossip, Write, WriteAck, WriteNack, Read, ReadAnswer}
 use Rattle.model_members.specs.Node.{KeyState, OpenOperation, Result, Finished, Node, Level, needed, Input, Fate, KeyOutcome, Reply, Stepped, key_state, key_states, keyed_entry, with_entry, one_step_later}
-use Rattle.model_members.specs.Node.Result.{Wrote, ReadValue, ReadNothing}
+use Rattle.model_members.specs.Node.Result.{Wrote, ReadValue, ReadDeleted, ReadNothing}
 use Rattle.model_members.specs.Node.Input.{Update, Get, Take, Install, Flush, GossipTo, PruneTick, Timeout}
 use Rattle.model_members.specs.Node.Fate.{StoreFailed}
-use Rattle.model_members.specs.Node.Reply.{Done, Pending, Value, NotFound, UnknownKey, WrongKind, TooFew, Refused, NotStored, Taken, Already, Gap, NotFromMember, Installed, OldView, NotAPeer, Ticked, TickedNotStored, NotLeader, TimedOut, NoSuchOp}
+use Rattle.model_members.specs.Node.Reply.{Done, Pending, Value, Deleted, NotFound, UnknownKey, WrongKind, TooFew, Refused, NotStored, Taken, Already, Gap, NotFromMember, Installed, OldView, NotAPeer, Ticked, TickedNotStored, NotLeader, TimedOut, NoSuchOp}
 
 abbrev pub has_failed : Fate → Bool
 has_failed StoreFailed = true
@@ -113,12 +113,17 @@ module _ {Kind Op Shown : Type 0} (D : Replication Kind Op Shown) where
   abbrev pub shown_of : KeyState Kind Op → Option Shown
   shown_of k = if has_records k.entry then Some (D.data_type.shown k.kind k.entry.history) else None
 
-  abbrev pub read_result : Option (Option Shown) → Result Shown
-  read_result (Some (Some shown)) = ReadValue shown
-  read_result _ = ReadNothing
+  -- what a key means, or nothing where it has no record
+  abbrev pub meaning_of : KeyState Kind Op → Option (Meaning Shown)
+  meaning_of k = if has_records k.entry then Some (meaning D.data_type k.kind k.entry.history) else None
+
+  abbrev pub read_result : Option (Meaning Shown) → Result Shown
+  read_result None = ReadNothing
+  read_result (Some IsDeleted) = ReadDeleted
+  read_result (Some (Shows shown)) = ReadValue shown
 
   abbrev pub result_of : Node Kind Op Shown → OpenOperation → Result Shown
-  result_of node operation = if operation.reads then read_result (option_map shown_of (key_state node operation.key)) else Wrote
+  result_of node operation = if operation.reads then read_result (option_and_then meaning_of (key_state node operation.key)) else Wrote
 
   -- the answer of a member counts for the open operation that passes the test, and may end it
   abbrev pub counted : Stepped Kind Op Shown → ℕ → (OpenOperation → Bool) → Stepped Kind Op Shown
@@ -136,11 +141,12 @@ module _ {Kind Op Shown : Type 0} (D : Replication Kind Op Shown) where
 
   -- UPDATE AND GET
 
-  -- in this order: an undeclared key, an operation of another kind, too few members, a refusal of the data type, a store that failed
+  -- in this order: an undeclared key, a deleted one, an operation of another kind, too few members, a refusal of the data type, a store that failed
   abbrev pub step_of_update : Node Kind Op Shown → Text → Op → Level → Fate → Stepped Kind Op Shown
   step_of_update node key op level fate = elim (key_state node key) [
     | None ↦ answered node UnknownKey
-    | Some k ↦ if D.data_type.fits k.kind op
+    | Some k ↦ if D.data_type.deleted k.entry.history then answered node Deleted
+        else (if D.data_type.fits k.kind op
         then elim (needed level (member_count node)) [
           | None ↦ answered node TooFew
           | Some n ↦ elim (D.data_type.refusal k.kind node.identity op k.entry.history) [
@@ -152,20 +158,21 @@ module _ {Kind Op Shown : Type 0} (D : Replication Kind Op Shown) where
                 else (if nat_le n 1 then answered after Done else opened after k.name false n (Write node.next_op k.name entry))
           ]
         ]
-        else answered node WrongKind
+        else answered node WrongKind)
   ]
 
-  abbrev pub value_reply : Option Shown → Reply Shown
+  abbrev pub value_reply : Option (Meaning Shown) → Reply Shown
   value_reply None = NotFound
-  value_reply (Some shown) = Value shown
+  value_reply (Some IsDeleted) = Deleted
+  value_reply (Some (Shows shown)) = Value shown
 
-  -- in this order: an undeclared key, too few members; then the value, or an operation that asks for it
+  -- in this order: an undeclared key, too few members; then what the key means, or an operation that asks for it
   abbrev pub step_of_get : Node Kind Op Shown → Text → Level → Stepped Kind Op Shown
   step_of_get node key level = elim (key_state node key) [
     | None ↦ answered node UnknownKey
     | Some k ↦ elim (needed level (member_count node)) [
       | None ↦ answered node TooFew
-      | Some n ↦ if nat_le n 1 then answered node (value_reply (shown_of k)) else opened node k.name true n (Read node.next_op k.name)
+      | Some n ↦ if nat_le n 1 then answered node (value_reply (meaning_of k)) else opened node k.name true n (Read node.next_op k.name)
     ]
   ]
 

@@ -1,4 +1,4 @@
-use Rattle.model_meanings.proofs.PrunesShowAlike.{total_alike, elements_alike, switch_alike, text_alike, live_alike}
+use Rattle.model_meanings.proofs.PrunesShowAlike.{total_alike, elements_alike, operation_alike, text_alike, live_alike}
 use Rattle.model_meanings.proofs.laws.prunes_mean_nothing_new.Goals as goal
 
 pub returns-clause-total : goal.returns-clause-total
@@ -7,8 +7,8 @@ returns-clause-total g c = λ amount H owner removed small. total_alike H owner 
 pub returns-clause-elements : goal.returns-clause-elements
 returns-clause-elements g c = λ added H owner removed small. elements_alike H owner removed small added
 
-pub returns-clause-switch : goal.returns-clause-switch
-returns-clause-switch g c = λ on H owner removed small. switch_alike H owner removed small on
+pub returns-clause-operation : goal.returns-clause-operation
+returns-clause-operation g c = λ test H owner removed small. operation_alike H owner removed small test
 
 pub returns-clause-text : goal.returns-clause-text
 returns-clause-text g c = λ assigned H owner removed small history. text_alike H owner removed small history assigned
