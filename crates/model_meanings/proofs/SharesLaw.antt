@@ -137,6 +137,9 @@ module _ {Op : Type 0} (amount : Op → ℕ) (H : History Op) (history : IsHisto
       ∙ ap (λ n. n + sum_by (λ i. sum_by (λ (r : Record Op). part r.action) (H i)) identities) (sym total_rows)
       ∙ ap (λ n. total amount H + n) part_rows
 
+  same_before : (all x y z : ℕ) → all ≡ x + z → all ≡ y + z → x ≡ y
+  same_before all x y z a b = omega arith
+
   either : (b : Bool) (n : ℕ) → n ≡ (if b then 0 else n) + (if b then n else 0)
   either true n = omega arith
   either false n = omega arith
@@ -147,5 +150,4 @@ module _ {Op : Type 0} (amount : Op → ℕ) (H : History Op) (history : IsHisto
       let both : sum_by f identities ≡ sum_by (λ i. if is_pruned H i then 0 else f i) identities + sum_by (λ i. if is_pruned H i then f i else 0) identities =
       sum_by-same f (λ i. (if is_pruned H i then 0 else f i) + (if is_pruned H i then f i else 0)) identities (λ k i e. either (is_pruned H i) (f i))
       ∙ sum_add (λ i. if is_pruned H i then 0 else f i) (λ i. if is_pruned H i then f i else 0) identities in
-      let all = all_shares in
-      omega (arith, both, all)
+      same_before (sum_by f identities) (sum_by (λ i. if is_pruned H i then 0 else f i) identities) (total amount H) (sum_by (λ i. if is_pruned H i then f i else 0) identities) both all_shares

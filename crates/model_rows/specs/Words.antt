@@ -2,7 +2,7 @@
 use Rattle.std.specs.Prelude.{ℕ, ◌==◌, ◌&&◌, not, List, [], ◌∷◌, ◌++◌, map, true, false, Option, None, Some, flat_map}
 use Rattle.std.specs.List.{list_any}
 use Rattle.model_history.specs.Texts.{Text}
-use Rattle.model_history.specs.Table.{identities}
+use Rattle.model_history.specs.Table.{identity_limit, identities}
 use Rattle.model_history.specs.Vector.{members_of}
 use Rattle.model_history.specs.History.{versions}
 use Rattle.model_members.specs.Entry.{Entry, Mark}
@@ -19,7 +19,7 @@ use Rattle.model_kinds.specs.ShownText.{shown_text}
 
 abbrev pub mark_digest : Option Mark → List ℕ
 mark_digest None = 0 ∷ []
-mark_digest (Some mark) = (1 ∷ mark.view ∷ mark.owner ∷ members_of mark.seen) ++ 64 ∷ []
+mark_digest (Some mark) = (1 ∷ mark.view ∷ mark.owner ∷ members_of mark.seen) ++ identity_limit ∷ []
 
 -- numbers that tell the entries of these scripts apart
 abbrev pub plain_digest : Kind → Entry Op → List ℕ
