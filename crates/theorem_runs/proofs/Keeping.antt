@@ -199,7 +199,8 @@ module _ {Kind Op Shown : Type 0} (D : Replication Kind Op Shown) (P M : Text �
   keeps_updated : (node : Node Kind Op Shown) (key : Text) (o : Option (KeyState Kind Op)) → key_state node key ≡ o → (op : Op) (level : Level) (fate : Fate) → Keeps P i view keys node → Keeps P i view keys (updated D node o op level fate).node
   keeps_updated node key None e op level fate keeps = keeps
   keeps_updated node key (Some k) e op level fate keeps =
-      if_holds (λ (s : Stepped Kind Op Shown). Keeps P i view keys s.node) (D.data_type.fits k.kind op) _ _ (keeps_needing node k op _ fate keeps (found_key node key k keeps e).0) keeps
+      if_holds (λ (s : Stepped Kind Op Shown). Keeps P i view keys s.node) (D.data_type.deleted k.entry.history) _ _ keeps
+      (if_holds (λ (s : Stepped Kind Op Shown). Keeps P i view keys s.node) (D.data_type.fits k.kind op) _ _ (keeps_needing node k op _ fate keeps (found_key node key k keeps e).0) keeps)
 
   keeps_opened : (node : Node Kind Op Shown) (key : Text) (reads : Bool) (n : ℕ) (message : Message Op) → Keeps P i view keys node → Keeps P i view keys (opened node key reads n message).node
   keeps_opened node key reads n message h = record { same_identity = h.same_identity; same_view = h.same_view; same_keys = h.same_keys; entries = h.entries }

@@ -10,10 +10,10 @@ use Rattle.model_history.specs.Texts.{Text}
 use Rattle.model_history.specs.Table.{identities}
 use Rattle.model_history.specs.History.{Record, History, at, HasRecord}
 use Rattle.model_history.proofs.HistoryLaws.{same_part, slice_get-below}
-use Rattle.model_members.specs.DataType.{Replication}
+use Rattle.model_members.specs.DataType.{Replication, meaning}
 use Rattle.model_members.specs.Node.{KeyDecl, Node, Level, Input, Fate, Reply, state_of, one_step_later}
 use Rattle.model_members.specs.Node.Reply.{UnknownKey}
-use Rattle.model_members.specs.Step.{step, shown_of, value_reply, member_count}
+use Rattle.model_members.specs.Step.{step, shown_of, meaning_of, value_reply, member_count}
 use Rattle.model_members.specs.World.{World}
 use Rattle.model_members.proofs.Cases.{got, got_needing}
 use Rattle.theorem_runs.specs.Pruning.{HistoryVariables}
@@ -42,10 +42,14 @@ module _ {Kind Op Shown : Type 0} (D : Replication Kind Op Shown) where
   shown_by_history : (a b : Node Kind Op Shown) (decl : KeyDecl Kind) → (a.entries decl.name).history ≡ (b.entries decl.name).history → shown_of D (state_of a decl) ≡ shown_of D (state_of b decl)
   shown_by_history a b decl same = ap (λ (H : History Op). if list_any (λ i. nat_lt 0 (at H i)) identities then Some (D.data_type.shown decl.kind H) else None) same
 
+  -- and so is what it means
+  means_by_history : (a b : Node Kind Op Shown) (decl : KeyDecl Kind) → (a.entries decl.name).history ≡ (b.entries decl.name).history → meaning_of D (state_of a decl) ≡ meaning_of D (state_of b decl)
+  means_by_history a b decl same = ap (λ (H : History Op). if list_any (λ i. nat_lt 0 (at H i)) identities then Some (meaning D.data_type decl.kind H) else None) same
+
   -- the reply to a local get, by the key's declaration
   abbrev reply_of : Node Kind Op Shown → Option (KeyDecl Kind) → Reply Shown
   reply_of node None = UnknownKey
-  reply_of node (Some decl) = value_reply D (shown_of D (state_of node decl))
+  reply_of node (Some decl) = value_reply D (meaning_of D (state_of node decl))
 
   by_decl : (node : Node Kind Op Shown) (o : Option (KeyDecl Kind)) → 0 < member_count node → (got D (one_step_later node) (option_map (state_of (one_step_later node)) o) Level.Local).output.reply ≡ reply_of node o
   by_decl node None some = refl
@@ -65,7 +69,7 @@ module _ {Kind Op Shown : Type 0} (D : Replication Kind Op Shown) where
     same_decl key None is same = refl
     same_decl key (Some decl) is same =
         let name = same_text decl.name key (found (λ (d : KeyDecl Kind). bytes_eq d.name key) world.keys decl is) in
-        ap (value_reply D) (shown_by_history a b decl (ap (λ k. (a.entries k).history) name ∙ same ∙ ap (λ k. (b.entries k).history) (sym name)))
+        ap (value_reply D) (means_by_history a b decl (ap (λ k. (a.entries k).history) name ∙ same ∙ ap (λ k. (b.entries k).history) (sym name)))
 
     -- they answer a local get alike
     pub same_reply : (key : Text) (fate : Fate) → ((o : ℕ) → at (a.entries key).history o ≡ at (b.entries key).history o) → (step D a (Input.Get key Level.Local) fate).output.reply ≡ (step D b (Input.Get key Level.Local) fate).output.reply

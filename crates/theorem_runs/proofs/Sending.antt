@@ -14,11 +14,11 @@ use Rattle.model_members.specs.DataType.{Replication}
 use Rattle.model_members.specs.Message.{Keyed, Message, Post, entries_in, groups_in}
 use Rattle.model_members.specs.Message.Message.{Deltas, Nack, Status, Gossip, Write, WriteAck, WriteNack, Read, ReadAnswer}
 use Rattle.model_members.specs.Node.{KeyState, Node, Level, Input, Fate, Stepped, OpenOperation, key_state, key_states, state_of, with_entry, needed, keyed_entry, keyed_entry as stored_form}
-use Rattle.model_members.specs.Node.Reply.{WrongKind, Taken, NotFromMember, NotAPeer, Done}
+use Rattle.model_members.specs.Node.Reply.{Deleted, WrongKind, Taken, NotFromMember, NotAPeer, Done}
 use Rattle.model_history.specs.Vector.{members_of}
 use Rattle.model_members.specs.Node.Input.{Update, Get, Take, Install, Flush, GossipTo, PruneTick, Timeout}
-use Rattle.model_members.specs.Step.{is_answered_by, status_of, took_deltas, answer_to, value_reply, shown_of, with_answer, KeyGap, AfterGroups, after_groups, after_entries, answered, sent, opened, step_of_take, gossip_to, nack_to, keyed_option, answered_entry, took, step_of_flush, deltas_for, is_behind, goes_as_group, step_of, step, has_failed, member_count, to_store, changed_keys}
-use Rattle.model_members.proofs.Cases.{accepted, updated, updated_needing, updated_unless, got, got_needing, counted_for}
+use Rattle.model_members.specs.Step.{is_answered_by, status_of, took_deltas, answer_to, value_reply, meaning_of, with_answer, KeyGap, AfterGroups, after_groups, after_entries, answered, sent, opened, step_of_take, gossip_to, nack_to, keyed_option, answered_entry, took, step_of_flush, deltas_for, is_behind, goes_as_group, step_of, step, has_failed, member_count, to_store, changed_keys}
+use Rattle.model_members.proofs.Cases.{accepted, updated, updated_undeleted, updated_needing, updated_unless, got, got_needing, counted_for}
 use Rattle.theorem_runs.proofs.Keeping.{if_holds, found_entry}
 
 -- LISTS
@@ -113,12 +113,13 @@ module _ {Kind Op Shown : Type 0} (D : Replication Kind Op Shown) where
   sends_updated : (node : Node Kind Op Shown) (o : Option (KeyState Kind Op)) (op : Op) (level : Level) (fate : Fate) → SendsOwn (updated D node o op level fate)
   sends_updated node None op level fate = tt
   sends_updated node (Some k) op level fate =
-      if_holds SendsOwn (D.data_type.fits k.kind op) (updated_needing D node k op (needed level (member_count node)) fate) (answered node WrongKind) (sends_needing node k op (needed level (member_count node)) fate) tt
+      if_holds SendsOwn (D.data_type.deleted k.entry.history) (answered node Deleted) (updated_undeleted D node k op level fate) tt
+      (if_holds SendsOwn (D.data_type.fits k.kind op) (updated_needing D node k op (needed level (member_count node)) fate) (answered node WrongKind) (sends_needing node k op (needed level (member_count node)) fate) tt)
 
   sends_got_needing : (node : Node Kind Op Shown) (k : KeyState Kind Op) (n : Option ℕ) → SendsOwn (got_needing D node k n)
   sends_got_needing node k None = tt
   sends_got_needing node k (Some n) =
-      if_holds SendsOwn (nat_le n 1) (answered node (value_reply D (shown_of D k))) (opened node k.name true n (Read node.next_op k.name)) tt
+      if_holds SendsOwn (nat_le n 1) (answered node (value_reply D (meaning_of D k))) (opened node k.name true n (Read node.next_op k.name)) tt
       (all_mapped _ (λ i. record { to = i; message = Read node.next_op k.name }) (λ i. record { entries = tt; groups = tt }) (others node.view node.identity))
 
   sends_got : (node : Node Kind Op Shown) (o : Option (KeyState Kind Op)) (level : Level) → SendsOwn (got D node o level)
