@@ -1,4 +1,4 @@
-ghost use Rattle.std.specs.Prelude.{◌≡◌, ℕ, List, ◌+◌, ◌<◌, ◌≤◌, ◌^◌, ◌↔◌, Bool, true, false, IsTrue, IfOk, IfErr, OnOk, OnErr, Option, None};
+ghost use Rattle.std.specs.Prelude.{◌≡◌, ℕ, List, ◌+◌, ◌<◌, ◌≤◌, ◌^◌, ◌↔◌, Bool, true, false, not, ◌&&◌, ◌||◌, IsTrue, IfOk, IfErr, OnOk, OnErr, Option, None};
 ghost use Rattle.model_history.specs.Table.{with_at};
 ghost use Rattle.model_history.specs.Vector.{VersionVector, IdentitySet, join, with_member};
 ghost use Rattle.model_history.specs.History.{History, cut};
@@ -9,6 +9,7 @@ ghost use Rattle.model_members.specs.DataType.{DataType};
 ghost use Rattle.base_vectors.specs.Vectors.{number_at};
 ghost use Rattle.base_vectors.specs.declared.id.Dot.{Dot};
 ghost use Rattle.model_kinds.specs.declared.shown.Shown.{Shown};
+ghost use Rattle.model_kinds.specs.declared.shown.Shown.TheVariants.{Deleted};
 ghost use Rattle.data_lattice.specs.Refusals.{IsApplyRefusal, IsPruneRefusal};
 
 use crate::answers::{ApplyError, PruneError};
@@ -37,6 +38,9 @@ pub trait Replica: Drop {
 
     // What the calls compute.
     ghost kind_of: { Self → Self.Kind };
+
+    // The key was deleted: it has no value any more.
+    ghost is_closed: { Self → Bool };
 
     ghost delta_fits_kind: { Self.Kind → Self.Delta → Bool };
 
@@ -90,9 +94,13 @@ pub trait Replica: Drop {
     fn same_kind(&self, other: &Self) -> bool
         ensures { IsTrue result ↔ (kind_of self.now ≡ kind_of other.now) };
 
-    /// Whether the operation is one of the kind.
+    /// Whether the key was deleted. Its data have no value any more, and stay so whatever is joined or taken.
+    fn closed(&self) -> bool
+        ensures { result ≡ is_closed self.now };
+
+    /// Whether the operation is one of the kind, and the key was not deleted.
     fn fits(&self, op: &Self::Op) -> bool
-        ensures { result ≡ data_type.fits (kind_of self.now) op.now };
+        ensures { result ≡ (not (is_closed self.now) && data_type.fits (kind_of self.now) op.now) };
 
     /// Applies an operation as the record of this name, of a number from 1 to `2^62`, and answers its delta.
     ///
@@ -100,7 +108,7 @@ pub trait Replica: Drop {
     ///
     /// The refusal that the kind has for the operation of this origin, or memory was refused.
     fn apply(&mut self, alloc: Global, op: &Self::Op, dot: Dot) -> Result<Self::Delta, ApplyError>
-        requires fits { data_type.fits (kind_of self.old) op.now ≡ true }
+        requires fits { (not (is_closed self.old) && data_type.fits (kind_of self.old) op.now) ≡ true }
         requires seq { (1 ≤ dot.seq) × (dot.seq ≤ 2 ^ 62) }
         ensures unrefused { OnOk result (apply_refusal self.old op.now dot.origin ≡ None) }
         ensures applied { OnOk result (self.new ≡ applied self.old op.now dot) }
@@ -193,8 +201,23 @@ pub trait Replica: Drop {
 
     ghost kind_pruned: { (state : Self) (removed : ℕ) (dot : Dot) → kind_of (pruned state removed dot) ≡ kind_of state };
 
+    // Data of a deleted key stay so. They mention nobody, show that the key was deleted, and keep no identity from being pruned.
+    ghost closed_joined: { (state : Self) (mine : VersionVector) (other : Self) (theirs : VersionVector) → is_closed (joined state mine other theirs) ≡ (is_closed state || is_closed other) };
+
+    ghost closed_absorbed: { (state : Self) (mine : VersionVector) (delta : Self.Delta) → is_closed state ≡ true → is_closed (absorbed state mine delta) ≡ true };
+
+    ghost closed_cleaned: { (state : Self) (id : ℕ) → is_closed (cleaned state id) ≡ is_closed state };
+
+    ghost closed_pruned: { (state : Self) (removed : ℕ) (dot : Dot) → is_closed (pruned state removed dot) ≡ is_closed state };
+
+    ghost closed_mentions: { (state : Self) (id : ℕ) → is_closed state ≡ true → mentioned state id ≡ false };
+
+    ghost closed_shown: { (state : Self) → is_closed state ≡ true → shown state ≡ Deleted };
+
+    ghost closed_unblocked: { (state : Self) (removed owner : ℕ) → is_closed state ≡ true → prune_refusal state removed owner ≡ None };
+
     // Deltas are of a kind and of an origin.
-    ghost delta_kind: { (state : Self) (op : Self.Op) (dot : Dot) → data_type.fits (kind_of state) op ≡ true → delta_fits_kind (kind_of state) (delta_of state op dot) ≡ true };
+    ghost delta_kind: { (state : Self) (op : Self.Op) (dot : Dot) → (not (is_closed state) && data_type.fits (kind_of state) op) ≡ true → delta_fits_kind (kind_of state) (delta_of state op dot) ≡ true };
 
     ghost delta_origin: { (state : Self) (op : Self.Op) (dot : Dot) → IsOfOrigin (delta_of state op dot) dot.origin };
 
@@ -225,7 +248,7 @@ pub trait Replica: Drop {
     ghost data_empty: { (kind : Self.Kind) (log : History Self.Op) (held : VersionVector) (gone : IdentitySet) → ((i : ℕ) → held i ≡ 0) → IsDataOf (empty_of kind) log held gone };
 
     ghost data_applied: { (state : Self) (log : History Self.Op) (held : VersionVector) (gone : IdentitySet) (op : Self.Op) (dot : Dot)
-        → IsPrunedCut log held gone → gone dot.origin ≡ false → IsNext log held dot.origin (Operation op) → dot.seq ≡ held dot.origin + 1 → IsDataOf state log held gone → data_type.fits (kind_of state) op ≡ true → apply_refusal state op dot.origin ≡ None
+        → IsPrunedCut log held gone → gone dot.origin ≡ false → IsNext log held dot.origin (Operation op) → dot.seq ≡ held dot.origin + 1 → IsDataOf state log held gone → (not (is_closed state) && data_type.fits (kind_of state) op) ≡ true → apply_refusal state op dot.origin ≡ None
         → IsDataOf (applied state op dot) log (grown held dot.origin) gone × IsDeltaOf (delta_of state op dot) log dot.origin (held dot.origin) (held dot.origin + 1) };
 
     ghost data_joined: { (state other : Self) (log : History Self.Op) (held also : VersionVector) (gone : IdentitySet) → kind_of state ≡ kind_of other → IsConsistentCut log held → IsConsistentCut log also → IsPrunedCut log (join held also) gone → IsDataOf state log held gone → IsDataOf other log also gone
@@ -267,8 +290,10 @@ pub trait Replica: Drop {
 
     ghost pruned_unmentioned: { (state : Self) (removed : ℕ) (dot : Dot) → (removed ≡ dot.origin → ⊥) → mentioned (pruned state removed dot) removed ≡ false };
 
-    // What is refused, blocked and shown is what the history says.
-    ghost refusal_means: { (state : Self) (log : History Self.Op) (held : VersionVector) (gone : IdentitySet) (op : Self.Op) (origin : ℕ) → IsPrunedCut log held gone → IsDataOf state log held gone → gone origin ≡ false → data_type.fits (kind_of state) op ≡ true
+    // What is deleted, refused, blocked and shown is what the history says.
+    ghost closed_means: { (state : Self) (log : History Self.Op) (held : VersionVector) (gone : IdentitySet) → IsPrunedCut log held gone → IsDataOf state log held gone → is_closed state ≡ data_type.deleted (cut log held) };
+
+    ghost refusal_means: { (state : Self) (log : History Self.Op) (held : VersionVector) (gone : IdentitySet) (op : Self.Op) (origin : ℕ) → IsPrunedCut log held gone → IsDataOf state log held gone → gone origin ≡ false → (not (is_closed state) && data_type.fits (kind_of state) op) ≡ true
         → apply_refusal state op origin ≡ data_type.refusal (kind_of state) origin op (cut log held) };
 
     ghost blocked_means: { (state : Self) (log : History Self.Op) (held : VersionVector) (gone : IdentitySet) (owner removed : ℕ) → IsPrunedCut log held gone → IsDataOf state log held gone → gone owner ≡ false → gone removed ≡ false
