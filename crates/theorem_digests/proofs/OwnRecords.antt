@@ -191,7 +191,8 @@ module _ {Kind Op Shown : Type 0} (D : Replication Kind Op Shown) (i : ℕ) wher
     has_updated : (node : Node Kind Op Shown) (key : Text) (o : Option (KeyState Kind Op)) → key_state node key ≡ o → (op : Op) (level : Level) (fate : Fate) → HasAtMost most node → HasAtMost and_one (updated D node o op level fate).node
     has_updated node key None e op level fate has = plus 1 most node has
     has_updated node key (Some k) e op level fate has =
-        if_holds (λ (s : Stepped Kind Op Shown). HasAtMost and_one s.node) (D.data_type.fits k.kind op) _ _ (has_needing node k op _ fate has (has_found most node key k has e)) (plus 1 most node has)
+        if_holds (λ (s : Stepped Kind Op Shown). HasAtMost and_one s.node) (D.data_type.deleted k.entry.history) _ _ (plus 1 most node has)
+        (if_holds (λ (s : Stepped Kind Op Shown). HasAtMost and_one s.node) (D.data_type.fits k.kind op) _ _ (has_needing node k op _ fate has (has_found most node key k has e)) (plus 1 most node has))
 
     has_key_ticked : (node : Node Kind Op Shown) (key : Text) (o : Option (KeyState Kind Op)) → key_state node key ≡ o → HasAtMost most node → at (entry_after_tick_of D node o (node.entries key)).history i ≤ most key + node.view.given
     has_key_ticked node key None e has = let a = has.own key in omega arith

@@ -3,7 +3,7 @@ use Rattle.std.proofs.Common.{◌≡◌, ℕ, zero, suc, ◌+◌, ◌<◌, ◌�
 use Rattle.std.specs.Prelude.{if◌then◌else◌, filter, ◌||◌, ◌==◌}
 use Rattle.std.specs.List.{list_any, range_with_len}
 use Rattle.std.proofs.lemmas.Bool.Decides.{eqb_tells}
-use Rattle.model_history.specs.Table.{identities}
+use Rattle.model_history.specs.Table.{identity_limit, identities}
 use Rattle.model_history.specs.Vector.{IdentitySet, members_of}
 use Rattle.model_members.specs.View.{View, identities_of, is_member}
 use Rattle.model_members.specs.Node.{Level, needed_number}
@@ -108,7 +108,7 @@ few_of_list (j ∷ js) first n =
     let c = few_of_list js first n in omega arith
 
 pub few_members : (view : View) → count (is_member view) identities ≤ length view.members
-few_members view = let a = few_of_list (identities_of view) 0 64 in let b = map_length (λ member. member.identity) view.members in omega arith
+few_members view = let a = few_of_list (identities_of view) 0 identity_limit in let b = map_length (λ member. member.identity) view.members in omega arith
 
 -- MAJORITIES
 

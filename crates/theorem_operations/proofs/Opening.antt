@@ -5,7 +5,7 @@ use Rattle.std.specs.List.{list_any, range_with_len}
 use Rattle.std.proofs.lemmas.Bool.Decides.{eqb_tells}
 use Rattle.std.proofs.lemmas.Bool.{eq-eqb, leb-false, leb-true}
 use Rattle.model_history.specs.Texts.{Text}
-use Rattle.model_history.specs.Table.{identities}
+use Rattle.model_history.specs.Table.{identity_limit, identities}
 use Rattle.model_history.specs.Vector.{alone, members_of}
 use Rattle.model_history.proofs.PruneLaws.{IsIn, in_tail}
 use Rattle.model_meanings.specs.Refusal.{Refusal}
@@ -17,11 +17,12 @@ use Rattle.model_members.specs.Message.Message.{Deltas, Nack, Status, Gossip, Wr
 use Rattle.model_members.specs.Node.{KeyState, Node, OpenOperation, Level, Input, Fate, Reply, Stepped as StepResult, key_state, needed, needed_number, one_step_later, with_entry}
 use Rattle.model_members.specs.Node.Fate.{StoreFailed, NoStore, Stored}
 use Rattle.model_members.specs.Node.Input.{Update, Get, Take, Install, Flush, GossipTo, PruneTick, Timeout}
-use Rattle.model_members.specs.Node.Reply.{Done, Pending, WrongKind, NotStored, NotFromMember, OldView, Installed, NotAPeer, NotLeader, NoSuchOp, Ticked, TickedNotStored, Taken}
-use Rattle.model_members.specs.Step.{step, has_failed, answered, opened, to_others, member_count, step_of_take, take_reply, KeyGap, value_reply, shown_of, with_answer, outcomes_of}
-use Rattle.model_members.proofs.Cases.{accepted, updated, updated_unless, updated_needing, got, got_needing, counted_for}
+use Rattle.model_members.specs.Node.Reply.{Done, Pending, Deleted, WrongKind, NotStored, NotFromMember, OldView, Installed, NotAPeer, NotLeader, NoSuchOp, Ticked, TickedNotStored, Taken}
+use Rattle.model_members.specs.Step.{step, has_failed, answered, opened, to_others, member_count, step_of_take, take_reply, KeyGap, value_reply, meaning_of, with_answer, outcomes_of}
+use Rattle.model_members.proofs.Cases.{accepted, updated, updated_unless, updated_undeleted, updated_needing, got, got_needing, counted_for}
 use Rattle.theorem_runs.proofs.Keeping.{if_holds, if_tells}
 use Rattle.theorem_runs.proofs.ViewLaws.{IsRising}
+use Rattle.theorem_operations.proofs.Openings.{value_not_pending}
 use Rattle.theorem_operations.proofs.Lists.{is_alone}
 use Rattle.theorem_operations.proofs.Counting.{count, count_cons, within, one_of_range}
 use Rattle.theorem_operations.proofs.Waiting.{IsQuestion}
@@ -29,7 +30,7 @@ use Rattle.theorem_operations.proofs.Waiting.{IsQuestion}
 -- MEMBERS
 
 pub alone_is_one : (i : ℕ) → length (members_of (alone i)) ≤ 1
-alone_is_one i = let a = within (alone i) (λ x. i == x) (λ x e. eq-eqb i x (sym (is_alone i x e))) identities in let b = one_of_range i 0 64 in omega arith
+alone_is_one i = let a = within (alone i) (λ x. i == x) (λ x e. eq-eqb i x (sym (is_alone i x e))) identities in let b = one_of_range i 0 identity_limit in omega arith
 
 pub found_at : (js : List ℕ) (t : ℕ) → list_any (λ j. j == t) js ≡ true → IsIn js t
 found_at [] t e = absurd (cc e)
@@ -79,8 +80,8 @@ rising_more : (low high higher : ℕ) (ms : List Member) → high ≤ higher →
 rising_more low high higher [] h all = tt
 rising_more low high higher (m ∷ ms) h all = (all.0, (let a = all.1 in omega arith), rising_more (m.identity + 1) high higher ms h all.2)
 
-pub all_members : (view : View) → view.given ≤ 64 → IsRising 0 view.given view.members → length view.members ≤ count (is_member view) identities
-all_members view small rising = rising_count 64 0 view.members (rising_more 0 view.given (0 + 64) view.members (omega arith) rising)
+pub all_members : (view : View) → view.given ≤ identity_limit → IsRising 0 view.given view.members → length view.members ≤ count (is_member view) identities
+all_members view small rising = rising_count identity_limit 0 view.members (rising_more 0 view.given (0 + identity_limit) view.members (omega arith) rising)
 
 -- each of a set is in another, or something else holds
 pub each_or : (G : Type 0) (s m : ℕ → Bool) → ((x : ℕ) → m x ≡ true → G ⊎ (s x ≡ true)) → (xs : List ℕ) → G ⊎ (count m xs ≤ count s xs)
@@ -150,17 +151,14 @@ module _ {Kind Op Shown : Type 0} (D : Replication Kind Op Shown) (node : Node K
   opens_updated : (o : Option (KeyState Kind Op)) (x : Op) (level : Level) (fate : Fate) → Opens (updated D later o x level fate)
   opens_updated None x level fate = λ e. absurd (cc e)
   opens_updated (Some k) x level fate =
-      if_holds Opens (D.data_type.fits k.kind x) (updated_needing D later k x (needed level (member_count node)) fate) (answered later WrongKind)
-      (opens_needing k x (needed level (member_count node)) fate (needed_few level)) (λ e. absurd (cc e))
-
-  value_not_pending : (o : Option Shown) (p : ℕ) → value_reply D o ≡ Pending p → ⊥
-  value_not_pending None p e = cc e
-  value_not_pending (Some v) p e = cc e
+      if_holds Opens (D.data_type.deleted k.entry.history) (answered later Deleted) (updated_undeleted D later k x level fate) (λ e. absurd (cc e))
+      (if_holds Opens (D.data_type.fits k.kind x) (updated_needing D later k x (needed level (member_count node)) fate) (answered later WrongKind)
+      (opens_needing k x (needed level (member_count node)) fate (needed_few level)) (λ e. absurd (cc e)))
 
   opens_got_needing : (k : KeyState Kind Op) (o : Option ℕ) → ((n : ℕ) → o ≡ Some n → n ≤ member_count node) → Opens (got_needing D later k o)
   opens_got_needing k None few = λ e. absurd (cc e)
   opens_got_needing k (Some n) few =
-      if_tells Opens (nat_le n 1) (answered later (value_reply D (shown_of D k))) (opened later k.name true n (Read later.next_op k.name)) (λ one e. absurd (value_not_pending (shown_of D k) op e))
+      if_tells Opens (nat_le n 1) (answered later (value_reply D (meaning_of D k))) (opened later k.name true n (Read later.next_op k.name)) (λ one e. absurd (value_not_pending D (meaning_of D k) op e))
       (λ more e.
       let is : node.next_op ≡ op = cc e in
       record { reads = true; key = k.name; n = n; message = Read node.next_op k.name; number = sym is; operations = refl; posts = refl; asks = (refl, is, refl); many = leb-false n 1 more; enough = few n refl; next = omega arith })

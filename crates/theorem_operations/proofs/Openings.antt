@@ -9,13 +9,13 @@ use Rattle.model_history.specs.History.{Action}
 use Rattle.model_history.proofs.PruneLaws.{found}
 use Rattle.model_meanings.specs.Refusal.{Refusal}
 use Rattle.model_members.specs.Entry.{Entry, with_action, has_records}
-use Rattle.model_members.specs.DataType.{Replication}
+use Rattle.model_members.specs.DataType.{Replication, Meaning, IsDeleted, Shows, meaning}
 use Rattle.model_members.specs.Message.Message.{Write, Read}
 use Rattle.model_members.specs.Node.{KeyDecl, KeyState, Node, Level, Input, Fate, Reply, Stepped, HasKey, state_of, needed, needed_number, with_entry, one_step_later}
-use Rattle.model_members.specs.Node.Reply.{Done, Pending, Value, UnknownKey, WrongKind, TooFew, Refused, NotStored}
-use Rattle.model_members.specs.Step.{step, has_failed, answered, opened, member_count, shown_of, value_reply}
+use Rattle.model_members.specs.Node.Reply.{Done, Pending, UnknownKey, Deleted, WrongKind, TooFew, Refused, NotStored}
+use Rattle.model_members.specs.Step.{step, has_failed, answered, opened, member_count, meaning_of, value_reply}
 use Rattle.model_members.proofs.Steps.{with_text_at-same}
-use Rattle.model_members.proofs.Cases.{accepted, updated, updated_needing, updated_unless, got, got_needing}
+use Rattle.model_members.proofs.Cases.{accepted, updated, updated_undeleted, updated_needing, updated_unless, got, got_needing}
 use Rattle.theorem_runs.proofs.Keeping.{if_holds, if_tells, same_text}
 
 -- a reply that the write was accepted
@@ -33,6 +33,12 @@ pub majority_needed : (cap members : ℕ) → needed (Level.Majority cap) member
 majority_needed cap members =
     let few : needed_number (Level.Majority cap) members ≤ members = omega arith in
     ap (λ b. if b then Some (needed_number (Level.Majority cap) members) else None) (le-leb (needed_number (Level.Majority cap) members) members few)
+
+module _ {Kind Op Shown : Type 0} (D : Replication Kind Op Shown) where
+  pub value_not_pending : (o : Option (Meaning Shown)) (p : ℕ) → value_reply D o ≡ Pending p → ⊥
+  value_not_pending None p e = cc e
+  value_not_pending (Some IsDeleted) p e = cc e
+  value_not_pending (Some (Shows v)) p e = cc e
 
 module _ {Kind Op Shown : Type 0} (D : Replication Kind Op Shown) (node : Node Kind Op Shown) (key : Text) where
   -- A WRITE
@@ -93,8 +99,10 @@ module _ {Kind Op Shown : Type 0} (D : Replication Kind Op Shown) (node : Node K
 
       told_named : Told (updated D later (Some (state_of later (record { name = key; kind = decl.kind; durable = decl.durable }))) op level fate)
       told_named =
-          if_holds Told (D.data_type.fits decl.kind op) (updated_needing D later (state_of later (record { name = key; kind = decl.kind; durable = decl.durable })) op (needed level (member_count node)) fate) (answered later WrongKind)
-          (told_needing (needed level (member_count node)) refl) (refused WrongKind (λ e. cc e) (λ p e. cc e))
+          if_holds Told (D.data_type.deleted (node.entries key).history) (answered later Deleted) (updated_undeleted D later (state_of later (record { name = key; kind = decl.kind; durable = decl.durable })) op level fate)
+          (refused Deleted (λ e. cc e) (λ p e. cc e))
+          (if_holds Told (D.data_type.fits decl.kind op) (updated_needing D later (state_of later (record { name = key; kind = decl.kind; durable = decl.durable })) op (needed level (member_count node)) fate) (answered later WrongKind)
+          (told_needing (needed level (member_count node)) refl) (refused WrongKind (λ e. cc e) (λ p e. cc e)))
 
       told_declared : Told (updated D later (Some (state_of later decl)) op level fate)
       told_declared = subst (λ (name : Text). Told (updated D later (Some (state_of later (record { name = name; kind = decl.kind; durable = decl.durable }))) op level fate)) (sym name_is) told_named
@@ -118,7 +126,7 @@ module _ {Kind Op Shown : Type 0} (D : Replication Kind Op Shown) (node : Node K
     state = state_of (one_step_later node) (record { name = key; kind = kind; durable = has.0 })
 
     pub step_read : step D node (Input.Get key (Level.Majority cap)) fate
-        ≡ (if nat_le n 1 then answered (one_step_later node) (value_reply D (shown_of D state)) else opened (one_step_later node) key true n (Read node.next_op key))
+        ≡ (if nat_le n 1 then answered (one_step_later node) (value_reply D (meaning_of D state)) else opened (one_step_later node) key true n (Read node.next_op key))
     step_read =
         ap (λ o. got D (one_step_later node) (option_map (state_of (one_step_later node)) o) (Level.Majority cap)) has.1
         ∙ ap (got_needing D (one_step_later node) state) (majority_needed cap (member_count node))
@@ -130,16 +138,12 @@ module _ {Kind Op Shown : Type 0} (D : Replication Kind Op Shown) (node : Node K
       pub is_open : IsOpened true n p s
       pub entries : s.node.entries ≡ node.entries
 
-    value_not_pending : (o : Option Shown) (p : ℕ) → value_reply D o ≡ Pending p → ⊥
-    value_not_pending None p e = cc e
-    value_not_pending (Some v) p e = cc e
-
     pub read_pending : (p : ℕ) → s.output.reply ≡ Pending p → ReadOpened p
     read_pending p e = go (nat_le n 1) step_read (sym (ap (λ (z : Stepped Kind Op Shown). z.output.reply) step_read) ∙ e)
       where
-        go : (b : Bool) → step D node (Input.Get key (Level.Majority cap)) fate ≡ (if b then answered (one_step_later node) (value_reply D (shown_of D (state_of (one_step_later node) (record { name = key; kind = kind; durable = has.0 })))) else opened (one_step_later node) key true (needed_number (Level.Majority cap) (member_count node)) (Read node.next_op key))
-            → (if b then answered (one_step_later node) (value_reply D (shown_of D (state_of (one_step_later node) (record { name = key; kind = kind; durable = has.0 })))) else opened (one_step_later node) key true (needed_number (Level.Majority cap) (member_count node)) (Read node.next_op key)).output.reply ≡ Pending p → ReadOpened p
-        go true is f = absurd (value_not_pending _ p f)
+        go : (b : Bool) → step D node (Input.Get key (Level.Majority cap)) fate ≡ (if b then answered (one_step_later node) (value_reply D (meaning_of D (state_of (one_step_later node) (record { name = key; kind = kind; durable = has.0 })))) else opened (one_step_later node) key true (needed_number (Level.Majority cap) (member_count node)) (Read node.next_op key))
+            → (if b then answered (one_step_later node) (value_reply D (meaning_of D (state_of (one_step_later node) (record { name = key; kind = kind; durable = has.0 })))) else opened (one_step_later node) key true (needed_number (Level.Majority cap) (member_count node)) (Read node.next_op key)).output.reply ≡ Pending p → ReadOpened p
+        go true is f = absurd (value_not_pending D _ p f)
         go false is f =
             record {
               is_open = record {
@@ -151,13 +155,13 @@ module _ {Kind Op Shown : Type 0} (D : Replication Kind Op Shown) (node : Node K
               entries = ap (λ (z : Stepped Kind Op Shown). z.node.entries) is;
             }
 
-    pub read_at_once : ((p : ℕ) → s.output.reply ≡ Pending p → ⊥) → has_records (node.entries key) ≡ true → (n ≤ 1) × (s.output.reply ≡ Value (D.data_type.shown kind (node.entries key).history))
+    pub read_at_once : ((p : ℕ) → s.output.reply ≡ Pending p → ⊥) → has_records (node.entries key) ≡ true → (n ≤ 1) × (s.output.reply ≡ value_reply D (Some (meaning D.data_type kind (node.entries key).history)))
     read_at_once never some = go (nat_le n 1) refl (ap (λ (z : Stepped Kind Op Shown). z.output.reply) step_read)
       where
         go : (b : Bool) → nat_le (needed_number (Level.Majority cap) (member_count node)) 1 ≡ b
-            → (step D node (Input.Get key (Level.Majority cap)) fate).output.reply ≡ (if b then answered (one_step_later node) (value_reply D (shown_of D (state_of (one_step_later node) (record { name = key; kind = kind; durable = has.0 })))) else opened (one_step_later node) key true (needed_number (Level.Majority cap) (member_count node)) (Read node.next_op key)).output.reply
-            → (needed_number (Level.Majority cap) (member_count node) ≤ 1) × ((step D node (Input.Get key (Level.Majority cap)) fate).output.reply ≡ Value (D.data_type.shown kind (node.entries key).history))
-        go true one e = (leb-true (needed_number (Level.Majority cap) (member_count node)) 1 one, e ∙ ap (λ b. value_reply D (if b then Some (D.data_type.shown kind (node.entries key).history) else None)) some)
+            → (step D node (Input.Get key (Level.Majority cap)) fate).output.reply ≡ (if b then answered (one_step_later node) (value_reply D (meaning_of D (state_of (one_step_later node) (record { name = key; kind = kind; durable = has.0 })))) else opened (one_step_later node) key true (needed_number (Level.Majority cap) (member_count node)) (Read node.next_op key)).output.reply
+            → (needed_number (Level.Majority cap) (member_count node) ≤ 1) × ((step D node (Input.Get key (Level.Majority cap)) fate).output.reply ≡ value_reply D (Some (meaning D.data_type kind (node.entries key).history)))
+        go true one e = (leb-true (needed_number (Level.Majority cap) (member_count node)) 1 one, e ∙ ap (λ b. value_reply D (if b then Some (meaning D.data_type kind (node.entries key).history) else None)) some)
         go false more e = absurd (never node.next_op e)
 
     -- a read that isn't pending needs one member
@@ -165,7 +169,7 @@ module _ {Kind Op Shown : Type 0} (D : Replication Kind Op Shown) (node : Node K
     read_one never = go (nat_le n 1) refl (ap (λ (z : Stepped Kind Op Shown). z.output.reply) step_read)
       where
         go : (b : Bool) → nat_le (needed_number (Level.Majority cap) (member_count node)) 1 ≡ b
-            → (step D node (Input.Get key (Level.Majority cap)) fate).output.reply ≡ (if b then answered (one_step_later node) (value_reply D (shown_of D (state_of (one_step_later node) (record { name = key; kind = kind; durable = has.0 })))) else opened (one_step_later node) key true (needed_number (Level.Majority cap) (member_count node)) (Read node.next_op key)).output.reply
+            → (step D node (Input.Get key (Level.Majority cap)) fate).output.reply ≡ (if b then answered (one_step_later node) (value_reply D (meaning_of D (state_of (one_step_later node) (record { name = key; kind = kind; durable = has.0 })))) else opened (one_step_later node) key true (needed_number (Level.Majority cap) (member_count node)) (Read node.next_op key)).output.reply
             → needed_number (Level.Majority cap) (member_count node) ≤ 1
         go true one e = leb-true (needed_number (Level.Majority cap) (member_count node)) 1 one
         go false more e = absurd (never node.next_op e)

@@ -17,7 +17,7 @@ use Rattle.model_members.specs.Message.Message.{Deltas, Nack, Status, Gossip, Wr
 use Rattle.model_members.specs.Node.{KeyState, Node, OpenOperation, Finished, Level, Input, Fate, Stepped, key_state, needed, one_step_later, with_entry, KeyDecl, Reply, key_states, state_of}
 use Rattle.model_members.specs.Node.Input.{Update, Get, Take, Install, Flush, GossipTo, PruneTick, Timeout}
 use Rattle.model_members.specs.Node.Reply.{Taken}
-use Rattle.model_members.specs.Step.{AfterGroups, KeyGap, has_failed, is_group_passed_over, is_answered_by, with_answer, answered, opened, member_count, take_group, after_groups, after_entries, result_of, shown_of, value_reply, took, nack_to, gossip_to, answer_to, keyed_option, answered_entry, step_of_take, deltas_for, is_behind, step_of_flush, step_of, step}
+use Rattle.model_members.specs.Step.{AfterGroups, KeyGap, has_failed, is_group_passed_over, is_answered_by, with_answer, answered, opened, member_count, take_group, after_groups, after_entries, result_of, meaning_of, value_reply, took, nack_to, gossip_to, answer_to, keyed_option, answered_entry, step_of_take, deltas_for, is_behind, step_of_flush, step_of, step}
 use Rattle.model_members.proofs.Steps.{bytes_eq-same}
 use Rattle.model_members.proofs.Taking.{after_entries-only}
 use Rattle.model_members.proofs.Cases.{with_judged, with_taken_group, counted_for, accepted, updated, updated_needing, updated_unless, got, got_needing}
@@ -179,12 +179,13 @@ module _ {Kind Op Shown : Type 0} (D : Replication Kind Op Shown) where
   tells_updated node key None e op level fate = still node (Update key op level) _
   tells_updated node key (Some k) e op level fate =
       subst (λ (name : Text). StepTells node (Update name op level) (updated D node (Some k) op level fate)) (named node key k e)
-      (if_holds (StepTells node (Update k.name op level)) (D.data_type.fits k.kind op) _ _ (tells_needing node k op level (needed level (member_count node)) fate) (still node (Update k.name op level) _))
+      (if_holds (StepTells node (Update k.name op level)) (D.data_type.deleted k.entry.history) _ _ (still node (Update k.name op level) _)
+      (if_holds (StepTells node (Update k.name op level)) (D.data_type.fits k.kind op) _ _ (tells_needing node k op level (needed level (member_count node)) fate) (still node (Update k.name op level) _)))
 
   tells_got_needing : (node : Node Kind Op Shown) (k : KeyState Kind Op) (level : Level) (n : Option ℕ) → StepTells node (Get k.name level) (got_needing D node k n)
   tells_got_needing node k level None = still node (Get k.name level) _
   tells_got_needing node k level (Some n) =
-      if_holds (StepTells node (Get k.name level)) (nat_le n 1) (answered node (value_reply D (shown_of D k))) (opened node k.name true n (Read node.next_op k.name)) (still node (Get k.name level) _)
+      if_holds (StepTells node (Get k.name level)) (nat_le n 1) (answered node (value_reply D (meaning_of D k))) (opened node k.name true n (Read node.next_op k.name)) (still node (Get k.name level) _)
       (tells_opened node node.entries (Get k.name level) k.name true n (Read node.next_op k.name) (λ to. (refl, omega arith, (level, refl))))
 
   tells_got : (node : Node Kind Op Shown) (key : Text) (o : Option (KeyState Kind Op)) → key_state node key ≡ o → (level : Level) → StepTells node (Get key level) (got D node o level)

@@ -6,8 +6,9 @@ use Rattle.model_history.specs.Table.{identity_limit}
 use Rattle.model_history.proofs.HistoryLaws.{append_nothing}
 use Rattle.model_history.proofs.PruneLaws.{IsIn}
 use Rattle.model_members.specs.View.{View}
-use Rattle.model_members.specs.DataType.{Replication}
+use Rattle.model_members.specs.DataType.{Replication, Meaning}
 use Rattle.model_members.specs.Node.{KeyDecl, Input, Level, Fate, Reply, Result, Finished, Output}
+use Rattle.model_members.specs.Step.{value_reply, read_result}
 use Rattle.model_members.specs.World.{World, Event, start, run, happens, output_of, IsLawful, AreLawful, IsRun}
 use Rattle.model_members.specs.World.Event.{InputAt, Delivery}
 use Rattle.model_members.specs.Script.{Ask, Playing, ScriptStep, IsStep, Told, Head, KeeperAnswers, opening, played, output_lines}
@@ -247,10 +248,10 @@ module _ {Kind Op Shown : Type 0} (D : Replication Kind Op Shown) (answers : Kee
         }
 
         -- what the theorem says of the reader, as it is said of scripts
-        includes : (line : Told Op Shown) (earlier : List (Event Op)) (event : Event Op) (rest : List (Event Op)) (shown : Shown) → so_far (suc last) ≡ earlier ++ event ∷ rest
-            → output_lines D line.head (output_of D (run D first earlier) event) ≡ line ∷ [] → (world : World Kind Op Shown) → run D first (earlier ++ event ∷ []) ≡ world → ShowsWrite D members keys the_run world shown
-            → IncludesUpdate D answers members keys steps r last line shown
-        includes line earlier event rest shown is tells world same shows = record {
+        includes : (line : Told Op Shown) (earlier : List (Event Op)) (event : Event Op) (rest : List (Event Op)) (means : Meaning Shown) → so_far (suc last) ≡ earlier ++ event ∷ rest
+            → output_lines D line.head (output_of D (run D first earlier) event) ≡ line ∷ [] → (world : World Kind Op Shown) → run D first (earlier ++ event ∷ []) ≡ world → ShowsWrite D members keys the_run world means
+            → IncludesUpdate D answers members keys steps r last line means
+        includes line earlier event rest means is tells world same shows = record {
           earlier = earlier;
           event = event;
           rest = rest;
@@ -295,7 +296,7 @@ module _ {Kind Op Shown : Type 0} (D : Replication Kind Op Shown) (answers : Kee
     ending_now : run D first (so_far r.get ++ get_now ∷ []) ≡ happens D (at_read D members keys run_now) get_now
     ending_now = pushed_run D first (so_far r.get) get_now ∙ ap (λ (w : World Kind Op Shown). happens D w get_now) (world_at r.get ∙ sym read_now)
 
-    answered_now : ((op : ℕ) → reply ≢ Reply.Pending op) → (shown : Shown) × (reply ≡ Reply.Value shown) × IncludesUpdate D answers members keys steps r r.get line shown
+    answered_now : ((op : ℕ) → reply ≢ Reply.Pending op) → (means : Meaning Shown) × (reply ≡ value_reply D (Some means)) × IncludesUpdate D answers members keys steps r r.get line means
     answered_now never =
         let shows = theorem.at_once D members keys run_now (unchanged r r.get u here made_now.fate [] [] way_now) reply replied_now never in
         (shows.0, shows.1, includes r r.get u here made_now.fate [] [] way_now line (so_far r.get) get_now [] shows.0 made_now.events told_now (happens D (at_read D members keys run_now) get_now) ending_now shows.2)
@@ -357,7 +358,7 @@ module _ {Kind Op Shown : Type 0} (D : Replication Kind Op Shown) (answers : Kee
     ending_later : run D first ((so_far n ++ ends.since) ++ last_event ∷ []) ≡ happens D (at_end D members keys run_later) last_event
     ending_later = pushed_run D first (so_far n ++ ends.since) last_event ∙ ap (λ (w : World Kind Op Shown). happens D w last_event) (sym end_is)
 
-    finished_later : end.op ≡ op → (shown : Shown) × (end.result ≡ Result.ReadValue shown) × IncludesUpdate D answers members keys steps r n last shown
+    finished_later : end.op ≡ op → (means : Meaning Shown) × (end.result ≡ read_result D (Some means)) × IncludesUpdate D answers members keys steps r n last means
     finished_later is =
         let shows = theorem.later D members keys run_later (unchanged r n u past made.fate after_get tail_events way_later) op replied_later last_event end lawful_later finishes_later is in (
           shows.0,

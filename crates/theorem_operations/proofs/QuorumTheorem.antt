@@ -1,6 +1,6 @@
 -- A majority read after the success of a majority write of its key has the write's record.
 use Rattle.std.proofs.Common.{◌≡◌, ℕ, zero, suc, ◌<◌, ◌≤◌, List, [], ◌∷◌, ◌++◌, length, refl, sym, ap, subst, ◌∙◌, arith, Bool, true, false, Option, Some, None, ◌⊎◌, inl, inr}
-use Rattle.std.specs.Prelude.{◌≢◌, if◌then◌else◌, find, slice_get, filter, option_map, nat_le}
+use Rattle.std.specs.Prelude.{◌≢◌, if◌then◌else◌, find, slice_get, filter, option_map, option_and_then, nat_le}
 use Rattle.std.specs.Str.{bytes_eq}
 use Rattle.std.proofs.lemmas.Bool.{eq-eqb}
 use Rattle.model_history.specs.Texts.{Text}
@@ -11,13 +11,13 @@ use Rattle.model_history.proofs.HistoryLaws.{with_at_same, slice_get-below}
 use Rattle.model_history.proofs.PruneLaws.{IsIn, in_append, at_identities}
 use Rattle.model_members.specs.View.{View, is_member}
 use Rattle.model_members.specs.Entry.{Entry, has_records, with_action}
-use Rattle.model_members.specs.DataType.{Replication}
+use Rattle.model_members.specs.DataType.{Replication, Meaning, meaning}
 use Rattle.model_members.specs.Message.{Message}
 use Rattle.model_members.specs.Message.Message.{Write, WriteAck, Read, ReadAnswer}
 use Rattle.model_members.specs.Node.{KeyDecl, Node, OpenOperation, Finished, Level, Input, Fate, Reply, Stepped, KeyState, HasKey, one_step_later, needed, state_of, key_state, needed_number}
-use Rattle.model_members.specs.Node.Result.{Wrote, ReadValue}
+use Rattle.model_members.specs.Node.Result.{Wrote}
 use Rattle.model_members.proofs.Cases.{stepped_at, delivered, got, got_needing}
-use Rattle.model_members.specs.Step.{step, member_count, with_answer, result_of, read_result, shown_of}
+use Rattle.model_members.specs.Step.{step, member_count, with_answer, result_of, read_result, value_reply, meaning_of}
 use Rattle.model_members.specs.World.{World, Event, happens, run, start, moved_on, IsLawful, AreLawful}
 use Rattle.model_members.specs.World.Event.{InputAt}
 use Rattle.theorem_runs.proofs.Happening.{Comes}
@@ -318,7 +318,7 @@ module _ {Kind Op Shown : Type 0} (D : Replication Kind Op Shown) where
 
       -- a read that needs no answers
       pub shows_at_once : (wcap : ℕ) → n ≡ needed_number (Level.Majority wcap) (length V.members) → ((p : ℕ) → (step D node the_input fate).output.reply ≡ Reply.Pending p → ⊥)
-          → ((step D node the_input fate).output.reply ≡ Reply.Value (D.data_type.shown decl.kind (node.entries key).history)) × HasRecord (node.entries key).history i k x
+          → ((step D node the_input fate).output.reply ≡ value_reply D (Some (meaning D.data_type decl.kind (node.entries key).history))) × HasRecord (node.entries key).history i k x
       shows_at_once wcap n_is never =
           let has_it = (λ (some_records : has_records (node.entries key) ≡ true). read_at_once D node key decl.kind the_key cap fate never some_records) in
           let small : j < identity_limit = (let safe = safe_at D members keys world made.calm.stands in let a = safe.logs.few in let b = safe.logs.given j node runs in omega arith) in
@@ -356,7 +356,7 @@ module _ {Kind Op Shown : Type 0} (D : Replication Kind Op Shown) where
           ∙ ap (λ (l : Input Op). Some (step D old l fate).node) (sym is))
 
       pub read_ends : (event : Event Op) → IsLawful D world event → (end : Finished Shown) (old : Node Kind Op Shown) (input : Input Op) (fate : Fate) → world.nodes j ≡ Some old → MakesStep world event j input fate → (step D old input fate).output.ended ≡ Some end → end.op ≡ p
-          → ((happens D world event).nodes j ≡ Some (step D old input fate).node) × (end.result ≡ ReadValue (D.data_type.shown decl.kind ((step D old input fate).node.entries key).history)) × HasRecord ((step D old input fate).node.entries key).history i k x
+          → ((happens D world event).nodes j ≡ Some (step D old input fate).node) × (end.result ≡ read_result D (Some (meaning D.data_type decl.kind ((step D old input fate).node.entries key).history))) × HasRecord ((step D old input fate).node.entries key).history i k x
       read_ends event lawful end old input fate old_runs makes ended is =
           let new = (step D old input fate).node in
           let comes = comes_of event lawful input fate makes in
@@ -374,11 +374,11 @@ module _ {Kind Op Shown : Type 0} (D : Replication Kind Op Shown) where
           let the_key = has_key D members keys V decl key i k x (happens D world event) made j new runs in
           let state : key_state new key ≡ Some (state_of new (record { name = key; kind = decl.kind; durable = the_key.0 })) = ap (option_map (state_of new)) the_key.1 in
           let some_records = has_some D members keys V decl key i k x (happens D world event) made (new.entries key) more in
-          let result : result_of D new q ≡ ReadValue (D.data_type.shown decl.kind (new.entries key).history) =
-          ap (λ b. if b then read_result D (option_map (shown_of D) (key_state new q.key)) else Wrote) c.1
-          ∙ ap (λ n. read_result D (option_map (shown_of D) (key_state new n))) c.2
-          ∙ ap (λ o. read_result D (option_map (shown_of D) o)) state
-          ∙ ap (λ b. read_result D (Some (if b then Some (D.data_type.shown decl.kind (new.entries key).history) else None))) some_records in
+          let result : result_of D new q ≡ read_result D (Some (meaning D.data_type decl.kind (new.entries key).history)) =
+          ap (λ b. if b then read_result D (option_and_then (meaning_of D) (key_state new q.key)) else Wrote) c.1
+          ∙ ap (λ n. read_result D (option_and_then (meaning_of D) (key_state new n))) c.2
+          ∙ ap (λ o. read_result D (option_and_then (meaning_of D) o)) state
+          ∙ ap (λ b. read_result D (if b then Some (meaning D.data_type decl.kind (new.entries key).history) else None)) some_records in
           (runs, ap (λ (y : Finished Shown). y.result) (sym by.is) ∙ result, has_record D members keys V decl key i k x (happens D world event) made j new runs more)
 
   -- ALL TOGETHER
@@ -480,12 +480,12 @@ module _ {Kind Op Shown : Type 0} (D : Replication Kind Op Shown) where
     decl = (tells_of u.succeeded).decl
 
     -- what the reader then has
-    shows : (world : World Kind Op Shown) (node : Node Kind Op Shown) → world.nodes r.reader ≡ Some node → HasRecord (node.entries w.key).history w.writer index the_record → ShowsWrite D members keys r world (D.data_type.shown decl.kind (node.entries w.key).history)
+    shows : (world : World Kind Op Shown) (node : Node Kind Op Shown) → world.nodes r.reader ≡ Some node → HasRecord (node.entries w.key).history w.writer index the_record → ShowsWrite D members keys r world (meaning D.data_type decl.kind (node.entries w.key).history)
     shows world node runs has =
         record { node = node; runs = runs; decl = decl; declared = (ready u.succeeded).made.declared; is = refl; has = record { node = the_write.node; runs = the_write.runs; has = has } }
 
     pub at_once : (reply : Reply Shown) → reply_in D (at_read D members keys r) (read_event r) ≡ Some reply → ((op : ℕ) → reply ≢ Reply.Pending op)
-        → (shown : Shown) × (reply ≡ Reply.Value shown) × ShowsWrite D members keys r (happens D (at_read D members keys r) (read_event r)) shown
+        → (means : Meaning Shown) × (reply ≡ value_reply D (Some means)) × ShowsWrite D members keys r (happens D (at_read D members keys r) (read_event r)) means
     at_once reply reads never =
         let now = ready u.succeeded in
         let replies = read_replies reply reads in
@@ -493,12 +493,12 @@ module _ {Kind Op Shown : Type 0} (D : Replication Kind Op Shown) where
         let new = (step D reader read_input r.fate).node in
         let runs : (happens D (at_read D members keys r) (read_event r)).nodes r.reader ≡ Some new = input_makes D members keys (at_read D members keys r) r.reader reader read_input r.fate reader_runs in
         let same : new.entries ≡ reader.entries = get_keeps reader w.key (Level.Majority r.cap) r.fate in
-        let is : reply ≡ Reply.Value (D.data_type.shown decl.kind (new.entries w.key).history) = sym replies ∙ at_once.0 ∙ ap (λ (f : Text → Entry Op). Reply.Value (D.data_type.shown decl.kind (f w.key).history)) (sym same) in
+        let is : reply ≡ value_reply D (Some (meaning D.data_type decl.kind (new.entries w.key).history)) = sym replies ∙ at_once.0 ∙ ap (λ (f : Text → Entry Op). value_reply D (Some (meaning D.data_type decl.kind (f w.key).history))) (sym same) in
         let has : HasRecord (new.entries w.key).history w.writer index the_record = subst (λ (f : Text → Entry Op). HasRecord (f w.key).history w.writer index the_record) (sym same) at_once.1 in
-        (D.data_type.shown decl.kind (new.entries w.key).history, is, shows (happens D (at_read D members keys r) (read_event r)) new runs has)
+        (meaning D.data_type decl.kind (new.entries w.key).history, is, shows (happens D (at_read D members keys r) (read_event r)) new runs has)
 
     pub later : (op : ℕ) → reply_in D (at_read D members keys r) (read_event r) ≡ Some (Reply.Pending op) → (event : Event Op) (end : Finished Shown) → IsLawful D (at_end D members keys r) event
-        → Finishes D (at_end D members keys r) event r.reader end → end.op ≡ op → (shown : Shown) × (end.result ≡ ReadValue shown) × ShowsWrite D members keys r (happens D (at_end D members keys r) event) shown
+        → Finishes D (at_end D members keys r) event r.reader end → end.op ≡ op → (means : Meaning Shown) × (end.result ≡ read_result D (Some means)) × ShowsWrite D members keys r (happens D (at_end D members keys r) event) means
     later op reads event end lawful finishes is =
         let now = ready u.succeeded in
         let P : World Kind Op Shown → Type 0 = IsReading D members keys the_view decl w.key w.writer index the_record r.reader now.many.set op (needed_number (Level.Majority r.cap) (length the_view.members)) in
@@ -513,4 +513,4 @@ module _ {Kind Op Shown : Type 0} (D : Replication Kind Op Shown) where
         let makes : MakesStep (at_end D members keys r) event r.reader turn.input turn.fate = subst (λ j. MakesStep (at_end D members keys r) event j turn.input turn.fate) finishes.its at_turn.makes in
         let ends = read_ends members keys the_view decl w.key w.writer index the_record r.reader now.many.set op r.cap w.cap (at_end D members keys r) reading (λ t s. (now.many.each t s).0) now.many.many event lawful end turn.before turn.input turn.fate runs makes finishes.ended is in
         let new = (step D turn.before turn.input turn.fate).node in
-        (D.data_type.shown decl.kind (new.entries w.key).history, ends.1, shows (happens D (at_end D members keys r) event) new ends.0 ends.2)
+        (meaning D.data_type decl.kind (new.entries w.key).history, ends.1, shows (happens D (at_end D members keys r) event) new ends.0 ends.2)

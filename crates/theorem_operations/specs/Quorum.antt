@@ -4,7 +4,7 @@ use Rattle.std.specs.List.{AllByRecursion}
 use Rattle.std.specs.Str.{bytes_eq}
 use Rattle.model_history.specs.Texts.{Text}
 use Rattle.model_history.specs.History.{Action, History, at, versions, HasRecord}
-use Rattle.model_members.specs.DataType.{Replication}
+use Rattle.model_members.specs.DataType.{Replication, Meaning, meaning}
 use Rattle.model_members.specs.Node.{KeyDecl, Node, Level, Input, Fate, Reply, Result, Finished, Output}
 use Rattle.model_members.specs.World.{World, Event, Turn, IsRun, run, start, turn_of, step_in, output_of}
 
@@ -101,10 +101,10 @@ module _ {Kind Op Shown : Type 0} (D : Replication Kind Op Shown) where
       pub succeeded : HasSucceeded at_write r.write at_read
 
     -- this is the meaning of what the reader has of the key in this world, and the write's record is in it
-    pub record ShowsWrite (world : World Kind Op Shown) (shown : Shown) : Type 0 where
+    pub record ShowsWrite (world : World Kind Op Shown) (means : Meaning Shown) : Type 0 where
       pub node : Node Kind Op Shown
       pub runs : world.nodes r.reader ≡ Some node
       pub decl : KeyDecl Kind
       pub declared : find (λ (d : KeyDecl Kind). bytes_eq d.name r.write.key) keys ≡ Some decl
-      pub is : shown ≡ D.data_type.shown decl.kind (node.entries r.write.key).history
+      pub is : means ≡ meaning D.data_type decl.kind (node.entries r.write.key).history
       pub has : HasWrite at_write r.write (node.entries r.write.key).history

@@ -6,10 +6,11 @@
 use Rattle.std.specs.Prelude.{◌≡◌, ◌≢◌, ℕ, suc, ◌<◌, List, ◌∷◌, [], ◌++◌, take, Option, Some, find, slice_get}
 use Rattle.std.specs.Str.{bytes_eq}
 use Rattle.model_history.specs.Texts.{Text}
-use Rattle.model_members.specs.DataType.{Replication}
+use Rattle.model_members.specs.DataType.{Replication, Meaning, meaning}
 use Rattle.model_members.specs.Message.{Message}
 use Rattle.model_members.specs.Node.{KeyDecl, Node, Fate, Reply, Result, Finished}
 use Rattle.model_members.specs.Node.Level.{Majority}
+use Rattle.model_members.specs.Step.{value_reply, read_result}
 use Rattle.model_members.specs.World.{Event, start, run, output_of}
 use Rattle.model_members.specs.Script.{Ask, Playing, ScriptStep, Told, KeeperAnswers, opening, played_all, lines_of, output_lines}
 use Rattle.model_members.specs.Script.Answer.{Replied}
@@ -68,7 +69,7 @@ module _ {Kind Op Shown : Type 0} (D : Replication Kind Op Shown) (answers : Kee
       pub succeeded : SuccessIsTold
 
     -- when the step of a number tells this line, this is the meaning of what the reader has of the key, and the update's record is in it
-    pub record IncludesUpdate (n : ℕ) (line : Told Op Shown) (shown : Shown) : Type 0 where
+    pub record IncludesUpdate (n : ℕ) (line : Told Op Shown) (means : Meaning Shown) : Type 0 where
       -- the event that put out what the line tells
       pub earlier : List (Event Op)
       pub event : Event Op
@@ -80,15 +81,15 @@ module _ {Kind Op Shown : Type 0} (D : Replication Kind Op Shown) (answers : Kee
       pub runs : (run D (start members keys) (earlier ++ event ∷ [])).nodes r.reader ≡ Some node
       pub decl : KeyDecl Kind
       pub declared : find (λ (d : KeyDecl Kind). bytes_eq d.name r.key) keys ≡ Some decl
-      pub is : shown ≡ D.data_type.shown decl.kind (node.entries r.key).history
+      pub is : means ≡ meaning D.data_type decl.kind (node.entries r.key).history
       -- what the writer's store did at the update
       pub fate : Fate
       pub has : HasWrite D (before_step r.update).world (written r fate) (node.entries r.key).history
 
-  -- WHILE MEMBERSHIP STAYS UNCHANGED, a majority get whose answer is told includes each majority update of its key whose success was told before: in the value that it is answered with, and in the value that its operation finishes with
+  -- WHILE MEMBERSHIP STAYS UNCHANGED, a majority get whose answer is told includes each majority update of its key whose success was told before: in the value that it is answered with, and in the value that its operation finishes with, where the key isn't deleted; and it is told that it is deleted where what the reader has of it has a delete
   pub record GetsInclude : Type 0 where
     pub at_once : (r : UpdateThenGet Op) → IsUnchangedUntil r r.get → (line : Told Op Shown) (reply : Reply Shown) → Replies r.get line reply → ((op : ℕ) → reply ≢ Reply.Pending op)
-        → (shown : Shown) × (reply ≡ Reply.Value shown) × IncludesUpdate r r.get line shown
+        → (means : Meaning Shown) × (reply ≡ value_reply D (Some means)) × IncludesUpdate r r.get line means
     pub later : (r : UpdateThenGet Op) (n : ℕ) → r.get < n → IsUnchangedUntil r n → (line : Told Op Shown) (op : ℕ) → Replies r.get line (Reply.Pending op)
         → (last : Told Op Shown) (end : Finished Shown) → TellsEnd n last r.reader end → end.op ≡ op
-        → (shown : Shown) × (end.result ≡ Result.ReadValue shown) × IncludesUpdate r n last shown
+        → (means : Meaning Shown) × (end.result ≡ read_result D (Some means)) × IncludesUpdate r n last means

@@ -12,11 +12,11 @@ use Rattle.model_members.specs.DataType.{Replication}
 use Rattle.model_members.specs.Message.{Keyed, Message, Post}
 use Rattle.model_members.specs.Message.Message.{Deltas, Nack, Status, Gossip, Write, WriteAck, WriteNack, Read, ReadAnswer}
 use Rattle.model_members.specs.Node.{KeyState, Node, Level, Input, Fate, Output, Stepped, OpenOperation, key_state, key_states, needed}
-use Rattle.model_members.specs.Node.Reply.{WrongKind, Taken, NotFromMember, NotAPeer, Done}
+use Rattle.model_members.specs.Node.Reply.{Deleted, WrongKind, Taken, NotFromMember, NotAPeer, Done}
 use Rattle.model_history.specs.Vector.{members_of}
 use Rattle.model_members.specs.Node.Input.{Update, Get, Take, Install, Flush, GossipTo, PruneTick, Timeout}
-use Rattle.model_members.specs.Step.{is_answered_by, status_of, answer_to, value_reply, shown_of, with_answer, KeyGap, after_entries, answered, sent, opened, to_others, step_of_take, gossip_to, nack_to, keyed_option, took, step_of_flush, deltas_for, is_behind, step_of, step, has_failed, member_count}
-use Rattle.model_members.proofs.Cases.{accepted, updated, updated_needing, updated_unless, got, got_needing, counted_for}
+use Rattle.model_members.specs.Step.{is_answered_by, status_of, answer_to, value_reply, meaning_of, with_answer, KeyGap, after_entries, answered, sent, opened, to_others, step_of_take, gossip_to, nack_to, keyed_option, took, step_of_flush, deltas_for, is_behind, step_of, step, has_failed, member_count}
+use Rattle.model_members.proofs.Cases.{accepted, updated, updated_undeleted, updated_needing, updated_unless, got, got_needing, counted_for}
 use Rattle.model_members.specs.World.{World}
 use Rattle.theorem_runs.proofs.Keeping.{if_holds, if_tells}
 use Rattle.theorem_runs.proofs.Sending.{all_filtered, all_passing, all_mapped_by}
@@ -70,12 +70,13 @@ module _ {Kind Op Shown : Type 0} (D : Replication Kind Op Shown) where
   updated_away : (node : Node Kind Op Shown) (o : Option (KeyState Kind Op)) (op : Op) (level : Level) (fate : Fate) → IsAway node (updated D node o op level fate)
   updated_away node None op level fate = tt
   updated_away node (Some k) op level fate =
-      if_holds (IsAway node) (D.data_type.fits k.kind op) (updated_needing D node k op (needed level (member_count node)) fate) (answered node WrongKind) (needing_away node k op (needed level (member_count node)) fate) tt
+      if_holds (IsAway node) (D.data_type.deleted k.entry.history) (answered node Deleted) (updated_undeleted D node k op level fate) tt
+      (if_holds (IsAway node) (D.data_type.fits k.kind op) (updated_needing D node k op (needed level (member_count node)) fate) (answered node WrongKind) (needing_away node k op (needed level (member_count node)) fate) tt)
 
   got_needing_away : (node : Node Kind Op Shown) (k : KeyState Kind Op) (n : Option ℕ) → IsAway node (got_needing D node k n)
   got_needing_away node k None = tt
   got_needing_away node k (Some n) =
-      if_holds (IsAway node) (nat_le n 1) (answered node (value_reply D (shown_of D k))) (opened node k.name true n (Read node.next_op k.name)) tt (to_others_away node (Read node.next_op k.name))
+      if_holds (IsAway node) (nat_le n 1) (answered node (value_reply D (meaning_of D k))) (opened node k.name true n (Read node.next_op k.name)) tt (to_others_away node (Read node.next_op k.name))
 
   got_away : (node : Node Kind Op Shown) (o : Option (KeyState Kind Op)) (level : Level) → IsAway node (got D node o level)
   got_away node None level = tt

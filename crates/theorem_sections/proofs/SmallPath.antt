@@ -17,7 +17,7 @@ use Rattle.theorem_sections.proofs.RunOrder.{is_other}
 
 abbrev pub D : Replication (Unit {0}) (Unit {0}) ℕ
 D = record {
-  data_type = record { fits = λ k o. true; refusal = λ k i o H. None; blocked = λ k o r H. None; shown = λ k H. 0 };
+  data_type = record { fits = λ k o. true; refusal = λ k i o H. None; blocked = λ k o r H. None; shown = λ k H. 0; deleted = λ H. false };
   digest = λ k e. [];
   log_length = 50;
 }
