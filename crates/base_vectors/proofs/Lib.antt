@@ -1,6 +1,7 @@
 pub mod Laws
 pub mod Views
 pub mod Sets
+pub mod SetWords
 pub mod Walks
 pub mod Seqs
 pub mod Readings

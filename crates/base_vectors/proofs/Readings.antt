@@ -4,7 +4,7 @@ use Rattle.std.specs.List.{range_with_len, filter_map, cons_option}
 use Rattle.std.proofs.lemmas.List.{append-nil}
 use Rattle.std.proofs.lemmas.List.Elements.{filter_map-append, filter-append}
 use Rattle.model_history.specs.Table.{identity_limit}
-use Rattle.model_history.specs.Vector.{IdentitySet}
+use Rattle.model_history.specs.Vector.{IdentitySet, members_of}
 use Rattle.base_bytes.specs.declared.fault.Fault.{Fault}
 use Rattle.base_bytes.specs.declared.fault.FieldError.{FieldError}
 use Rattle.base_bytes.specs.declared.fault.FieldError.TheVariants as errors
@@ -152,9 +152,21 @@ members_few set first (suc n) = go (set first) (members_few set (first + 1) n)
     go true few = omega arith
     go false few = omega arith
 
-pub members_all : (set : IdentitySet) (n : ℕ) → n ≡ identity_limit → member_count set ∷ members_below set n ≡ ids_spelled set
+members_past : (set : IdentitySet) (n more : ℕ) → ((i : ℕ) → n ≤ i → set i ≡ false) → members_below set (n + more) ≡ members_below set n
+members_past set n zero none = let e : n + 0 ≡ n = omega arith in ap (members_below set) e
+members_past set n (suc more) none =
+    let e : n + suc more ≡ n + more + 1 = omega arith in
+    ap (members_below set) e ∙ members_skip set (n + more) (none (n + more) (omega arith)) ∙ members_past set n more none
+
+-- there is no member from the end on
+pub members_end : (set : IdentitySet) (n : ℕ) → n ≤ identity_limit → ((i : ℕ) → n ≤ i → set i ≡ false) → members_below set n ≡ members_of set
+members_end set n few none =
+    let e : n + (identity_limit - n) ≡ identity_limit = omega arith in
+    sym (members_past set n (identity_limit - n) none) ∙ ap (members_below set) e
+
+pub members_all : (set : IdentitySet) (n : ℕ) → n ≤ identity_limit → ((i : ℕ) → n ≤ i → set i ≡ false) → member_count set ∷ members_below set n ≡ ids_spelled set
 unfolding ids_spelled
-members_all set n e = ap (λ (k : ℕ). member_count set ∷ members_below set k) e
+members_all set n few none = ap (λ (xs : List ℕ). member_count set ∷ xs) (members_end set n few none)
 
 pub count_small : (set : IdentitySet) → member_count set ≤ identity_limit
 unfolding member_count

@@ -1,5 +1,5 @@
 -- Sets of identities, bit by bit.
-use Rattle.std.proofs.Common.{◌+◌, ◌*◌, List, [], ◌∷◌, ◌++◌, length, filter, cond, ◌≡◌, ◌≢◌, ℕ, zero, suc, ◌/◌, ◌%◌, ◌^◌, ◌<◌, ◌⊎◌, Bool, true, false, ◌||◌, bit_or, nat_eq, refl, ap, sym, ◌∙◌, arith, rules, ⊎_elim, inl, inr}
+use Rattle.std.proofs.Common.{◌+◌, ◌*◌, List, [], ◌∷◌, ◌++◌, length, filter, cond, ◌≡◌, ◌≢◌, ℕ, zero, suc, ◌/◌, ◌%◌, ◌^◌, ◌<◌, ◌⊎◌, Bool, true, false, ◌||◌, bit_or, nat_eq, refl, ap, sym, ◌∙◌, arith, rules, ⊎_elim, inl, inr, mod-eq_of_lt}
 use Rattle.std.specs.Prelude.{◌==◌}
 use Rattle.std.specs.Int.Count.{ones}
 use Rattle.std.specs.List.{range_with_len}
@@ -7,6 +7,7 @@ use Rattle.std.proofs.lemmas.Bool.{cases_eq, cases_Bool}
 use Rattle.std.proofs.lemmas.Nat.{or_shr, or_mod, ones_cat, mod-pow-add, mod_below, pow_pos}
 use Rattle.std.proofs.lemmas.Nat.Bits.{bit_at_lowest, bit_at-suc, bit_at-zero, bit_at-pow_same, bit_at-pow_other}
 use mathlib.Core.Bool.{or_comm}
+use Rattle.model_history.specs.Table.{identity_limit}
 use Rattle.model_history.specs.Vector.{with_member, united}
 use Rattle.base_vectors.specs.IdSets.{members_in, member_count}
 use Rattle.base_vectors.proofs.Walks.{range_more}
@@ -92,6 +93,6 @@ counted n (suc k) =
     ∙ ap (λ m. cond (members_in n k) 1 0 + m) (counted n k) ∙ omega arith
     ∙ sym (ap (λ m. length (filter (members_in n) (range_with_len 0 m))) more ∙ ap (λ xs. length (filter (members_in n) xs)) (range_more 0 k ∙ ap (λ m. range_with_len 0 k ++ m ∷ []) here) ∙ count_one (members_in n) k (range_with_len 0 k))
 
-pub ones_are_members : (n : ℕ) → n < 2 ^ 64 → ones n ≡ member_count (members_in n)
+pub ones_are_members : (n : ℕ) → n < 2 ^ identity_limit → ones n ≡ member_count (members_in n)
 unfolding member_count
-ones_are_members n l = let small : n % 2 ^ 64 ≡ n = omega arith in sym (ap ones small) ∙ counted n 64
+ones_are_members n l = ap ones (sym (mod-eq_of_lt l)) ∙ counted n identity_limit

@@ -5,7 +5,7 @@ use Rattle.std.specs.List.{range_with_len, filter_map, flat_map, cons_option}
 use Rattle.std.specs.FinMap as map
 use Rattle.std.proofs.lemmas.Bool.{cases_eq, cases_lt, cases_Bool, leb-true, le-leb}
 use Rattle.std.proofs.lemmas.List.Concat.{flat_map-cons}
-use Rattle.std.proofs.lemmas.Nat.{or_lt, pow_below}
+use Rattle.std.proofs.lemmas.Nat.{or_lt, pow_below, pow_pos}
 use Rattle.model_history.specs.Table.{identity_limit, identities, with_at}
 use Rattle.model_history.specs.Vector.{IdentitySet, members_of}
 use Rattle.base_bytes.specs.declared.fault.Fault.{Fault}
@@ -382,9 +382,9 @@ members_in-all_added bits [] i = elim (cases_Bool (members_in bits i)) [
 members_in-all_added bits (id ∷ ids) i =
     members_in-all_added (bit_or bits (2 ^ id)) ids i ∙ ap (λ b. b || among ids i) (members_in-with bits id i) ∙ or_among (i == id) (members_in bits i) (among ids i)
 
-all_added_small : (bits least : ℕ) (ids : List ℕ) → bits < 2 ^ 64 → AreIds least ids → all_added bits ids < 2 ^ 64
+all_added_small : (bits least : ℕ) (ids : List ℕ) → bits < 2 ^ identity_limit → AreIds least ids → all_added bits ids < 2 ^ identity_limit
 all_added_small bits least [] small rising = small
-all_added_small bits least (id ∷ ids) small rising = all_added_small (bit_or bits (2 ^ id)) (suc id) ids (or_lt 64 bits (2 ^ id) small (pow_below id 64 rising.0.small)) rising.1
+all_added_small bits least (id ∷ ids) small rising = all_added_small (bit_or bits (2 ^ id)) (suc id) ids (or_lt identity_limit bits (2 ^ id) small (pow_below id identity_limit rising.0.small)) rising.1
 
 added_is : (ids : List ℕ) (i : ℕ) → members_in (all_added 0 ids) i ≡ among ids i
 added_is ids i = members_in-all_added 0 ids i ∙ ap (λ b. b || among ids i) (members_in-zero i)
@@ -392,10 +392,10 @@ added_is ids i = members_in-all_added 0 ids i ∙ ap (λ b. b || among ids i) (m
 members_of-added : (ids : List ℕ) → AreIds 0 ids → members_of (members_in (all_added 0 ids)) ≡ ids
 members_of-added ids rising = ids_back (members_in (all_added 0 ids)) identity_limit 0 ids refl rising (λ i l. added_is ids i)
 
-added-members_of : (set : ℕ) → set < 2 ^ 64 → all_added 0 (members_of (members_in set)) ≡ set
+added-members_of : (set : ℕ) → set < 2 ^ identity_limit → all_added 0 (members_of (members_in set)) ≡ set
 added-members_of set small =
     let ids : List ℕ = members_of (members_in set) in
-    same_members 64 (all_added 0 ids) set (all_added_small 0 0 ids (omega arith) (ids_rise (members_in set) identity_limit 0 refl)) small
+    same_members identity_limit (all_added 0 ids) set (all_added_small 0 0 ids (pow_pos identity_limit) (ids_rise (members_in set) identity_limit 0 refl)) small
     (λ i few. added_is ids i ∙ among_is (members_in set) identity_limit 0 i (omega arith) few)
 
 count_is : (set : IdentitySet) → member_count set ≡ length (members_of set)
@@ -418,7 +418,7 @@ ids_take bytes set rest fits e =
     let members : member_count (members_in (all_added 0 ids)) ≡ length ids = count_is (members_in (all_added 0 ids)) ∙ ap length same in
     let whole : Takes bytes (length (members_of (members_in (all_added 0 ids))) ∷ members_of (members_in (all_added 0 ids))) b.0.1 = subst (λ (is : List ℕ). Takes bytes (length is ∷ is) b.0.1) (sym same) counted in
     subst (λ (x : ℕ × List ℕ). Takes bytes (ids_spelled (members_in x.0)) x.1 × IsSomeSet x.0) (ok_is (all_added 0 ids, b.0.1) (set, rest) b.2)
-    (whole, record { bits = all_added_small 0 0 ids (omega arith) second.2; some = omega (arith, members, second.1, some) })
+    (whole, record { bits = all_added_small 0 0 ids (pow_pos identity_limit) second.2; some = omega (arith, members, second.1, some) })
 
 pub ids_again : (set : ℕ) (rest : List ℕ) → IsSomeSet set → ids_in (ids_spelled (members_in set) ++ rest) ≡ Ok (set, rest)
 unfolding ids_in ids_spelled member_count

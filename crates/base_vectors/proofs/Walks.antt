@@ -1,5 +1,5 @@
 -- Going over the identities, from 0 up.
-use Rattle.std.proofs.Common.{rules, nat_lt, Option, Some, None, find, ◌≤◌, cond, List, not, inl, inr, ◌≡◌, ℕ, zero, suc, ◌+◌, ◌-◌, ◌<◌, Bool, true, false, ◌&&◌, ◌||◌, [], ◌∷◌, ◌++◌, arith, refl, ap, sym, ◌∙◌, ⊎_elim}
+use Rattle.std.proofs.Common.{nat_lt, Option, Some, None, find, ◌≤◌, cond, List, not, inl, inr, ◌≡◌, ℕ, zero, suc, ◌+◌, ◌-◌, ◌<◌, Bool, true, false, ◌&&◌, ◌||◌, [], ◌∷◌, ◌++◌, arith, refl, ap, sym, ◌∙◌, ⊎_elim}
 use Rattle.std.specs.List.{range_with_len, list_any, list_all, filter_map, cons_option}
 use Rattle.std.proofs.lemmas.Bool.{cases_eq, cases_Bool, or_left, or_right, and_from, lt-ltb, le-ltb, and_parts}
 use Rattle.std.proofs.lemmas.List.{append-nil}

@@ -2,6 +2,7 @@ pub mod Vectors
 pub mod Words
 pub mod Kept
 pub mod IdSets
+pub mod WordLaws
 pub mod Orders
 pub mod Fields
 pub mod FieldLaws

@@ -56,7 +56,7 @@ all_raised numbers (pair ∷ pairs) = all_raised (raised numbers pair.0 pair.1) 
 abbrev pub raised_by : Numbers → Result (List (ℕ × ℕ) × List ℕ) Fault → Result (Numbers × List ℕ) Fault
 raised_by numbers read = read >>= λ pairs. Ok (all_raised numbers pairs.0, pairs.1)
 
--- the number of pairs, at most 64, and the pairs
+-- the number of pairs, which may be all identities, and the pairs
 unfoldable pub numbers_in : ℕ → IdentitySet → List ℕ → Result (Numbers × List ℕ) Fault
 numbers_in most barred bytes = do
   count ← byte_in bytes
@@ -106,5 +106,5 @@ ids_in bytes = do
 
 -- the bits of a set that has a member
 pub record IsSomeSet (set : ℕ) : Type 0 where
-  pub bits : set < 2 ^ 64
+  pub bits : set < 2 ^ identity_limit
   pub some : 1 ≤ member_count (members_in set)

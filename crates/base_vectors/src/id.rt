@@ -4,9 +4,9 @@ ghost use Rattle.model_history.specs.Table.{identity_limit};
 use std::marker::Model;
 
 /// Every identity is below this.
-pub const IDENTITIES: u8 = 64;
+pub const IDENTITIES: u8 = 255;
 
-/// An identity of a member: a number below 64.
+/// An identity of a member: a number below [`IDENTITIES`].
 #[derive(Clone, Copy, Debug, PartialEq, Eq, PartialOrd, Ord)]
 pub struct Id {
     number: u8,
@@ -26,7 +26,7 @@ impl Model for Id {
 }
 
 impl Id {
-    /// The identity of this number, and none from 64 on.
+    /// The identity of this number, and none where that is 255.
     pub fn new(number: u8) -> Option<Id>
         ensures variant { IsSome result ↔ (number < identity_limit) }
         ensures value { IfSome result (λ id. id ≡ number) }
@@ -38,7 +38,7 @@ impl Id {
         }
     }
 
-    /// The number, below 64.
+    /// The number, below 255.
     pub fn number(self) -> u8
         ensures value { result ≡ self }
         ensures range { self < identity_limit }

@@ -10,22 +10,29 @@ use crate::reading::read_ids;
 use base_bytes::{FieldError, Memory};
 use std::marker::Model;
 
-/// A set of identities. Contracts see the number whose bits are its members.
+/// So many identities have their bits in one word.
+const WORD: u8 = 64;
+
+/// A set of identities, a bit for each. Contracts see the number whose bits are its members.
 #[derive(Clone, Copy, Debug, PartialEq, Eq)]
 pub struct IdSet {
-    bits: u64,
+    words: [u64; 4],
 }
 
 impl Model for IdSet {
-    ghost use Rattle.std.specs.Prelude.{ℕ, ◌<◌, ◌^◌};
+    ghost use Rattle.std.specs.Prelude.{ℕ};
+    ghost use Rattle.base_vectors.specs.IdSets.{AreSetWords, bits_of, words_in};
+    ghost use Rattle.base_vectors.specs.WordLaws.{words_back};
 
     ghost Value = { ℕ };
 
-    ghost view = { λ set. set.bits };
+    ghost view = { λ set. bits_of set.words };
 
-    ghost invariant = { λ set. set.bits < 2 ^ 64 };
+    ghost invariant = { λ set. AreSetWords set.words };
 
-    ghost inverse = { λ bits. record { bits = bits } };
+    ghost inverse = { λ bits. record { words = words_in 4 bits } };
+
+    ghost inverse_ok = { λ set fits i. record { words = words_back set.words fits i } };
 }
 
 impl IdSet {
@@ -34,7 +41,7 @@ impl IdSet {
         ensures bits { result ≡ 0 }
         ensures members { (i : ℕ) → members_in result i ≡ false }
     {
-        IdSet { bits: 0 }
+        IdSet { words: [0; 4] }
     }
 
     /// The set with one more member.
@@ -42,16 +49,18 @@ impl IdSet {
         ensures bits { result ≡ bit_or self (2 ^ id) }
         ensures members { (i : ℕ) → members_in result i ≡ with_member (members_in self) id i }
     {
-        IdSet {
-            bits: self.bits | (1 << id.number()),
-        }
+        let number = id.number();
+        let mut words = self.words;
+        words[usize::from(number / WORD)] |= 1 << (number % WORD);
+        IdSet { words }
     }
 
     /// Whether the identity is a member.
     pub fn has(self, id: Id) -> bool
         ensures { result ≡ members_in self id }
     {
-        (self.bits >> id.number()) & 1 == 1
+        let number = id.number();
+        (self.words[usize::from(number / WORD)] >> (number % WORD)) & 1 == 1
     }
 
     /// The identities that are members of either set.
@@ -60,7 +69,12 @@ impl IdSet {
         ensures members { (i : ℕ) → members_in result i ≡ united (members_in self) (members_in other) i }
     {
         IdSet {
-            bits: self.bits | other.bits,
+            words: [
+                self.words[0] | other.words[0],
+                self.words[1] | other.words[1],
+                self.words[2] | other.words[2],
+                self.words[3] | other.words[3],
+            ],
         }
     }
 
@@ -69,23 +83,41 @@ impl IdSet {
         ensures value { result ≡ member_count (members_in self) }
         ensures range { result ≤ identity_limit }
     {
-        self.bits.count_ones()
+        let lower = self.words[0].count_ones() + self.words[1].count_ones();
+        let upper = self.words[2].count_ones() + self.words[3].count_ones();
+        lower + upper
     }
 
     /// Whether both sets have the same members.
     pub fn same(self, other: IdSet) -> bool
         ensures { IsTrue result ↔ ((i : ℕ) → i < identity_limit → members_in self i ≡ members_in other i) }
     {
-        self.bits == other.bits
+        self.words == other.words
+    }
+
+    /// No identity from this on is a member.
+    pub fn limit(self) -> u8
+        ensures above { (i : ℕ) → result ≤ i → members_in self i ≡ false }
+        ensures range { result ≤ identity_limit }
+    {
+        if self.words[3] > 0 {
+            IDENTITIES
+        } else if self.words[2] > 0 {
+            3 * WORD
+        } else if self.words[1] > 0 {
+            2 * WORD
+        } else {
+            WORD
+        }
     }
 
     /// Appends how many members there are, and the members, rising. After a refusal a part of it may have been appended.
     pub fn spell(self, into: &mut Vec<u8>) -> Result<(), Memory>
-        ensures range { self < 2 ^ 64 }
+        ensures range { self < 2 ^ identity_limit }
         ensures ok { OnOk result (into.new.items ≡ into.old.items ++ ids_spelled (members_in self)) }
     {
         into.push(self.len() as u8)?;
-        for number in 0..IDENTITIES {
+        for number in 0..self.limit() {
             if let Some(id) = Id::new(number) {
                 if self.has(id) {
                     into.push(number)?;

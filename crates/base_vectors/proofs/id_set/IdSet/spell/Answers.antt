@@ -1,4 +1,4 @@
-use Rattle.std.proofs.Common.{◌≡◌, ◌++◌, ◌∷◌, [], List, ℕ, true, false, ap, sym, ◌∙◌, arith, append_assoc}
+use Rattle.std.proofs.Common.{◌≡◌, ◌≤◌, ◌++◌, ◌∷◌, [], List, ℕ, true, false, ap, sym, ◌∙◌, arith, append_assoc}
 use Rattle.model_history.specs.Table.{identity_limit}
 use Rattle.base_vectors.specs.IdSets.{members_in, member_count}
 use Rattle.base_vectors.proofs.Readings.{members_below, members_skip, members_more, members_all}
@@ -16,10 +16,11 @@ loop-number-preserved c = elim c.match-new.branch [
   | in-Some+else-has w ↦
       let out : members_in c.args.self c.loop-number.number ≡ false = ap (members_in c.args.self) (sym w.in-Some.ensures.value) ∙ sym w.has.ensures ∙ w.if-has.false in
       rw w.into-is (c.loop-number.invariant ∙ ap (λ (xs : List ℕ). c.args.into.now.items ++ member_count (members_in c.args.self) ∷ xs) (sym (members_skip (members_in c.args.self) c.loop-number.number out)))
-  | in_default w ↦ absurd (let none = w.in_default.ensures.variant.1 c.loop-number-test.true in cc)
+  | in_default w ↦ absurd (let none = w.in_default.ensures.variant.1 (omega (arith, c.loop-number-test.true, c.limit-number-end.ensures.range)) in cc)
 ]
 
 pub returns-clause-ok : goal.returns-clause-ok
 returns-clause-ok c =
-    let all : c.loop-number.number ≡ identity_limit = omega arith in
-    c.loop-number.invariant ∙ ap (λ (xs : List ℕ). c.args.into.now.items ++ xs) (members_all (members_in c.args.self) c.loop-number.number all)
+    let few : c.loop-number.number ≤ identity_limit = omega (arith, c.loop-number.auto.number-end, c.limit-number-end.ensures.range) in
+    c.loop-number.invariant ∙ ap (λ (xs : List ℕ). c.args.into.now.items ++ xs)
+    (members_all (members_in c.args.self) c.loop-number.number few (λ i from. c.limit-number-end.ensures.above i (omega (arith, c.loop-number-test.false, from))))

@@ -1,4 +1,5 @@
 use Rattle.std.proofs.Common.{◌≡◌, ◌+◌, ◌++◌, ◌≤◌, ◌∷◌, [], ℕ, List, length, slice_index, length-append, ap, sym, ◌∙◌, arith}
+use Rattle.model_history.specs.Table.{identity_limit}
 use Rattle.base_vectors.specs.Vectors.{number_at}
 use Rattle.base_vectors.proofs.Views.{number_of_word, none_above}
 use Rattle.base_vectors.proofs.Readings.{pairs_below, pairs_few, pairs_zero, pairs_more, pairs_end}
@@ -10,7 +11,7 @@ one_more count xs x after is more = let all : length after ≡ length (xs ++ x �
 
 pub overflow_add-count : goal.overflow_add-count
 overflow_add-count c =
-    let few : length c.self.inside.words.items ≤ 64 = c.self.invariant in
+    let few : length c.self.inside.words.items ≤ identity_limit = c.self.invariant in
     omega (arith, c.loop-word.invariant, ap length c.deref-word-items.ensures.value, pairs_few (number_at c.args.self.now) 0 c.loop-word.word-index)
 
 pub loop-word-preserved : goal.loop-word-preserved
@@ -25,8 +26,8 @@ loop-word-preserved c =
 
 pub returns : goal.returns
 returns c =
-    let few : length c.self.inside.words.items ≤ 64 = c.self.invariant in
+    let few : length c.self.inside.words.items ≤ identity_limit = c.self.invariant in
     let end : length c.self.inside.words.items ≤ c.loop-word.word-index = omega (arith, ap length c.deref-word-items.ensures.value) in
-    let in_all : c.loop-word.word-index ≤ 64 = omega (arith, ap length c.deref-word-items.ensures.value) in
+    let in_all : c.loop-word.word-index ≤ identity_limit = omega (arith, ap length c.deref-word-items.ensures.value) in
     c.loop-word.invariant ∙ ap length (pairs_end (number_at c.args.self.now) c.loop-word.word-index in_all
     (λ i l. none_above c.self.inside.words.items c.args.self.now i c.self.view_is c.self.invariant (omega arith)))

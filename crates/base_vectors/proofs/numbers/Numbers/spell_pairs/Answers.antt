@@ -2,6 +2,7 @@ use Rattle.std.proofs.Common.{◌≡◌, ◌≤◌, ◌++◌, ◌∷◌, [], ℕ
 use Rattle.std.specs.List.{flat_map}
 use Rattle.std.proofs.lemmas.List.{flat_map_more}
 use Rattle.base_bytes.specs.Spelling.{number_spelled}
+use Rattle.model_history.specs.Table.{identity_limit}
 use Rattle.base_vectors.specs.Vectors.{number_at}
 use Rattle.base_vectors.specs.Spelling.{pair_spelled}
 use Rattle.base_vectors.proofs.Views.{number_of_word, none_above}
@@ -29,9 +30,9 @@ loop-index-preserved c =
 
 pub returns : goal.returns
 returns c =
-    let few : length c.self.inside.words.items ≤ 64 = c.self.invariant in
+    let few : length c.self.inside.words.items ≤ identity_limit = c.self.invariant in
     let end : length c.self.inside.words.items ≤ c.loop-index.index = omega (arith, ap length c.deref-word-items.ensures.value) in
-    let in_all : c.loop-index.index ≤ 64 = omega (arith, ap length c.deref-word-items.ensures.value) in
+    let in_all : c.loop-index.index ≤ identity_limit = omega (arith, ap length c.deref-word-items.ensures.value) in
     record {
       ok = c.loop-index.invariant ∙ ap (λ (ps : List (ℕ × ℕ)). c.args.into.now.items ++ flat_map pair_spelled ps) (pairs_end (number_at c.args.self.now) c.loop-index.index in_all
           (λ i l. none_above c.self.inside.words.items c.args.self.now i c.self.view_is c.self.invariant (omega arith)));
