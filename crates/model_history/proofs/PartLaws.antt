@@ -81,6 +81,13 @@ module _ {Op : Type 0} where
   pub taken_grown : (H G G' : History Op) → IsTakenFrom G H → IsPartOf G G' → IsTakenFrom G' H
   taken_grown H G G' taken grown = record { part = part_trans H G G' taken.part grown; closed = taken.closed }
 
+  -- one record more
+  pub part_with_record : (H : History Op) (i : ℕ) (r : Record Op) → IsPartOf H (with_record H i r)
+  part_with_record H i r j = elim (eqb_tells j i) [
+    | inl is ↦ rw is.1 (sym (ap (take (at H i)) (with_at_same H i (H i ++ r ∷ [])) ∙ take_front (H i) (r ∷ [])))
+    | inr isnt ↦ sym (ap (take (at H j)) (with_at_other H i (H i ++ r ∷ []) j isnt.1) ∙ take_whole (H j))
+  ]
+
   -- a union of parts
   pub part_union : (H J G : History Op) → IsPartOf H G → IsPartOf J G → IsPartOf (union H J) G
   part_union H J G h j i =
@@ -113,12 +120,6 @@ module _ {Op : Type 0} (L H : History Op) (i : ℕ) (action : Action Op) (histor
   at-with_record-le K l = elim (eqb_tells l i) [
     | inl is ↦ let e = at-with_record-same K in rw is.1 (omega (arith, e))
     | inr isnt ↦ let e = ap length (with_at_other K i (K i ++ next ∷ []) l isnt.1) in omega (arith, e)
-  ]
-
-  part-with_record : IsPartOf L (with_record L i next)
-  part-with_record j = elim (eqb_tells j i) [
-    | inl is ↦ rw is.1 (sym (ap (take (at L i)) (with_at_same L i (L i ++ next ∷ [])) ∙ take_front (L i) (next ∷ [])))
-    | inr isnt ↦ sym (ap (take (at L j)) (with_at_other L i (L i ++ next ∷ []) j isnt.1) ∙ take_whole (L j))
   ]
 
   as_many : at L i ≡ at H i

@@ -96,7 +96,7 @@ module _ {Op : Type 0} where
       (zero, ap (λ (y : Stamped Op). Some (record { action = y.action; past = y.past })) same, sym (ap (λ (y : Stamped Op). y.origin) same))
   in_stamped i n (r ∷ rs) x (suc k, e) = let h = in_stamped i (suc n) rs x (k, e) in (suc h.0, h.1, h.2)
 
-  to_stamped : (i n : ℕ) (rs : List (Record Op)) (k : ℕ) (r : Record Op) → slice_get rs k ≡ Some r → (x : Stamped Op) × IsIn (stamped_from i n rs) x × (x.action ≡ r.action)
+  pub to_stamped : (i n : ℕ) (rs : List (Record Op)) (k : ℕ) (r : Record Op) → slice_get rs k ≡ Some r → (x : Stamped Op) × IsIn (stamped_from i n rs) x × (x.action ≡ r.action)
   to_stamped i n [] k r e = absurd (cc e)
   to_stamped i n (s ∷ rs) zero r e = let same : s ≡ r = cc e in (record { origin = i; number = n; action = s.action; past = s.past }, (zero, refl), ap (λ (y : Record Op). y.action) same)
   to_stamped i n (s ∷ rs) (suc k) r e = let h = to_stamped i (suc n) rs k r e in (h.0, in_tail _ (stamped_from i (suc n) rs) h.0 h.1, h.2)

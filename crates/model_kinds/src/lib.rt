@@ -9,7 +9,7 @@ mod operation;
 mod shown;
 
 pub use kind::Kind;
-pub use laws::prunes_show_nothing_new;
+pub use laws::{deletes_win, prunes_show_nothing_new};
 pub use moment::Moment;
 pub use operation::Op;
 pub use shown::{Shown, Texts};

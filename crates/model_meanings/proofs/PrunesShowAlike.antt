@@ -18,7 +18,7 @@ use Rattle.model_history.proofs.PartLaws.{take_whole, history-with_record}
 use Rattle.model_history.proofs.PruneLaws.{IsIn, in_append, in_left, in_right, in_flat_map}
 use Rattle.model_history.proofs.CutLaws.{with_at_is}
 use Rattle.model_meanings.specs.Counter.{amount_of, total}
-use Rattle.model_meanings.specs.Growing.{Assignment, greatest, timestamp_after, found, added_elements, is_operation, has_operation, timestamp, newest, winner, winning_text}
+use Rattle.model_meanings.specs.Growing.{Assignment, greatest, timestamp_after, found, added_elements, timestamp, newest, winner, winning_text}
 use Rattle.model_meanings.specs.ObservedRemove.{SetOperations, is_adding_by, is_live_by, touches_by, touches, is_live, live_elements}
 use Rattle.model_meanings.specs.Prunes.{after_prune}
 use Rattle.model_meanings.proofs.EquationsOfMeanings.{list_any-same, map-same, record_of, timestamp_equation, touches_equation}
@@ -163,11 +163,6 @@ module _ {Op : Type 0} (H : History Op) (owner r : ℕ) (small : owner < identit
 
   pub elements_alike : (added : Op → Option Text) → added_elements added K ≡ added_elements added H
   elements_alike added = ap text_set (texts_alike added)
-
-  pub operation_alike : (test : Op → Bool) → has_operation test K ≡ has_operation test H
-  operation_alike test =
-      let f : Stamped Op → Bool = λ x. is_operation test x.action in
-      ap (list_any f) split.3 ∙ list_any-append f before (z ∷ after) ∙ sym (list_any-append f before after) ∙ ap (list_any f) (sym split.2)
 
   -- PASTS STAY
 

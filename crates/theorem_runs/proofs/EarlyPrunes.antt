@@ -8,7 +8,7 @@ use Rattle.model_history.specs.History.{Action, Record, History, at, versions, u
 use Rattle.model_history.specs.History.Action.{Operation, Prune}
 use Rattle.model_history.proofs.HistoryLaws.{has_with_record, slice_get-below}
 use Rattle.model_history.proofs.PastLaws.{identity_of_record}
-use Rattle.model_history.proofs.PartLaws.{in_whole, part-le}
+use Rattle.model_history.proofs.PartLaws.{in_whole, part-le, part_with_record}
 use Rattle.model_history.proofs.PruneLaws.{IsIn, has_pruned, pruned_has, at_identities}
 use Rattle.model_members.specs.View.{View, is_member}
 use Rattle.model_members.specs.Entry.{Entry, Group, is_prune, with_group}
@@ -23,7 +23,7 @@ use Rattle.theorem_runs.specs.Pruning.{HistoryVariables, noted, HasUnprunedMarks
 use Rattle.theorem_runs.proofs.Keeping.{AreKept, AnyTick}
 use Rattle.theorem_runs.proofs.Stepping.{Brings, BringsInput, keeps_any}
 use Rattle.theorem_runs.proofs.UnprunedMarks.{plain}
-use Rattle.theorem_runs.proofs.Growth.{part_of_union, part_with_record, part_with_group, has_union, has_with_group}
+use Rattle.theorem_runs.proofs.Growth.{part_of_union, part_with_group, has_union, has_with_group}
 use Rattle.theorem_runs.proofs.Happening.{Comes, NodeAfter, MessageAfter, Follows, of_all, all_of}
 use Rattle.theorem_runs.proofs.Happening.Comes.{Given, Brought}
 use Rattle.theorem_runs.proofs.Happening.NodeAfter.{Same, Stepped, Started}

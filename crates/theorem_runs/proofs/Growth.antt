@@ -5,7 +5,7 @@ use Rattle.std.proofs.lemmas.Bool.Decides.{eqb_tells}
 use Rattle.model_history.specs.Texts.{Text}
 use Rattle.model_history.specs.History.{Record, History, at, continued, union, with_record, HasRecord, IsPartOf}
 use Rattle.model_history.proofs.HistoryLaws.{with_at_same, with_at_other, append_nothing, slice_get-take}
-use Rattle.model_history.proofs.PartLaws.{take_front, take_whole, part_trans, part-le}
+use Rattle.model_history.proofs.PartLaws.{take_front, take_whole, part_trans, part-le, part_with_record}
 use Rattle.model_history.proofs.PruneLaws.{IsIn}
 use Rattle.model_members.specs.View.{View}
 use Rattle.model_members.specs.Entry.{Entry, Group, with_group}
@@ -53,12 +53,6 @@ module _ {Op : Type 0} where
 
   pub part_same : (H : History Op) → IsPartOf H H
   part_same H j = sym (take_whole (H j))
-
-  pub part_with_record : (H : History Op) (i : ℕ) (r : Record Op) → IsPartOf H (with_record H i r)
-  part_with_record H i r j = elim (eqb_tells j i) [
-    | inl is ↦ rw is.1 (sym (ap (take (at H i)) (with_at_same H i (H i ++ r ∷ [])) ∙ take_front (H i) (r ∷ [])))
-    | inr isnt ↦ sym (ap (take (at H j)) (with_at_other H i (H i ++ r ∷ []) j isnt.1) ∙ take_whole (H j))
-  ]
 
   pub part_of_union : (H J : History Op) → IsPartOf H (union H J)
   part_of_union H J j = sym (take_front (H j) (drop (at H j) (J j)))

@@ -9,7 +9,7 @@ use Rattle.model_history.specs.Table.{with_at}
 use Rattle.model_history.specs.History.{at, union}
 use Rattle.model_history.specs.Vector.{alone}
 use Rattle.model_history.proofs.HistoryLaws.{with_at_same, with_at_other, at-union}
-use Rattle.model_history.proofs.PartLaws.{part-le}
+use Rattle.model_history.proofs.PartLaws.{part-le, part_with_record}
 use Rattle.model_members.specs.View.{View, is_member}
 use Rattle.model_members.specs.Entry.{Entry, Mark, Group, seen_by, merged, merged_mark}
 use Rattle.model_members.specs.DataType.{Replication}
@@ -21,7 +21,7 @@ use Rattle.theorem_runs.specs.Pruning.{HistoryVariables, Standing}
 use Rattle.theorem_runs.proofs.Keeping.{AreKept, AnyTick, if_tells}
 use Rattle.theorem_runs.proofs.Stepping.{BringsInput, HasView, keeps_any, moves}
 use Rattle.theorem_runs.proofs.Stepping.HasView.{SameView, NewView}
-use Rattle.theorem_runs.proofs.Growth.{part_with_record, part_with_group}
+use Rattle.theorem_runs.proofs.Growth.{part_with_group}
 use Rattle.theorem_runs.proofs.MarkLaws.{seen_from, merged_from, kept_mark, IsOneOf}
 use Rattle.theorem_runs.proofs.MarkLaws.IsOneOf.{First, Second}
 

@@ -3,7 +3,7 @@ use Rattle.std.proofs.Common.{ℕ, List, [], ◌∷◌, refl, Option, Some, None
 use Rattle.std.specs.Prelude.{fold, nat_lt, ◌==◌, ◌||◌, ⊤}
 use Rattle.model_history.specs.Texts.{Text}
 use Rattle.model_history.specs.History.{at, is_pruned, IsPartOf}
-use Rattle.model_history.proofs.PartLaws.{part_trans}
+use Rattle.model_history.proofs.PartLaws.{part_trans, part_with_record}
 use Rattle.model_meanings.specs.Refusal.{Shares}
 use Rattle.model_members.specs.View.{identities_of}
 use Rattle.model_members.specs.Entry.{Entry, Group, Mark, Tick, unseen}
@@ -14,7 +14,7 @@ use Rattle.model_members.specs.Step.{Ticking, after_entries, after_groups, tick_
 use Rattle.model_members.proofs.Cases.{performed_unless, ticked_seen, ticked_mark}
 use Rattle.theorem_runs.proofs.Keeping.{AnyTick, keeps_entries, keeps_groups, if_holds}
 use Rattle.theorem_runs.proofs.Stepping.{all_trivial}
-use Rattle.theorem_runs.proofs.Growth.{IsGrown, grown_kept, part_same, part_with_record}
+use Rattle.theorem_runs.proofs.Growth.{IsGrown, grown_kept, part_same}
 
 -- A MESSAGE
 

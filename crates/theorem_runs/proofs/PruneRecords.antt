@@ -7,7 +7,7 @@ use Rattle.model_history.specs.Log.{IsTakenFrom}
 use Rattle.model_history.specs.History.{Action, Record, History, at, versions, with_record, is_pruned, HasRecord, IsPartOf}
 use Rattle.model_history.specs.History.Action.{Operation, Prune}
 use Rattle.model_history.proofs.HistoryLaws.{has_with_record}
-use Rattle.model_history.proofs.PartLaws.{part_trans, part-le}
+use Rattle.model_history.proofs.PartLaws.{part_trans, part-le, part_with_record}
 use Rattle.model_history.proofs.PruneLaws.{has_pruned, at_identities}
 use Rattle.model_members.specs.View.{View, is_member, leader}
 use Rattle.model_members.specs.Entry.{Entry, Mark, IsGroupOf, seen_by, merged, with_group}
@@ -21,7 +21,7 @@ use Rattle.theorem_runs.proofs.Keeping.{AreKept, IsDue, IsSeenByAll}
 use Rattle.theorem_runs.proofs.Stepping.{BringsInput, HasView, keeps_any, moves}
 use Rattle.theorem_runs.proofs.Stepping.HasView.{SameView, NewView}
 use Rattle.theorem_runs.proofs.Mine.{IsMine, mine_kept, union_row, group_row, no_fewer}
-use Rattle.theorem_runs.proofs.Growth.{part_same, part_of_union, part_with_record, part_with_group}
+use Rattle.theorem_runs.proofs.Growth.{part_same, part_of_union, part_with_group}
 use Rattle.theorem_runs.proofs.KnownMarks.{Stands, stands_more, MarksKnown}
 
 module _ {Op : Type 0} (variables : HistoryVariables Op) (i : ℕ) (small : i < identity_limit) (view : View) (Stays : Type 0) (base : Text → Entry Op) where

@@ -7,11 +7,13 @@ use Rattle.model_history.specs.Table.{identities}
 use Rattle.model_history.specs.Vector.{VersionVector}
 use Rattle.model_history.specs.History.{Action, History, at, cut, size, by_past_within, IsPartOf}
 use Rattle.model_history.specs.History.Action.{Operation, Prune}
-use Rattle.model_history.proofs.PartLaws.{part-le}
+use Rattle.model_history.proofs.PartLaws.{part-le, part_with_record}
 use Rattle.model_meanings.specs.Counter.{brought, share}
 use Rattle.model_meanings.specs.Refusal.{Shares, greatest_share, too_much}
 use Rattle.model_members.specs.Entry.{Entry, with_prune}
-use Rattle.theorem_runs.proofs.Growth.{part_with_record}
+
+one_more : (n m : ℕ) → n ≤ m → suc n ≤ suc m
+one_more n m less = omega arith
 
 -- FIRST PARTS OF LISTS
 
@@ -56,8 +58,7 @@ module _ {Op : Type 0} (amount : Op → ℕ) where
 
   pub share_grows : (H J : History Op) → IsPartOf H J → (i : ℕ) → share amount H i ≤ share amount J i
   share_grows H J part i =
-      let a : size H ≤ size J = sum_more (at H) (at J) identities (λ j. part-le H J part j) in
-      grows_within (suc (size H)) (suc (size J)) (omega arith) H J part i
+      grows_within (suc (size H)) (suc (size J)) (one_more (size H) (size J) (sum_more (at H) (at J) identities (λ j. part-le H J part j))) H J part i
 
   pub share_after_prune : (entry : Entry Op) (owner other i : ℕ) → share amount entry.history i ≤ share amount (with_prune entry owner other).history i
   share_after_prune entry owner other i = share_grows entry.history (with_prune entry owner other).history (part_with_record entry.history owner _) i

@@ -11,7 +11,7 @@ use Rattle.model_history.specs.History.{Record, History, at, versions, is_pruned
 use Rattle.model_history.specs.History.Action.{Prune}
 use Rattle.model_history.proofs.HistoryLaws.{with_at_same, with_at_other}
 use Rattle.model_history.proofs.PruneLaws.{IsIn, found, pruned_has, has_pruned, at_identities, range_at}
-use Rattle.model_history.proofs.PartLaws.{in_whole}
+use Rattle.model_history.proofs.PartLaws.{in_whole, part_with_record}
 use Rattle.model_meanings.specs.Refusal.{Shares}
 use Rattle.model_members.specs.View.{View, is_member, identities_of, removed_of, leader}
 use Rattle.model_members.specs.Entry.{Entry, Mark, Tick, with_prune, unseen, ticked}
@@ -21,7 +21,6 @@ use Rattle.model_members.specs.Node.Reply.{NotLeader, Ticked, TickedNotStored}
 use Rattle.model_members.specs.Step.{step, Ticking, tick_identity, tick_key, answered, has_failed, outcomes_of}
 use Rattle.model_members.specs.Entry.Outcome.{Newer}
 use Rattle.model_members.proofs.Cases.{ticked_mark, ticked_seen, performed_unless, with_tick, entry_after_tick_of}
-use Rattle.theorem_runs.proofs.Growth.{part_with_record}
 use Rattle.theorem_settling.specs.Settling.{BlockedStays}
 use Rattle.theorem_operations.proofs.Lists.{find_in, in_any, same_number, to_filter}
 use Rattle.theorem_settling.proofs.Merging.{MarkAt, UpTo}
