@@ -255,17 +255,17 @@ FailingInstall =
     ∷ codes "d 5 known 2:1 marks 2>0/1:0.3"
     ∷ [])
 
--- a member alone comes back 63 times, and then no identity is left
+-- a member alone comes back 254 times, and then no identity is left
 abbrev pub TooManyIdentities : Type 0
 TooManyIdentities =
     report 1 []
-    (map Restart (range_with_len 0 63) ++ Restart 63 ∷ Join 1 ∷ [])
+    (map Restart (range_with_len 0 254) ++ Restart 254 ∷ Join 1 ∷ [])
     ≡ flat_map line_of
-    (map (λ i. decimal (i + 1) ++ codes " restart " ++ decimal i ++ codes " id " ++ decimal (i + 1) ++ codes " view " ++ decimal (i + 1)) (range_with_len 0 63)
-    ++ codes "64 restart 63 too many identities"
-    ∷ codes "65 join 1 too many identities"
-    ∷ codes "final view 63"
-    ∷ codes "member 63 place 0 view 63"
+    (map (λ i. decimal (i + 1) ++ codes " restart " ++ decimal i ++ codes " id " ++ decimal (i + 1) ++ codes " view " ++ decimal (i + 1)) (range_with_len 0 254)
+    ++ codes "255 restart 254 too many identities"
+    ∷ codes "256 join 1 too many identities"
+    ∷ codes "final view 254"
+    ∷ codes "member 254 place 0 view 254"
     ∷ [])
 
 -- a history of an identity that has added as many elements as a set may have

@@ -1,5 +1,6 @@
 ghost use Rattle.model_rows.specs.Rows.{Meanings, EmptyScript, OneMember, Repeats, AddWins, DeltaOvertakesItsCause, PrunedCounter, BlockedPrune, ReplacedDot, OwnerDeparts, LateMessages, RestartedMember, MajorityWriteAndRead, TimedOutWrite, RegisterWrites, Refusals, OtherKinds, FiftyDeltas, FiftyOneDeltas, Carts, FailingStore, FailingLoad, GeneratedScript, TwoMembers, FlushedRegister, GossipedCounter, ThreeMembers};
 ghost use Rattle.model_rows.specs.Borders.{SecondPrune, NackedWrite, FailingTick, BlockedSettle, EmptyRead, FullMember, BlockedMinus, FailingClear, JoinAfterStored, FailingInstall, TooManyIdentities, NewerMark, SetFull};
+ghost use Rattle.model_rows.specs.Deletes.{DeletedSet, DeleteAmongAdds, GossipedDelete, DeletedEntry, MajorityFindsDeleted, DeletedCounterPrunes, DeletedSettle, DeletedRestarts, DeletedKinds, DeletedFullSet};
 ghost use Rattle.model_kinds.specs.declared.kind.Kind.TheVariants.{GSet, OrSet};
 
 /// What the model makes of worked scripts.
@@ -49,4 +50,19 @@ pub fn borders()
     ensures newer_mark { NewerMark }
     ensures growing_set_full { SetFull GSet }
     ensures set_full { SetFull OrSet }
+{}
+
+/// What the model makes of scripts with deleted keys.
+pub fn deleted_keys()
+    ensures deleted_set { DeletedSet }
+    ensures delete_among_adds { DeleteAmongAdds }
+    ensures gossiped_delete { GossipedDelete }
+    ensures deleted_entry { DeletedEntry }
+    ensures majority_finds_deleted { MajorityFindsDeleted }
+    ensures deleted_counter_prunes { DeletedCounterPrunes }
+    ensures deleted_settle { DeletedSettle }
+    ensures deleted_restarts { DeletedRestarts }
+    ensures deleted_kinds { DeletedKinds }
+    ensures deleted_growing_set_full { DeletedFullSet GSet }
+    ensures deleted_set_full { DeletedFullSet OrSet }
 {}
