@@ -31,3 +31,6 @@ pub mod InViews
 pub mod SmallPath
 pub mod SmallKnown
 pub mod CodeOrder
+pub mod Endings
+pub mod Onward
+pub mod Commanding

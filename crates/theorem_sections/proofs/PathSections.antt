@@ -41,7 +41,7 @@ module _ {Op : Type 0} where
   commands_take_none : (views : List View) (command : Command Op) (input : Input Op) → IsInputOf views command input → takes input ≡ false
   commands_take_none views command input is = asked_takes_none input (is_asked views command.ask input is)
 
-get_mapped : {X Y : Type 0} (f : X → Y) (xs : List X) (k : ℕ) (x : X) → slice_get xs k ≡ Some x → slice_get (map f xs) k ≡ Some (f x)
+pub get_mapped : {X Y : Type 0} (f : X → Y) (xs : List X) (k : ℕ) (x : X) → slice_get xs k ≡ Some x → slice_get (map f xs) k ≡ Some (f x)
 get_mapped f [] k x e = absurd (cc e)
 get_mapped f (y ∷ xs) zero x e = let same : y ≡ x = cc e in ap (λ z. Some (f z)) same
 get_mapped f (y ∷ xs) (suc k) x e = get_mapped f xs k x e

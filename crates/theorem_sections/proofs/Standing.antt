@@ -165,7 +165,7 @@ module _ {Kind Op Shown : Type 0} (D : Replication Kind Op Shown) where
         by (Dropped m e a b) = same b
 
     -- a closed one gets no result
-    closed_finished : (op : ℕ) → is_open op (Some n) ≡ false → finished_at op (Some (step D n input fate).node) ≡ finished_at op (Some n)
+    pub closed_finished : (op : ℕ) → is_open op (Some n) ≡ false → finished_at op (Some (step D n input fate).node) ≡ finished_at op (Some n)
     closed_finished op closed = by (step_tells D n input fate).change
       where
         same : (step D n input fate).node.finished ≡ n.finished → finished_at op (Some (step D n input fate).node) ≡ finished_at op (Some n)

@@ -12,6 +12,7 @@ ghost use Rattle.theorem_sections.specs.Histories.{Entry, Placed, AreHistories, 
 ghost use Rattle.theorem_sections.specs.Queues.{sent, Waits, IsDue};
 ghost use Rattle.theorem_sections.specs.Paths.{PathsHaveSections};
 ghost use Rattle.theorem_sections.specs.Knowing.{KnownPathsArePaths};
+ghost use Rattle.theorem_sections.specs.Calls.{CallsStandOnce};
 ghost use Rattle.theorem_sections.specs.Runs.{RunStep, IsRunStep, PlaysAll, HasReport};
 
 /// What a script with client threads plays is a run, whatever the schedule and whatever the keepers answer.
@@ -26,6 +27,16 @@ pub fn sections_are_runs<Kind, Operation, Shown>()
 pub fn plain_scripts_have_one_report<Kind, Operation, Shown>()
     ensures { (D : Replication Kind Operation Shown) (value_text : Shown → Text) (answers : KeeperAnswers) (members : ℕ) (keys : List (KeyDecl Kind)) (steps : List (ScriptStep Operation)) (text : Text)
         → HasReport D value_text answers members keys (map RunStep.Plain steps) text ↔ text ≡ report D value_text answers members keys steps }
+{}
+
+/// Each call of a client stands once in a section, after all that its caller had seen.
+/// - A client's commands come as often as it has them, and each has a line, in the client's order.
+/// - When one comes, what the last one sent was heard, as far as the definition of a section asks, and it has ended.
+/// - What the report tells of the earlier ones is what stands then: so whatever a line tells had come about before the
+///   client's next command.
+pub fn calls_stand_once<Kind, Operation, Shown>()
+    ensures { (D : Replication Kind Operation Shown) (members : ℕ) (keys : List (KeyDecl Kind)) (before : Playing Kind Operation Shown) → IsRun D members keys before.events before.world
+        → (clients : List (List (Command Operation))) (moves : List Move) (end : Section Kind Operation Shown) → IsSection D before clients moves end → CallsStandOnce D before clients moves end }
 {}
 
 /// After a section the next message of a link is the first that was not heard, where none was pending before; else it is
