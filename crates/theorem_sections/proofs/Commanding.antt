@@ -126,7 +126,7 @@ module _ {Kind Op Shown : Type 0} (D : Replication Kind Op Shown) where
     over_on p q made goes over k m there op waits = subst (λ (w : World Kind Op Shown). IsOverAt D op (w.nodes m.at)) goes.leads (over_stays D p.world goes.events goes.lawful goes.keeps m.at op (over k m there op waits)).0
 
     -- what is told of a command that is over stays
-    line_stays : (p q : Playing Kind Op Shown) (c : ℕ) (m : Made Op Shown) → Goes D p q → ((op : ℕ) → pending_op m.line.answer ≡ Some op → IsOverAt D op (p.world.nodes m.at)) → client_line p.world c m ≡ client_line q.world c m
+    pub line_stays : (p q : Playing Kind Op Shown) (c : ℕ) (m : Made Op Shown) → Goes D p q → ((op : ℕ) → pending_op m.line.answer ≡ Some op → IsOverAt D op (p.world.nodes m.at)) → client_line p.world c m ≡ client_line q.world c m
     line_stays p q c m goes over =
         ap (λ (ended : Option (Ending Shown)). record { client = Some c; head = m.line.head; answer = m.line.answer; posts = m.line.posts; ended = ended }) (by (pending_op m.line.answer) over)
       where
@@ -367,7 +367,7 @@ module _ {Kind Op Shown : Type 0} (D : Replication Kind Op Shown) where
 
     -- when a command comes
     module _ (c : ℕ) (here : Section Kind Op Shown) (client : Client Op Shown) (comes : ComesAt D before clients moves c here client) where
-      lawful_there : may_all_come D here (NextCommand c ∷ comes.rest) ≡ true
+      pub lawful_there : may_all_come D here (NextCommand c ∷ comes.rest) ≡ true
       lawful_there = subst (λ (s : Section Kind Op Shown). may_all_come D s (NextCommand c ∷ comes.rest) ≡ true) (sym comes.is) (may_then first comes.early (NextCommand c ∷ comes.rest) (subst (λ ms. may_all_come D first ms ≡ true) comes.way section.lawful))
 
       pub may_there : goes_on here (last_of client.made) ≡ true

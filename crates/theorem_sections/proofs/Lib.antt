@@ -34,3 +34,4 @@ pub mod CodeOrder
 pub mod Endings
 pub mod Onward
 pub mod Commanding
+pub mod SeenMoments

@@ -21,7 +21,7 @@ use Rattle.theorem_runs.proofs.Keeping.{if_holds, if_tells}
 use Rattle.theorem_runs.proofs.Playing.{Appends, played_appends, deliver_appends, appends_more}
 use Rattle.theorem_operations.specs.Quorum.{KeepsMembers}
 use Rattle.theorem_operations.proofs.Moments.{run_append, lawful_rest, view_stays}
-use Rattle.theorem_operations.proofs.KeptViews.{kept_along}
+use Rattle.theorem_operations.proofs.KeptViews.{kept_along, rises_along}
 use Rattle.theorem_operations.proofs.Opening.{opening_tells}
 use Rattle.theorem_operations.proofs.PlayedInputs.{turn_by, input_turn, turn_taken, deliver_case}
 use Rattle.theorem_sections.specs.Sections.{Command, Client, Made, Section, Move, step_of, pending_op, world_of, commanded, commanded_by, heard, timed_out, timed_out_made, timed_out_op, moved, moved_all}
@@ -43,17 +43,24 @@ module _ {Kind Op Shown : Type 0} (D : Replication Kind Op Shown) where
     pub keeps : AllByRecursion KeepsMembers events
 
   module _ (members : ℕ) (keys : List (KeyDecl Kind)) where
+    pub leads_on : (p q : Playing Kind Op Shown) → IsRun D members keys p.events p.world → IsRun D members keys q.events q.world → (more : Appends D p.events q.events) → run D p.world more.0 ≡ q.world
+    leads_on p q is_p is_q more =
+        let first = start members keys in
+        ap (λ (w : World Kind Op Shown). run D w more.0) is_p.leads ∙ sym (run_append D first p.events more.0) ∙ ap (run D first) (sym more.1) ∙ sym is_q.leads
+
+    pub lawful_on : (p q : Playing Kind Op Shown) → IsRun D members keys p.events p.world → IsRun D members keys q.events q.world → (more : Appends D p.events q.events) → AreLawful D p.world more.0
+    lawful_on p q is_p is_q more =
+        subst (λ (w : World Kind Op Shown). AreLawful D w more.0) (sym is_p.leads) (lawful_rest D (start members keys) p.events more.0 (subst (λ es. AreLawful D (start members keys) es) more.1 is_q.lawful))
+
+    pub keeps_on : (p q : Playing Kind Op Shown) → IsRun D members keys p.events p.world → IsRun D members keys q.events q.world → (more : Appends D p.events q.events) → q.world.view.number ≡ p.world.view.number → AllByRecursion KeepsMembers more.0
+    keeps_on p q is_p is_q more same = kept_along D p.world more.0 (ap (λ (w : World Kind Op Shown). w.view.number) (leads_on p q is_p is_q more) ∙ same)
+
+    pub rises_on : (p q : Playing Kind Op Shown) → IsRun D members keys p.events p.world → IsRun D members keys q.events q.world → Appends D p.events q.events → p.world.view.number ≤ q.world.view.number
+    rises_on p q is_p is_q more = subst (λ (w : World Kind Op Shown). p.world.view.number ≤ w.view.number) (leads_on p q is_p is_q more) (rises_along D p.world more.0)
+
     pub goes_between : (p q : Playing Kind Op Shown) → IsRun D members keys p.events p.world → IsRun D members keys q.events q.world → Appends D p.events q.events → q.world.view.number ≡ p.world.view.number → Goes p q
     goes_between p q is_p is_q more same =
-        let first = start members keys in
-        let at_q : run D p.world more.0 ≡ q.world = ap (λ (w : World Kind Op Shown). run D w more.0) is_p.leads ∙ sym (run_append D first p.events more.0) ∙ ap (run D first) (sym more.1) ∙ sym is_q.leads in
-        record {
-          events = more.0;
-          grown = more.1;
-          lawful = subst (λ (w : World Kind Op Shown). AreLawful D w more.0) (sym is_p.leads) (lawful_rest D first p.events more.0 (subst (λ es. AreLawful D first es) more.1 is_q.lawful));
-          leads = at_q;
-          keeps = kept_along D p.world more.0 (ap (λ (w : World Kind Op Shown). w.view.number) at_q ∙ same);
-        }
+        record { events = more.0; grown = more.1; lawful = lawful_on p q is_p is_q more; leads = leads_on p q is_p is_q more; keeps = keeps_on p q is_p is_q more same }
 
   -- THE VIEW STAYS
 

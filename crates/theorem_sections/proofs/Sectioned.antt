@@ -47,7 +47,7 @@ module _ {Kind Op Shown : Type 0} (D : Replication Kind Op Shown) (members : ℕ
   moved_all_runs s [] runs = runs
   moved_all_runs s (m ∷ ms) runs = moved_all_runs (moved D s m) ms (moved_runs s m runs)
 
-  plays_runs : (p q : Playing Kind Op Shown) (s : RunStep Op) (lines : List (Line Op Shown)) → IsRunStep s → Plays D p s lines q → Runs p → Runs q
+  pub plays_runs : (p q : Playing Kind Op Shown) (s : RunStep Op) (lines : List (Line Op Shown)) → IsRunStep s → Plays D p s lines q → Runs p → Runs q
   plays_runs p q (RunStep.Plain s) lines ok h runs = subst Runs (sym h.1) (step_is_run D members keys p s ok runs)
   plays_runs p q (RunStep.Threads clients) lines ok h runs =
       subst Runs (sym h.4) (subst (λ (end : Section Kind Op Shown). Runs end.playing) (sym h.2.leads) (moved_all_runs (opened p clients) h.0 runs))
