@@ -35,3 +35,4 @@ pub mod Endings
 pub mod Onward
 pub mod Commanding
 pub mod SeenMoments
+pub mod SeenReads

@@ -60,7 +60,7 @@ module _ {Op Shown : Type 0} where
   abbrev pub lines_by : Option ℕ → List (Line Op Shown) → List (Line Op Shown)
   lines_by caller lines = filter (λ (l : Line Op Shown). is_caller caller l.client) lines
 
-  plain_by : (told : List (Told Op Shown)) → lines_by None (map plain_line told) ≡ map plain_line told
+  pub plain_by : (told : List (Told Op Shown)) → lines_by None (map plain_line told) ≡ map plain_line told
   plain_by [] = refl
   plain_by (t ∷ told) = ap (λ ls. plain_line t ∷ ls) (plain_by told)
 
