@@ -3,13 +3,14 @@ use Rattle.std.proofs.Common.{◌≡◌, ◌≢◌, ◌⊎◌, inl, inr, ℕ, ze
 use Rattle.std.specs.Prelude.{◌==◌, if◌then◌else◌, find, slice_get, option_map}
 use Rattle.std.specs.List.{AllByRecursion}
 use Rattle.model_history.specs.Table.{identity_limit}
-use Rattle.model_history.proofs.HistoryLaws.{append_nothing}
+use Rattle.model_history.proofs.HistoryLaws.{with_at_same}
 use Rattle.model_history.proofs.PruneLaws.{IsIn}
 use Rattle.model_members.specs.View.{View}
 use Rattle.model_members.specs.DataType.{Replication}
 use Rattle.model_members.specs.Message.{Message}
 use Rattle.model_members.specs.Node.{KeyDecl, Node, OpenOperation, Input, Level, Fate, Reply, Result, Finished, Output}
-use Rattle.model_members.specs.World.{World, Event, Turn, start, run, happens, output_of, step_in, turn_of, IsLawful, AreLawful, IsRun}
+use Rattle.model_members.specs.Step.{step}
+use Rattle.model_members.specs.World.{World, Event, Turn, start, run, happens, output_of, step_in, turn_of, after_turn, IsLawful, AreLawful, IsRun}
 use Rattle.model_members.specs.World.Event.{InputAt, Delivery}
 use Rattle.model_members.specs.Script.{Ask, Playing, ScriptStep, Told, Head, KeeperAnswers, opening, played, given, output_lines}
 use Rattle.model_members.specs.Script.Answer.{Replied}
@@ -21,7 +22,9 @@ use Rattle.theorem_operations.proofs.Lists.{all_first, all_last, find_in, same_n
 use Rattle.theorem_operations.proofs.Moments.{run_append, pushed_run, lawful_first, lawful_rest, Stands as IsReached, stands_start, stands_run}
 use Rattle.model_members.specs.Message.Message.{WriteAck, ReadAnswer}
 use Rattle.theorem_operations.proofs.Operations.{IsAnswer, step_tells}
-use Rattle.theorem_operations.proofs.Turns.{MakesStep, turn_makes}
+use Rattle.theorem_operations.proofs.Turns.{MakesStep, turn_makes, reply_is}
+use Rattle.theorem_operations.proofs.Opening.{opening_tells}
+use Rattle.theorem_operations.proofs.PlayedInputs.{turn_by, input_turn}
 use Rattle.theorem_operations.proofs.QuorumTheorem as theorem
 use Rattle.theorem_operations.proofs.ScriptLines.{HeadTells, LineFrom, step_told, InputMade, input_made}
 use Rattle.theorem_operations.proofs.ScriptLines.LineFrom.{FromEvent, Plain as PlainLine}
@@ -37,6 +40,7 @@ use Rattle.theorem_sections.proofs.Onward.{leads_on, lawful_on, keeps_on, rises_
 use Rattle.theorem_sections.proofs.SeenMoments.{lines_by, plain_by, none_of_section, before_silent, before_grows, before_runs, StepAt, step_at, EndsSo, MadeHere, made_here, SeenBefore, seen_before, nothing_more}
 use Rattle.theorem_sections.proofs.SeenMoments.EndsSo.{AsTold, AsItStands}
 use Rattle.theorem_sections.proofs.Sectioned.{Runs}
+use Rattle.theorem_sections.proofs.Unfinished.{opened_none}
 
 -- an operation that ended so has that result
 ended_at : {Kind Op Shown : Type 0} (o : Option (Node Kind Op Shown)) (op : ℕ) (end : Finished Shown) → ending_of o (Some op) ≡ Some (Ending.Ended end) → (node : Node Kind Op Shown) × (o ≡ Some node) × (finished_at op (Some node) ≡ Some end)
@@ -423,3 +427,124 @@ module _ {Kind Op Shown : Type 0} (D : Replication Kind Op Shown) (answers : Kee
         fate = the_fate;
         has = subst (λ (w : World Kind Op Shown). HasWrite D w the_write (shows.node.entries r.key).history) (sym updates.runs.leads) shows.has;
       }
+
+      -- an operation that finishes by this event
+      module _ (op : ℕ) (is_pending : reply ≡ Reply.Pending op) (event : Event Op) (rest : List (Event Op)) (tail_is : tail ≡ event ∷ rest) (end : Finished Shown) (finishes : Finishes D (run D first ((played D there asks_get).events ++ after)) event r.reader end) (its : end.op ≡ op)
+          (within : List (Event Op)) (within_is : (moment n).events ++ within ≡ ((played D there asks_get).events ++ after) ++ event ∷ []) where
+        lawful_event : IsLawful D (at_end D members keys the_run) event
+        lawful_event =
+            (lawful_rest D first (all_events the_run) (event ∷ rest)
+            (subst (λ es. AreLawful D first (all_events the_run ++ es)) tail_is (subst (λ es. AreLawful D first es) (sym whole) (run_at (suc n)).lawful))).0
+
+        finished_so : (shown : Shown) × (end.result ≡ Result.ReadValue shown) × IncludesSeen D answers members keys steps lines last plays r n here shown
+        finished_so =
+            let shows =
+            theorem.later D members keys the_run unchanged op (replied_there ∙ ap Some is_pending) event end lawful_event (subst (λ (w : World Kind Op Shown). Finishes D w event r.reader end) (sym end_is) finishes) its in
+            let way_is : (moment (suc n)).events ≡ ((moment n).events ++ within) ++ rest =
+            way ∙ sym (append_assoc (played D there asks_get).events after tail) ∙ ap (λ es. ((played D there asks_get).events ++ after) ++ es) tail_is ∙ sym (append_assoc ((played D there asks_get).events ++ after) (event ∷ []) rest) ∙ ap (λ es. es ++ rest) (sym within_is) in
+            (shows.0, shows.1, includes within rest shows.0 way_is (happens D (at_end D members keys the_run) event)
+            (ap (run D first) within_is ∙ pushed_run D first ((played D there asks_get).events ++ after) event ∙ ap (λ (w : World Kind Op Shown). happens D w event) (sym end_is)) shows.2)
+
+    -- the reader's new operation has no result yet
+    record FreshGet (op : ℕ) : Type 0 where
+      node : Node Kind Op Shown
+      runs : (played D there asks_get).world.nodes r.reader ≡ Some node
+      none : result_at D op node ≡ None
+
+    fresh_get : (op : ℕ) → get.answer ≡ Replied (Reply.Pending op) → FreshGet op
+    fresh_get op replied = by (there.world.nodes r.reader) refl
+      where
+        made : InputMade D there (played D there asks_get) r.reader the_get (Reply.Pending op) gets.told
+        made = get_made (Reply.Pending op) replied
+
+        event : Event Op
+        event = InputAt r.reader the_get made.fate
+
+        world_is : (played D there asks_get).world ≡ happens D there.world event
+        world_is = after_get.leads ∙ ap (run D first) made.events ∙ pushed_run D first there.events event ∙ ap (λ (w : World Kind Op Shown). happens D w event) (sym gets.runs.leads)
+
+        by : (o : Option (Node Kind Op Shown)) → there.world.nodes r.reader ≡ o → FreshGet op
+        by None is = absurd (let e = sym (ap (λ (o : Option (Node Kind Op Shown)). option_map (λ (output : Output Op Shown). output.reply) (option_map (λ (turn : Turn Kind Op Shown). (step_in D turn).output) (option_map (λ node. turn_by r.reader node the_get made.fate) o))) is) ∙ made.replies in cc e)
+        by (Some old) is =
+            let s = step D old the_get made.fate in
+            let reply : Some s.output.reply ≡ Some (Reply.Pending op) = sym (reply_is D there.world r.reader old the_get made.fate is) ∙ made.replies in
+            let opens = opening_tells D old r.reader op the_get made.fate (let e : s.output.reply ≡ Reply.Pending op = cc reply in e) in
+            let reached = subst (IsReached D members keys) (sym gets.runs.leads) (stands_run D members keys first (stands_start D members keys some few) there.events gets.runs.lawful) in
+            record {
+              node = s.node;
+              runs = ap (λ (w : World Kind Op Shown). w.nodes r.reader) world_is ∙ ap (λ o. (after_turn D there.world o).nodes r.reader) (input_turn there.world r.reader old the_get made.fate is) ∙ with_at_same there.world.nodes r.reader (Some s.node);
+              none = opened_none D op old the_get made.fate (record { stood = λ o m. reached.numbers.stood r.reader old o is m; done = λ f m. reached.numbers.done r.reader old f is m }) opens.number;
+            }
+
+  -- WHAT THE REPORT TELLS OF GETS
+
+  module _ (r : SeenUpdate Op) (here there : Playing Kind Op Shown) (update get : Line Op Shown) (u : IsSeenUntil D answers members keys steps lines last plays r r.get.step here there update get) where
+    now : r.get.step ≤ r.get.step
+    now = omega arith
+
+    abbrev n : ℕ
+    n = r.get.step
+
+    abbrev on : Appends D (played D there (asks_get r n here there update get u now)).events (moment (suc n)).events
+    on = (gets r n here there update get u now).on
+
+    since : Appends D (moment n).events there.events
+    since = (gets r n here there update get u now).since
+
+    answered_at_once : (reply : Reply Shown) → get.answer ≡ Replied reply → ((op : ℕ) → reply ≢ Reply.Pending op) → (shown : Shown) × (reply ≡ Reply.Value shown) × IncludesSeen D answers members keys steps lines last plays r n here shown
+    answered_at_once reply replied never =
+        let after_it = played D there (asks_get r n here there update get u now) in
+        let made = get_made r n here there update get u now reply replied in
+        let event : Event Op = InputAt r.reader (the_get r n here there update get u now) made.fate in
+        let run_it = the_run r n here there update get u now reply replied [] on.0 on.1 in
+        let shows = theorem.at_once D members keys run_it (unchanged r n here there update get u now reply replied [] on.0 on.1) reply (replied_there r n here there update get u now reply replied [] on.0 on.1) never in
+        let within = since.0 ++ event ∷ [] in
+        let within_is : (moment n).events ++ within ≡ there.events ++ event ∷ [] = sym (append_assoc (moment n).events since.0 (event ∷ [])) ∙ ap (λ es. es ++ event ∷ []) (sym since.1) in
+        let way_is : (moment (suc n)).events ≡ ((moment n).events ++ within) ++ on.0 = on.1 ∙ ap (λ es. es ++ on.0) (made.events ∙ sym within_is) in
+        (shows.0, shows.1, includes r n here there update get u now reply replied [] on.0 on.1 within on.0 shows.0 way_is (happens D (at_read D members keys run_it) event)
+        (ap (run D first) within_is ∙ pushed_run D first there.events event ∙ ap (λ es. happens D (run D first es) event) (sym (until_get r n here there update get u now))) shows.2)
+
+    finished_in_its_line : (op : ℕ) (end : Finished Shown) → get.answer ≡ Replied (Reply.Pending op) → get.ended ≡ Some (Ending.Ended end) → (shown : Shown) × (end.result ≡ Result.ReadValue shown) × IncludesSeen D answers members keys steps lines last plays r n here shown
+    finished_in_its_line op end replied ended =
+        let after_it = played D there (asks_get r n here there update get u now) in
+        let made = get_made r n here there update get u now (Reply.Pending op) replied in
+        let event : Event Op = InputAt r.reader (the_get r n here there update get u now) made.fate in
+        let fresh = fresh_get r n here there update get u now op replied in
+        let at = ended_at ((moment (suc n)).world.nodes r.reader) op end (get_ends r n here there update get u now (gets r n here there update get u now).ends op end replied ended) in
+        let real = after_get r n here there update get u now in
+        let found =
+        finish_found D after_it.world on.0 (lawful_on D members keys after_it (moment (suc n)) real (run_at (suc n)) on)
+        (keeps r n here there update get u now after_it (moment (suc n)) real (run_at (suc n)) (here_to_get r n here there update get u now (Reply.Pending op) replied [] on.0 on.1) on (nothing_more D (moment (suc n)).events))
+        r.reader op fresh.node fresh.runs fresh.none at.0 (ap (λ (w : World Kind Op Shown). w.nodes r.reader) (leads_on D members keys after_it (moment (suc n)) real (run_at (suc n)) on) ∙ at.1) end at.2 in
+        let way : (moment (suc n)).events ≡ after_it.events ++ (found.early ++ found.event ∷ found.rest) = on.1 ∙ ap (λ es. after_it.events ++ es) found.way in
+        let world_is : run D after_it.world found.early ≡ run D first (after_it.events ++ found.early) = ap (λ (w : World Kind Op Shown). run D w found.early) real.leads ∙ sym (run_append D first after_it.events found.early) in
+        let within = since.0 ++ event ∷ (found.early ++ found.event ∷ []) in
+        let within_is : (moment n).events ++ within ≡ (after_it.events ++ found.early) ++ found.event ∷ [] =
+        sym (append_assoc (moment n).events since.0 (event ∷ (found.early ++ found.event ∷ []))) ∙ ap (λ es. es ++ event ∷ (found.early ++ found.event ∷ [])) (sym since.1)
+        ∙ sym (append_assoc there.events (event ∷ []) (found.early ++ found.event ∷ [])) ∙ ap (λ es. es ++ (found.early ++ found.event ∷ [])) (sym made.events) ∙ sym (append_assoc after_it.events found.early (found.event ∷ [])) in
+        finished_so r n here there update get u now (Reply.Pending op) replied found.early (found.event ∷ found.rest) way op refl found.event found.rest refl end
+        (subst (λ (w : World Kind Op Shown). Finishes D w found.event r.reader end) world_is found.finishes) (result_number op at.0.finished end at.2) within within_is
+
+  finished_by_delivery : (r : SeenUpdate Op) (here there : Playing Kind Op Shown) (update get : Line Op Shown) (place : Place) → r.get.step < place.step → (u : IsSeenUntil D answers members keys steps lines last plays r place.step here there update get)
+      → (op : ℕ) (end : Finished Shown) → get.answer ≡ Replied (Reply.Pending op) → TellsDelivery lines place r.reader end → end.op ≡ op → (shown : Shown) × (end.result ≡ Result.ReadValue shown) × IncludesSeen D answers members keys steps lines last plays r place.step here shown
+  finished_by_delivery r here there update get place behind u op end replied told its =
+      let m = place.step in
+      let past : r.get.step ≤ m = omega (arith, behind) in
+      let after_it = played D there (asks_get r m here there update get u past) in
+      let e = end_from place r.reader end told in
+      let event : Event Op = Delivery e.from r.reader e.index e.fate in
+      let more = appends_more D after_it.events (moment (suc r.get.step)).events (moment m).events (gets r m here there update get u past).on (more_at (suc r.get.step) m (omega (arith, behind))) in
+      let after = more.0 ++ e.since in
+      let upto_is : (moment m).events ++ e.since ≡ after_it.events ++ after = ap (λ es. es ++ e.since) more.1 ∙ append_assoc after_it.events more.0 e.since in
+      let way : (moment (suc m)).events ≡ after_it.events ++ (after ++ event ∷ e.rest) = e.way ∙ ap (λ es. es ++ event ∷ e.rest) upto_is ∙ append_assoc after_it.events after (event ∷ e.rest) in
+      let within = e.since ++ event ∷ [] in
+      let within_is : (moment m).events ++ within ≡ (after_it.events ++ after) ++ event ∷ [] = sym (append_assoc (moment m).events e.since (event ∷ [])) ∙ ap (λ es. es ++ event ∷ []) upto_is in
+      finished_so r m here there update get u past (Reply.Pending op) replied after (event ∷ e.rest) way op refl event e.rest refl end
+      (subst (λ es. Finishes D (run D first es) event r.reader end) upto_is e.finishes) its within within_is
+
+  pub gets_include_seen : GetsIncludeSeen D answers members keys steps lines last plays
+  gets_include_seen = record {
+    at_once = λ r here there update get u reply replied never. answered_at_once r here there update get u reply replied never;
+    in_its_line = λ r here there update get u op end replied ended. finished_in_its_line r here there update get u op end replied ended;
+    by_delivery = λ r here there update get place behind u op end replied told its. finished_by_delivery r here there update get place behind u op end replied told its;
+  }

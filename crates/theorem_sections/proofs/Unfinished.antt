@@ -42,7 +42,7 @@ module _ {Kind Op Shown : Type 0} (D : Replication Kind Op Shown) where
           let a = below.stood end.operation end.counts.stood in let b = number_grows D n input fate in let c : end.operation.op ≡ f.op = ap (λ (x : Finished Shown). x.op) end.is in omega (arith, a, b, c)
 
   -- so one that opens has no result yet
-  opened_none : (op : ℕ) (n : Node Kind Op Shown) (input : Input Op) (fate : Fate) → AreBelow n → op ≡ n.next_op → finished_at op (Some (step D n input fate).node) ≡ None
+  pub opened_none : (op : ℕ) (n : Node Kind Op Shown) (input : Input Op) (fate : Fate) → AreBelow n → op ≡ n.next_op → finished_at op (Some (step D n input fate).node) ≡ None
   opened_none op n input fate below is = find_none op (step D n input fate).node.finished (λ f m. by f ((step_tells D n input fate).finished f m))
     where
       by : (f : Finished Shown) → FinishedAfter D n (step D n input fate).node input f → f.op ≢ op
