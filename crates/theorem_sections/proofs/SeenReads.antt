@@ -6,10 +6,10 @@ use Rattle.model_history.specs.Table.{identity_limit}
 use Rattle.model_history.proofs.HistoryLaws.{with_at_same}
 use Rattle.model_history.proofs.PruneLaws.{IsIn}
 use Rattle.model_members.specs.View.{View}
-use Rattle.model_members.specs.DataType.{Replication}
+use Rattle.model_members.specs.DataType.{Replication, Meaning}
 use Rattle.model_members.specs.Message.{Message}
 use Rattle.model_members.specs.Node.{KeyDecl, Node, OpenOperation, Input, Level, Fate, Reply, Result, Finished, Output}
-use Rattle.model_members.specs.Step.{step}
+use Rattle.model_members.specs.Step.{step, value_reply, read_result}
 use Rattle.model_members.specs.World.{World, Event, Turn, start, run, happens, output_of, step_in, turn_of, after_turn, IsLawful, AreLawful, IsRun}
 use Rattle.model_members.specs.World.Event.{InputAt, Delivery}
 use Rattle.model_members.specs.Script.{Ask, Playing, ScriptStep, Told, Head, KeeperAnswers, opening, played, given, output_lines}
@@ -413,9 +413,9 @@ module _ {Kind Op Shown : Type 0} (D : Replication Kind Op Shown) (answers : Kee
       end_is = ap (run D first) events_are
 
       -- what the theorem says of the reader, as it is said of lines
-      includes : (within rest : List (Event Op)) (shown : Shown) → (moment (suc n)).events ≡ ((moment n).events ++ within) ++ rest → (world : World Kind Op Shown) → run D first ((moment n).events ++ within) ≡ world → ShowsWrite D members keys the_run world shown
-          → IncludesSeen D answers members keys steps lines last plays r n here shown
-      includes within rest shown is world same shows = record {
+      includes : (within rest : List (Event Op)) (means : Meaning Shown) → (moment (suc n)).events ≡ ((moment n).events ++ within) ++ rest → (world : World Kind Op Shown) → run D first ((moment n).events ++ within) ≡ world → ShowsWrite D members keys the_run world means
+          → IncludesSeen D answers members keys steps lines last plays r n here means
+      includes within rest means is world same shows = record {
         within = within;
         rest = rest;
         way = is;
@@ -436,14 +436,17 @@ module _ {Kind Op Shown : Type 0} (D : Replication Kind Op Shown) (answers : Kee
             (lawful_rest D first (all_events the_run) (event ∷ rest)
             (subst (λ es. AreLawful D first (all_events the_run ++ es)) tail_is (subst (λ es. AreLawful D first es) (sym whole) (run_at (suc n)).lawful))).0
 
-        finished_so : (shown : Shown) × (end.result ≡ Result.ReadValue shown) × IncludesSeen D answers members keys steps lines last plays r n here shown
+        finished_so : (means : Meaning Shown) × (end.result ≡ read_result D (Some means)) × IncludesSeen D answers members keys steps lines last plays r n here means
         finished_so =
             let shows =
             theorem.later D members keys the_run unchanged op (replied_there ∙ ap Some is_pending) event end lawful_event (subst (λ (w : World Kind Op Shown). Finishes D w event r.reader end) (sym end_is) finishes) its in
             let way_is : (moment (suc n)).events ≡ ((moment n).events ++ within) ++ rest =
-            way ∙ sym (append_assoc (played D there asks_get).events after tail) ∙ ap (λ es. ((played D there asks_get).events ++ after) ++ es) tail_is ∙ sym (append_assoc ((played D there asks_get).events ++ after) (event ∷ []) rest) ∙ ap (λ es. es ++ rest) (sym within_is) in
-            (shows.0, shows.1, includes within rest shows.0 way_is (happens D (at_end D members keys the_run) event)
-            (ap (run D first) within_is ∙ pushed_run D first ((played D there asks_get).events ++ after) event ∙ ap (λ (w : World Kind Op Shown). happens D w event) (sym end_is)) shows.2)
+            way ∙ sym (append_assoc (played D there asks_get).events after tail) ∙ ap (λ es. ((played D there asks_get).events ++ after) ++ es) tail_is ∙ sym (append_assoc ((played D there asks_get).events ++ after) (event ∷ []) rest) ∙ ap (λ es. es ++ rest) (sym within_is) in (
+              shows.0,
+              shows.1,
+              includes within rest shows.0 way_is (happens D (at_end D members keys the_run) event)
+                  (ap (run D first) within_is ∙ pushed_run D first ((played D there asks_get).events ++ after) event ∙ ap (λ (w : World Kind Op Shown). happens D w event) (sym end_is)) shows.2,
+            )
 
     -- the reader's new operation has no result yet
     record FreshGet (op : ℕ) : Type 0 where
@@ -491,7 +494,7 @@ module _ {Kind Op Shown : Type 0} (D : Replication Kind Op Shown) (answers : Kee
     since : Appends D (moment n).events there.events
     since = (gets r n here there update get u now).since
 
-    answered_at_once : (reply : Reply Shown) → get.answer ≡ Replied reply → ((op : ℕ) → reply ≢ Reply.Pending op) → (shown : Shown) × (reply ≡ Reply.Value shown) × IncludesSeen D answers members keys steps lines last plays r n here shown
+    answered_at_once : (reply : Reply Shown) → get.answer ≡ Replied reply → ((op : ℕ) → reply ≢ Reply.Pending op) → (means : Meaning Shown) × (reply ≡ value_reply D (Some means)) × IncludesSeen D answers members keys steps lines last plays r n here means
     answered_at_once reply replied never =
         let after_it = played D there (asks_get r n here there update get u now) in
         let made = get_made r n here there update get u now reply replied in
@@ -500,11 +503,14 @@ module _ {Kind Op Shown : Type 0} (D : Replication Kind Op Shown) (answers : Kee
         let shows = theorem.at_once D members keys run_it (unchanged r n here there update get u now reply replied [] on.0 on.1) reply (replied_there r n here there update get u now reply replied [] on.0 on.1) never in
         let within = since.0 ++ event ∷ [] in
         let within_is : (moment n).events ++ within ≡ there.events ++ event ∷ [] = sym (append_assoc (moment n).events since.0 (event ∷ [])) ∙ ap (λ es. es ++ event ∷ []) (sym since.1) in
-        let way_is : (moment (suc n)).events ≡ ((moment n).events ++ within) ++ on.0 = on.1 ∙ ap (λ es. es ++ on.0) (made.events ∙ sym within_is) in
-        (shows.0, shows.1, includes r n here there update get u now reply replied [] on.0 on.1 within on.0 shows.0 way_is (happens D (at_read D members keys run_it) event)
-        (ap (run D first) within_is ∙ pushed_run D first there.events event ∙ ap (λ es. happens D (run D first es) event) (sym (until_get r n here there update get u now))) shows.2)
+        let way_is : (moment (suc n)).events ≡ ((moment n).events ++ within) ++ on.0 = on.1 ∙ ap (λ es. es ++ on.0) (made.events ∙ sym within_is) in (
+          shows.0,
+          shows.1,
+          includes r n here there update get u now reply replied [] on.0 on.1 within on.0 shows.0 way_is (happens D (at_read D members keys run_it) event)
+              (ap (run D first) within_is ∙ pushed_run D first there.events event ∙ ap (λ es. happens D (run D first es) event) (sym (until_get r n here there update get u now))) shows.2,
+        )
 
-    finished_in_its_line : (op : ℕ) (end : Finished Shown) → get.answer ≡ Replied (Reply.Pending op) → get.ended ≡ Some (Ending.Ended end) → (shown : Shown) × (end.result ≡ Result.ReadValue shown) × IncludesSeen D answers members keys steps lines last plays r n here shown
+    finished_in_its_line : (op : ℕ) (end : Finished Shown) → get.answer ≡ Replied (Reply.Pending op) → get.ended ≡ Some (Ending.Ended end) → (means : Meaning Shown) × (end.result ≡ read_result D (Some means)) × IncludesSeen D answers members keys steps lines last plays r n here means
     finished_in_its_line op end replied ended =
         let after_it = played D there (asks_get r n here there update get u now) in
         let made = get_made r n here there update get u now (Reply.Pending op) replied in
@@ -526,7 +532,7 @@ module _ {Kind Op Shown : Type 0} (D : Replication Kind Op Shown) (answers : Kee
         (subst (λ (w : World Kind Op Shown). Finishes D w found.event r.reader end) world_is found.finishes) (result_number op at.0.finished end at.2) within within_is
 
   finished_by_delivery : (r : SeenUpdate Op) (here there : Playing Kind Op Shown) (update get : Line Op Shown) (place : Place) → r.get.step < place.step → (u : IsSeenUntil D answers members keys steps lines last plays r place.step here there update get)
-      → (op : ℕ) (end : Finished Shown) → get.answer ≡ Replied (Reply.Pending op) → TellsDelivery lines place r.reader end → end.op ≡ op → (shown : Shown) × (end.result ≡ Result.ReadValue shown) × IncludesSeen D answers members keys steps lines last plays r place.step here shown
+      → (op : ℕ) (end : Finished Shown) → get.answer ≡ Replied (Reply.Pending op) → TellsDelivery lines place r.reader end → end.op ≡ op → (means : Meaning Shown) × (end.result ≡ read_result D (Some means)) × IncludesSeen D answers members keys steps lines last plays r place.step here means
   finished_by_delivery r here there update get place behind u op end replied told its =
       let m = place.step in
       let past : r.get.step ≤ m = omega (arith, behind) in

@@ -6,10 +6,11 @@
 use Rattle.std.specs.Prelude.{◌≡◌, ◌≢◌, ℕ, zero, suc, ◌<◌, List, [], ◌∷◌, ◌++◌, length, Bool, true, false, ◌==◌, filter, Option, None, Some, find, slice_get}
 use Rattle.std.specs.Str.{bytes_eq}
 use Rattle.model_history.specs.Texts.{Text}
-use Rattle.model_members.specs.DataType.{Replication}
+use Rattle.model_members.specs.DataType.{Replication, Meaning, meaning}
 use Rattle.model_members.specs.Message.{Message}
 use Rattle.model_members.specs.Node.{KeyDecl, Node, Fate, Reply, Result, Finished}
 use Rattle.model_members.specs.Node.Level.{Majority}
+use Rattle.model_members.specs.Step.{value_reply, read_result}
 use Rattle.model_members.specs.World.{Event, start, run}
 use Rattle.model_members.specs.Script.{Ask, Playing, ScriptStep, KeeperAnswers, opening}
 use Rattle.model_members.specs.Script.Answer.{Replied}
@@ -117,7 +118,7 @@ module _ {Kind Op Shown : Type 0} (D : Replication Kind Op Shown) (answers : Kee
       pub unchanged : (before (suc n)).world.view ≡ here.world.view
 
     -- this is the meaning of what the reader has of the key after an event of the step of this number, and the update's record is in it
-    pub record IncludesSeen (n : ℕ) (here : Playing Kind Op Shown) (shown : Shown) : Type 0 where
+    pub record IncludesSeen (n : ℕ) (here : Playing Kind Op Shown) (means : Meaning Shown) : Type 0 where
       pub within : List (Event Op)
       pub rest : List (Event Op)
       pub way : (before (suc n)).events ≡ ((before n).events ++ within) ++ rest
@@ -125,7 +126,7 @@ module _ {Kind Op Shown : Type 0} (D : Replication Kind Op Shown) (answers : Kee
       pub runs : (run D (start members keys) ((before n).events ++ within)).nodes r.reader ≡ Some node
       pub decl : KeyDecl Kind
       pub declared : find (λ (d : KeyDecl Kind). bytes_eq d.name r.key) keys ≡ Some decl
-      pub is : shown ≡ D.data_type.shown decl.kind (node.entries r.key).history
+      pub is : means ≡ meaning D.data_type decl.kind (node.entries r.key).history
       -- what the writer's store did at the update
       pub fate : Fate
       pub has : HasWrite D here.world (seen_write r fate) (node.entries r.key).history
@@ -133,8 +134,8 @@ module _ {Kind Op Shown : Type 0} (D : Replication Kind Op Shown) (answers : Kee
   -- WHILE MEMBERSHIP STAYS UNCHANGED, what the report tells of a majority get includes each majority update of its key whose success whoever made the get had seen: in its answer, in the end of a client's line, and in the script's own line by which its operation finished
   pub record GetsIncludeSeen : Type 0 where
     pub at_once : (r : SeenUpdate Op) (here there : Playing Kind Op Shown) (update get : Line Op Shown) → IsSeenUntil r r.get.step here there update get
-        → (reply : Reply Shown) → get.answer ≡ Replied reply → ((op : ℕ) → reply ≢ Reply.Pending op) → (shown : Shown) × (reply ≡ Reply.Value shown) × IncludesSeen r r.get.step here shown
+        → (reply : Reply Shown) → get.answer ≡ Replied reply → ((op : ℕ) → reply ≢ Reply.Pending op) → (means : Meaning Shown) × (reply ≡ value_reply D (Some means)) × IncludesSeen r r.get.step here means
     pub in_its_line : (r : SeenUpdate Op) (here there : Playing Kind Op Shown) (update get : Line Op Shown) → IsSeenUntil r r.get.step here there update get
-        → (op : ℕ) (end : Finished Shown) → get.answer ≡ Replied (Reply.Pending op) → get.ended ≡ Some (Ending.Ended end) → (shown : Shown) × (end.result ≡ Result.ReadValue shown) × IncludesSeen r r.get.step here shown
+        → (op : ℕ) (end : Finished Shown) → get.answer ≡ Replied (Reply.Pending op) → get.ended ≡ Some (Ending.Ended end) → (means : Meaning Shown) × (end.result ≡ read_result D (Some means)) × IncludesSeen r r.get.step here means
     pub by_delivery : (r : SeenUpdate Op) (here there : Playing Kind Op Shown) (update get : Line Op Shown) (place : Place) → r.get.step < place.step → IsSeenUntil r place.step here there update get
-        → (op : ℕ) (end : Finished Shown) → get.answer ≡ Replied (Reply.Pending op) → TellsDelivery lines place r.reader end → end.op ≡ op → (shown : Shown) × (end.result ≡ Result.ReadValue shown) × IncludesSeen r place.step here shown
+        → (op : ℕ) (end : Finished Shown) → get.answer ≡ Replied (Reply.Pending op) → TellsDelivery lines place r.reader end → end.op ≡ op → (means : Meaning Shown) × (end.result ≡ read_result D (Some means)) × IncludesSeen r place.step here means

@@ -13,6 +13,7 @@ ghost use Rattle.theorem_sections.specs.Queues.{sent, Waits, IsDue};
 ghost use Rattle.theorem_sections.specs.Paths.{PathsHaveSections};
 ghost use Rattle.theorem_sections.specs.Knowing.{KnownPathsArePaths};
 ghost use Rattle.theorem_sections.specs.Calls.{CallsStandOnce};
+ghost use Rattle.theorem_sections.specs.Seen.{GetsIncludeSeen};
 ghost use Rattle.theorem_sections.specs.Runs.{RunStep, IsRunStep, PlaysAll, HasReport};
 
 /// What a script with client threads plays is a run, whatever the schedule and whatever the keepers answer.
@@ -37,6 +38,17 @@ pub fn plain_scripts_have_one_report<Kind, Operation, Shown>()
 pub fn calls_stand_once<Kind, Operation, Shown>()
     ensures { (D : Replication Kind Operation Shown) (members : ℕ) (keys : List (KeyDecl Kind)) (before : Playing Kind Operation Shown) → IsRun D members keys before.events before.world
         → (clients : List (List (Command Operation))) (moves : List Move) (end : Section Kind Operation Shown) → IsSection D before clients moves end → CallsStandOnce D before clients moves end }
+{}
+
+/// The quorum theorem of a run that may have clients, by the lines of its report: while membership stays unchanged, a
+/// majority get whose answer is told includes every majority update of its key whose success whoever made the get had seen.
+/// Had seen: the update's line, or one of the script's own that told its end, is of an earlier step; or it is of an earlier
+/// command of the same client.
+pub fn gets_include_seen<Kind, Operation, Shown>()
+    ensures { (D : Replication Kind Operation Shown) (answers : KeeperAnswers) (members : ℕ) (keys : List (KeyDecl Kind)) (steps : List (RunStep Operation))
+        → 1 ≤ members → members ≤ identity_limit → AllByRecursion IsRunStep steps
+        → (lines : List (List (Line Operation Shown))) (last : Playing Kind Operation Shown) → (plays : PlaysAll D (opening answers members keys) steps lines last)
+        → GetsIncludeSeen D answers members keys steps lines last plays }
 {}
 
 /// After a section the next message of a link is the first that was not heard, where none was pending before; else it is
