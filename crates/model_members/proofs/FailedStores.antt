@@ -16,7 +16,7 @@ use Rattle.model_members.specs.Step.{step, step_of_take, answered, member_count,
 use Rattle.model_members.specs.Relations.{MayChange}
 use Rattle.model_members.proofs.Cases.{updated, updated_needing, updated_unless, counted_for}
 
-if_holds : {A : Type 0} (P : A → Type 0) (b : Bool) (x y : A) → P x → P y → P (if b then x else y)
+pub if_holds : {A : Type 0} (P : A → Type 0) (b : Bool) (x y : A) → P x → P y → P (if b then x else y)
 if_holds P true x y p q = p
 if_holds P false x y p q = q
 

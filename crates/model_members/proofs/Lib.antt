@@ -7,3 +7,4 @@ pub mod Judgements
 pub mod Unchanged
 pub mod Levels
 pub mod FailedStores
+pub mod RefusedInputs

@@ -5,6 +5,7 @@ pub mod Message
 pub mod Relations
 pub mod Node
 pub mod Step
+pub mod Refusals
 pub mod World
 pub mod Script
 pub mod Report

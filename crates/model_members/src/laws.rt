@@ -7,7 +7,8 @@ ghost use Rattle.model_history.specs.Texts.{Text};
 ghost use Rattle.model_members.specs.View.{View, is_member, leader};
 ghost use Rattle.model_members.specs.DataType.{Replication};
 ghost use Rattle.model_members.specs.Message.{Message};
-ghost use Rattle.model_members.specs.Node.{Node, Input, Level, needed};
+ghost use Rattle.model_members.specs.Node.{Node, Input, Fate, Level, needed};
+ghost use Rattle.model_members.specs.Refusals.{IsRefusal};
 ghost use Rattle.model_members.specs.Node.Fate.{StoreFailed};
 ghost use Rattle.model_members.specs.Node.Reply.{Done, Pending, NotStored, TickedNotStored};
 ghost use Rattle.model_members.specs.Step.{step, outcomes_of};
@@ -51,4 +52,15 @@ pub fn failed_stores_are_told<Kind, Operation, Shown>()
         → (step D node (Input.Install view) StoreFailed).output.reply ≡ NotStored }
     ensures tick { (D : Replication Kind Operation Shown) (node : Node Kind Operation Shown) → leader node.view ≡ node.identity
         → (step D node Input.PruneTick StoreFailed).output.reply ≡ TickedNotStored (outcomes_of D (one_step_later node)) }
+{}
+
+/// A refused input changes no entry: nothing of the member but its count of steps, and nothing is sent. That a store failed is
+/// no refusal: there the entry has changed, and is told as not stored.
+pub fn refusals_change_no_entry<Kind, Operation, Shown>()
+    ensures all { (D : Replication Kind Operation Shown) (node : Node Kind Operation Shown) (input : Input Operation) (fate : Fate)
+        → IsRefusal (step D node input fate).output.reply → (step D node input fate).node ≡ one_step_later node }
+    ensures entries { (D : Replication Kind Operation Shown) (node : Node Kind Operation Shown) (input : Input Operation) (fate : Fate)
+        → IsRefusal (step D node input fate).output.reply → (key : Text) → (step D node input fate).node.entries key ≡ node.entries key }
+    ensures silent { (D : Replication Kind Operation Shown) (node : Node Kind Operation Shown) (input : Input Operation) (fate : Fate)
+        → IsRefusal (step D node input fate).output.reply → (step D node input fate).output.posts ≡ [] }
 {}
