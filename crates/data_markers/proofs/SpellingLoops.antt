@@ -1,10 +1,11 @@
 -- Reading marks one after the other, as a loop does; and spelling them so.
-use Rattle.std.proofs.Common.{◌≡◌, ◌≢◌, lit<, OnOk, IfOk, Bor, ℕ, zero, suc, ◌+◌, ◌-◌, ◌^◌, ◌≤◌, ◌<◌, Bool, true, false, cond, List, [], ◌∷◌, ◌++◌, length, filter, Option, None, Some, Result, Ok, Err, refl, sym, ap, subst, ◌∙◌, append_assoc, arith, rules, ⊎_elim}
+use Rattle.std.proofs.Common.{◌≡◌, ◌≢◌, OnOk, IfOk, Bor, ℕ, zero, suc, ◌+◌, ◌-◌, ◌^◌, ◌≤◌, ◌<◌, Bool, true, false, cond, List, [], ◌∷◌, ◌++◌, length, filter, Option, None, Some, Result, Ok, Err, refl, sym, ap, subst, ◌∙◌, append_assoc, arith, rules, ⊎_elim}
 use Rattle.std.specs.Prelude.{filter_map, flat_map, option_map, nat_lt, ◌&&◌, ◌||◌, ◌==◌}
 use Rattle.std.specs.List.{range_with_len, cons_option}
 use Rattle.std.specs.FinMap as map
 use Rattle.std.proofs.lemmas.List.{append-nil, flat_map_more, length-append}
 use Rattle.std.proofs.lemmas.Bool.{cases_eq, cases_lt, lt-ltb, le-ltb}
+use Rattle.std.proofs.lemmas.Nat.{pow_pos}
 use Rattle.std.proofs.lemmas.List.Elements.{filter_map-append}
 use mathlib.Core.Bool.{and-false}
 use Rattle.model_history.specs.Table.{identity_limit}
@@ -168,12 +169,12 @@ filter_nothing test first (suc n) none i from below = go (test first) refl none 
     go false e none later = ⊎_elim (λ (same : i ≡ first). ap test same ∙ e) (λ (ne : i ≡ first → ⊥). later none i (omega arith) (omega arith)) (cases_eq i first)
 
 -- a number that isn't 0 is a set with a member
-pub some_member : (set : ℕ) → set < 2 ^ 64 → (set ≡ 0 → ⊥) → IsSomeSet set
+pub some_member : (set : ℕ) → set < 2 ^ identity_limit → (set ≡ 0 → ⊥) → IsSomeSet set
 unfolding member_count
 some_member set small some = record {
   bits = small;
   some = ⊎_elim (λ (l : 0 < member_count (members_in set)). l)
-      (λ (l : member_count (members_in set) ≤ 0). absurd (some (same_members 64 set 0 small (lit< tt) (λ i few. filter_nothing (members_in set) 0 64 (omega (arith, l)) i (omega arith) (omega arith) ∙ sym (members_in-zero i)))))
+      (λ (l : member_count (members_in set) ≤ 0). absurd (some (same_members identity_limit set 0 small (pow_pos identity_limit) (λ i few. filter_nothing (members_in set) 0 identity_limit (omega (arith, l)) i (omega arith) (omega arith) ∙ sym (members_in-zero i)))))
       (cases_lt 0 (member_count (members_in set)));
 }
 

@@ -90,7 +90,7 @@ all_put marks (mark ∷ more) = all_put (map.insert marks mark.0 mark.1) more
 abbrev pub put_by : Marks → Result (List (ℕ × Marker) × List ℕ) Fault → Result (Marks × List ℕ) Fault
 put_by marks read = read >>= λ found. Ok (all_put marks found.0, found.1)
 
--- the number of marks, at most 64, and the marks
+-- the number of marks, which all identities may have, and the marks
 unfoldable pub marks_in : List ℕ → Result (Marks × List ℕ) Fault
 marks_in bytes = do
   count ← byte_in bytes
