@@ -1,4 +1,4 @@
--- In every run, records and views are few enough to be told by numbers of eight and four bytes: each member makes at most 16,384 steps, with at most 64 records of a key in each, and there are at most 128 views.
+-- In every run, records and views are few enough to be told by numbers of eight and four bytes: each member makes at most 16,384 steps, in each of which it makes at most as many records of a key as there are identities, and each identity is given and removed at most once.
 use Rattle.std.proofs.Common.{◌≡◌, ◌≢◌, ℕ, ◌+◌, ◌*◌, ◌≤◌, List, [], ◌∷◌, ◌++◌, length, map, refl, sym, ap, subst, ◌∙◌, arith, Bool, true, false, Option, Some, None, inl, inr, append_assoc, length-append}
 use Rattle.std.specs.Prelude.{if◌then◌else◌, filter, not, ◌==◌, ◌||◌, nat_lt}
 use Rattle.std.specs.List.{list_any}
@@ -30,10 +30,14 @@ use Rattle.theorem_operations.proofs.Moments.{view_stays, lawful_first, lawful_r
 use Rattle.theorem_operations.proofs.Operations.{step_tells}
 use Rattle.theorem_digests.proofs.OwnRecords.{own_after, filter_le}
 
+-- the most records that an identity makes of a key
+abbrev pub most_records : ℕ
+most_records = identity_limit * 16384
+
 -- an entry with few records and marks of early views
 pub record IsSmall {Op : Type 0} (entry : Entry Op) : Type 0 where
-  pub records : (i : ℕ) → at entry.history i ≤ 1048576
-  pub views : (r : ℕ) (mark : Mark) → entry.marks r ≡ Some mark → mark.view ≤ 128
+  pub records : (i : ℕ) → at entry.history i ≤ most_records
+  pub views : (r : ℕ) (mark : Mark) → entry.marks r ≡ Some mark → mark.view ≤ 2 * identity_limit
 
 -- VIEWS
 
@@ -107,8 +111,8 @@ module _ {Kind Op Shown : Type 0} (D : Replication Kind Op Shown) where
   record AreFew (variables : HistoryVariables Op) (world : World Kind Op Shown) : Type 0 where
     views : AreFewViews world.view
     steps : AreWithin world.nodes
-    own : (key : Text) (t : ℕ) (node : Node Kind Op Shown) → world.nodes t ≡ Some node → at (node.entries key).history t ≤ 64 * node.steps
-    made : (key : Text) (i : ℕ) → at (variables.made key) i ≤ 1048576
+    own : (key : Text) (t : ℕ) (node : Node Kind Op Shown) → world.nodes t ≡ Some node → at (node.entries key).history t ≤ identity_limit * node.steps
+    made : (key : Text) (i : ℕ) → at (variables.made key) i ≤ most_records
 
   module _ (variables : HistoryVariables Op) (world : World Kind Op Shown) (safe : IsSafe D variables world) (event : Event Op) (lawful : IsLawful D world event) (few : AreFew variables world) where
     abbrev next : World Kind Op Shown
@@ -120,22 +124,22 @@ module _ {Kind Op Shown : Type 0} (D : Replication Kind Op Shown) where
         let last = world.view in
         event_follows D world (λ t m. views.below last.number last t views.listed m) (views.rising last.number last views.listed) event lawful
 
-    own_then : (key : Text) (t : ℕ) (new : Node Kind Op Shown) → NodeAfter D world next t new → at (new.entries key).history t ≤ 64 * new.steps
+    own_then : (key : Text) (t : ℕ) (new : Node Kind Op Shown) → NodeAfter D world next t new → at (new.entries key).history t ≤ identity_limit * new.steps
     own_then key t new (Same was stays) = few.own key t new was
     own_then key t new (Stepped old input fate was comes is same_view) =
         let well = safe.views.running t old was in
         let views = safe.views.views in
-        let given : old.view.given ≤ 64 = (
+        let given : old.view.given ≤ identity_limit = (
         let a = views.given old.view.number world.view.number old.view world.view (at_most_last (views_of world) world.view views old.view.number old.view well.viewed) well.viewed views.listed in
-        let b : world.view.given ≤ 64 = safe.logs.few in omega arith) in
-        let a = (own_after D t (λ k. 64 * old.steps) old input fate given (record { identity = well.identity; own = λ k. few.own k t old was })).own key in
+        let b : world.view.given ≤ identity_limit = safe.logs.few in omega arith) in
+        let a = (own_after D t (λ k. identity_limit * old.steps) old input fate given (record { identity = well.identity; own = λ k. few.own k t old was })).own key in
         let b : at (new.entries key).history t ≡ at ((step D old input fate).node.entries key).history t = ap (λ (n : Node Kind Op Shown). at (n.entries key).history t) is in
         let c : new.steps ≡ (step D old input fate).node.steps = ap (λ (n : Node Kind Op Shown). n.steps) is in
         let d = (step_tells D old input fate).steps in
         omega arith
     own_then key t new (Started store is given member made from) = by_load (loaded_from D variables world next safe.views follows t new store given made from key)
       where
-        by_load : LoadedFrom D world next t key (new.entries key) → at (new.entries key).history t ≤ 64 * new.steps
+        by_load : LoadedFrom D world next t key (new.entries key) → at (new.entries key).history t ≤ identity_limit * new.steps
         by_load (LoadedEmpty empty none) = let a : at (new.entries key).history t ≡ 0 = ap (λ (e : Entry Op). at e.history t) empty in omega arith
         by_load (LoadedStored j node stored was durable place there loaded) =
             let a : at (new.entries key).history t ≡ at stored.history t = ap (λ (e : Entry Op). at e.history t) loaded in
@@ -143,7 +147,7 @@ module _ {Kind Op Shown : Type 0} (D : Replication Kind Op Shown) where
             let c = safe.logs.fresh key t (let h = is in omega arith) in
             omega arith
 
-    made_then : (key : Text) (i : ℕ) (o : Option (Node Kind Op Shown)) → next.nodes i ≡ o → length (own_records o key i (variables.made key i)) ≤ 1048576
+    made_then : (key : Text) (i : ℕ) (o : Option (Node Kind Op Shown)) → next.nodes i ≡ o → length (own_records o key i (variables.made key i)) ≤ most_records
     made_then key i None runs = few.made key i
     made_then key i (Some node) runs =
         let a = own_then key i node (follows.nodes i node runs) in
@@ -179,7 +183,7 @@ module _ {Kind Op Shown : Type 0} (D : Replication Kind Op Shown) where
         by_test t true node e = fresh _ node refl e
         by_test t false node e = absurd (cc e)
 
-        made_first : (key : Text) (i : ℕ) (o : Option (Node Kind Op Shown)) → first.nodes i ≡ o → length (own_records o key i []) ≤ 1048576
+        made_first : (key : Text) (i : ℕ) (o : Option (Node Kind Op Shown)) → first.nodes i ≡ o → length (own_records o key i []) ≤ most_records
         made_first key i None runs = omega arith
         made_first key i (Some node) runs = let a = none_held key i node runs in omega arith
 
@@ -213,6 +217,6 @@ module _ {Kind Op Shown : Type 0} (D : Replication Kind Op Shown) where
             let gone = (safe.marks.held t node key runs).gone r mark e in
             let a = at_most_last (views_of world) world.view safe.views.views mark.view gone.view gone.listed in
             let b = few.views in
-            let c : world.view.given ≤ 64 = safe.logs.few in
+            let c : world.view.given ≤ identity_limit = safe.logs.few in
             omega arith;
       }

@@ -7,6 +7,7 @@ use Rattle.std.proofs.lemmas.Bool.{ltb-false}
 use Rattle.std.proofs.lemmas.Bool.Decides.{eqb_tells}
 use Rattle.std.proofs.lemmas.List.FromFn.{length-range_with_len}
 use Rattle.model_history.specs.Texts.{Text}
+use Rattle.model_history.specs.Table.{identity_limit}
 use Rattle.model_history.specs.History.{Action, Record, History, at, versions, is_pruned, with_record}
 use Rattle.model_history.proofs.HistoryLaws.{with_at_same, with_at_other, at-union}
 use Rattle.model_meanings.specs.Refusal.{Refusal, Shares}
@@ -210,20 +211,20 @@ module _ {Kind Op Shown : Type 0} (D : Replication Kind Op Shown) (i : ℕ) wher
 
     -- EACH INPUT
 
-    up_to : (n : ℕ) (node : Node Kind Op Shown) → n ≤ 64 → HasAtMost (λ key. most key + n) node → HasAtMost (λ key. most key + 64) node
+    up_to : (n : ℕ) (node : Node Kind Op Shown) → n ≤ identity_limit → HasAtMost (λ key. most key + n) node → HasAtMost (λ key. most key + identity_limit) node
     up_to n node le has = record { identity = has.identity; own = λ key. let a = has.own key in omega arith }
 
-    has_step_of : (node : Node Kind Op Shown) (input : Input Op) (fate : Fate) → node.view.given ≤ 64 → HasAtMost most node → HasAtMost (λ key. most key + 64) (step_of D node input fate).node
+    has_step_of : (node : Node Kind Op Shown) (input : Input Op) (fate : Fate) → node.view.given ≤ identity_limit → HasAtMost most node → HasAtMost (λ key. most key + identity_limit) (step_of D node input fate).node
     has_step_of node (Update key op level) fate given has = up_to 1 _ (omega arith) (has_updated node key (key_state node key) refl op level fate has)
-    has_step_of node (Get key level) fate given has = plus 64 most _ (has_got most node (key_state node key) level has)
-    has_step_of node (Take from message) fate given has = plus 64 most _ (if_holds (λ (s : Stepped Kind Op Shown). HasAtMost most s.node) (is_member node.view from) _ _ (has_taken most node from fate message has) has)
-    has_step_of node (Install view) fate given has = plus 64 most _ (if_holds (λ (s : Stepped Kind Op Shown). HasAtMost most s.node) (nat_le view.number node.view.number) _ _ has (record { identity = has.identity; own = has.own }))
+    has_step_of node (Get key level) fate given has = plus identity_limit most _ (has_got most node (key_state node key) level has)
+    has_step_of node (Take from message) fate given has = plus identity_limit most _ (if_holds (λ (s : Stepped Kind Op Shown). HasAtMost most s.node) (is_member node.view from) _ _ (has_taken most node from fate message has) has)
+    has_step_of node (Install view) fate given has = plus identity_limit most _ (if_holds (λ (s : Stepped Kind Op Shown). HasAtMost most s.node) (nat_le view.number node.view.number) _ _ has (record { identity = has.identity; own = has.own }))
     has_step_of node Flush fate given has = record { identity = has.identity; own = λ key. let a = has.own key in omega arith }
-    has_step_of node (GossipTo j) fate given has = plus 64 most _ (if_holds (λ (s : Stepped Kind Op Shown). HasAtMost most s.node) ((j == node.identity) || not (is_member node.view j)) _ _ has has)
+    has_step_of node (GossipTo j) fate given has = plus identity_limit most _ (if_holds (λ (s : Stepped Kind Op Shown). HasAtMost most s.node) ((j == node.identity) || not (is_member node.view j)) _ _ has has)
     has_step_of node PruneTick fate given has = up_to node.view.given _ given (has_ticked node fate has)
     has_step_of node (Timeout op) fate given has =
-        plus 64 most _ (if_holds (λ (s : Stepped Kind Op Shown). HasAtMost most s.node) (list_any (λ (o : OpenOperation). o.op == op) node.open_operations) _ _ (record { identity = has.identity; own = has.own }) has)
+        plus identity_limit most _ (if_holds (λ (s : Stepped Kind Op Shown). HasAtMost most s.node) (list_any (λ (o : OpenOperation). o.op == op) node.open_operations) _ _ (record { identity = has.identity; own = has.own }) has)
 
-  -- a step makes at most 64 own records of a key
-  pub own_after : (most : Text → ℕ) (node : Node Kind Op Shown) (input : Input Op) (fate : Fate) → node.view.given ≤ 64 → HasAtMost most node → HasAtMost (λ key. most key + 64) (step D node input fate).node
+  -- a step makes at most as many own records of a key as there are identities
+  pub own_after : (most : Text → ℕ) (node : Node Kind Op Shown) (input : Input Op) (fate : Fate) → node.view.given ≤ identity_limit → HasAtMost most node → HasAtMost (λ key. most key + identity_limit) (step D node input fate).node
   own_after most node input fate given has = has_step_of most _ input fate given (record { identity = has.identity; own = has.own })

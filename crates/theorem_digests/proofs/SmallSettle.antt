@@ -30,7 +30,7 @@ blocked_stays kind owner r other entry apart blocked = absurd (cc blocked)
 
 digests_tell : DigestsTellUntil spelled_whole none_fails 3 small_keys left_and_settled 4
 digests_tell =
-    spelled_whole_tell spelled_whole (λ kind. 1) (λ kind H. []) refl 3 small_keys (before_step spelled_whole none_fails 3 small_keys left_and_settled 5).events (before_step spelled_whole none_fails 3 small_keys left_and_settled 5).world
+    spelled_whole_tell spelled_whole (λ kind H. 1) (λ kind H. []) refl 3 small_keys (before_step spelled_whole none_fails 3 small_keys left_and_settled 5).events (before_step spelled_whole none_fails 3 small_keys left_and_settled 5).world
     (run_at spelled_whole none_fails 3 small_keys left_and_settled (omega arith) (omega arith) (tt, (tt, (tt, (tt, (tt, tt))))) 5)
 
 has_pruned : HasPruned

@@ -88,7 +88,7 @@ module _ {Op : Type 0} where
   few_left : (entry : Entry Op) → IsHeld entry → (i : ℕ) → without (is_pruned entry.history) (versions entry.history) i < 2 ^ 64
   few_left entry held i = if_holds (λ (n : ℕ). n < 2 ^ 64) (is_pruned entry.history i) 0 (at entry.history i) (omega arith) (let few = held.small.records i in omega arith)
 
-  spelling_tells : {Kind : Type 0} (byte_of : Kind → ℕ) (history_spelled : Kind → History Op → List ℕ) (kind : Kind) (a b : Entry Op) → IsHeld a → IsHeld b → entry_spelled byte_of history_spelled kind a ≡ entry_spelled byte_of history_spelled kind b
+  spelling_tells : {Kind : Type 0} (byte_of : Kind → History Op → ℕ) (history_spelled : Kind → History Op → List ℕ) (kind : Kind) (a b : Entry Op) → IsHeld a → IsHeld b → entry_spelled byte_of history_spelled kind a ≡ entry_spelled byte_of history_spelled kind b
       → (i : ℕ) → i < identity_limit → (at a.history i ≡ at b.history i) × AreSameMark (a.marks i) (b.marks i)
   unfolding entry_spelled
   spelling_tells byte_of history_spelled kind a b ha hb e i l =
@@ -104,7 +104,7 @@ module _ {Op : Type 0} where
 
 -- IN A RUN
 
-module _ {Kind Op Shown : Type 0} (D : Replication Kind Op Shown) (byte_of : Kind → ℕ) (history_spelled : Kind → History Op → List ℕ) (members : ℕ) (keys : List (KeyDecl Kind)) (events : List (Event Op)) (world : World Kind Op Shown) (is_run : IsRun D members keys events world) where
+module _ {Kind Op Shown : Type 0} (D : Replication Kind Op Shown) (byte_of : Kind → History Op → ℕ) (history_spelled : Kind → History Op → List ℕ) (members : ℕ) (keys : List (KeyDecl Kind)) (events : List (Event Op)) (world : World Kind Op Shown) (is_run : IsRun D members keys events world) where
   held : (i : ℕ) (node : Node Kind Op Shown) (key : Text) → world.nodes i ≡ Some node → IsHeld (node.entries key)
   held i node key runs =
       let safe = runs_are_safe D members keys events world is_run in

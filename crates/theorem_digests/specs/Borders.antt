@@ -15,7 +15,7 @@ use Rattle.data_codec.specs.Entries.{entry_spelled}
 
 -- one key, of which nothing but marks and numbers of records is spelled
 abbrev pub spelled_whole : Replication (Unit {0}) (Unit {0}) ℕ
-spelled_whole = record small { digest = entry_spelled (λ kind. 1) (λ kind H. []) }
+spelled_whole = record small { digest = entry_spelled (λ kind H. 1) (λ kind H. []) }
 
 -- of three members, the last writes, tells the first, and is removed; then the others settle
 abbrev pub left_and_settled : List (ScriptStep (Unit {0}))

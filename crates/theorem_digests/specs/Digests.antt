@@ -13,7 +13,7 @@ use Rattle.theorem_settling.specs.Scripts.{SettlesAgree}
 use Rattle.data_codec.specs.Entries.{entry_spelled}
 use Rattle.sha1.specs.Sha1.{sha1}
 
-module _ {Kind Op Shown : Type 0} (D : Replication Kind Op Shown) (byte_of : Kind → ℕ) (history_spelled : Kind → History Op → List ℕ) where
+module _ {Kind Op Shown : Type 0} (D : Replication Kind Op Shown) (byte_of : Kind → History Op → ℕ) (history_spelled : Kind → History Op → List ℕ) where
   -- what a member spells of a key
   abbrev pub spelling_of : Node Kind Op Shown → KeyDecl Kind → List ℕ
   spelling_of node decl = entry_spelled byte_of history_spelled decl.kind (node.entries decl.name)
