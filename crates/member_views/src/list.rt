@@ -20,7 +20,7 @@ pub enum ViewError {
     /// A member of the last view runs at the place.
     #[error("the place is taken")]
     PlaceTaken,
-    /// All 64 identities are given.
+    /// All 255 identities are given.
     #[error("too many identities")]
     TooManyIdentities,
     /// The identity is the only member of the last view.

@@ -30,7 +30,7 @@ impl Model for Member {
 
 /// A view: its number, how many identities were given so far, and its members.
 ///
-/// It has a member. The identities of its members rise and were given, and their places are below 8 and differ. At most 64
+/// It has a member. The identities of its members rise and were given, and their places are below 8 and differ. At most 255
 /// identities are given.
 #[derive(Drop)]
 pub struct View {
