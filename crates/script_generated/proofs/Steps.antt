@@ -2,6 +2,7 @@
 use Rattle.std.proofs.Common.{◌≡◌, ℕ, zero, suc, ◌+◌, ◌-◌, ◌*◌, ◌%◌, ◌^◌, ◌<◌, ◌≤◌, ◌==◌, Bool, true, false, cond, nat_le, List, [], ◌∷◌, ◌++◌, length, map, codes, decimal, Ok, refl, arith, le-leb}
 use Rattle.std.specs.Str.{IsUtf8}
 use Rattle.std.specs.List.{range_with_len}
+use Rattle.model_history.specs.Table.{identity_limit}
 use Rattle.model_kinds.specs.declared.operation.Op.TheVariants as op
 use Rattle.script_reading.specs.declared.ask.Ask.TheVariants.{Flush, Gossip}
 use Rattle.script_reading.specs.declared.clients.Clients.{Clients}
@@ -29,12 +30,12 @@ pub record IsSaid (s : RunStep) : Type 0 where
 abbrev AreSaid : Step → Type 0
 AreSaid step = IsSaid (Plain step)
 
-module _ (at : ℕ) (small : at ≤ 63) where
+module _ (at : ℕ) (small : at ≤ identity_limit - 1) where
   at_written : IsWritten 0 (whole at)
   at_written = whole_written 0 at (omega arith)
 
-  at_is : (nat_le 0 at ≡ true) × (nat_le at 63 ≡ true)
-  at_is = (le-leb 0 at (omega arith), le-leb at 63 small)
+  at_is : (nat_le 0 at ≡ true) × (nat_le at (identity_limit - 1) ≡ true)
+  at_is = (le-leb 0 at (omega arith), le-leb at (identity_limit - 1) small)
 
   increment_said : (by : ℕ) → 1 ≤ by → by ≤ 4094 → AreSaid (own_update at (codes "hits") (op.Increment by))
   unfolding step_of form_of plain_of update_of op_of level_of
@@ -106,11 +107,11 @@ module _ (at : ℕ) (small : at ≤ 63) where
     plain = tt;
   }
 
-  gossip_said : (to : ℕ) → to ≤ 63 → AreSaid (Ask at (Gossip to))
+  gossip_said : (to : ℕ) → to ≤ identity_limit - 1 → AreSaid (Ask at (Gossip to))
   unfolding step_of form_of plain_of gossip_of
   gossip_said to to_small =
       let to_low : nat_le 0 to ≡ true = le-leb 0 to (omega arith) in
-      let to_high : nat_le to 63 ≡ true = le-leb to 63 to_small in
+      let to_high : nat_le to (identity_limit - 1) ≡ true = le-leb to (identity_limit - 1) to_small in
       record {
         written = fields_written 0 (step_members (Plain (Ask at (Gossip to)))) (at_written, (ascii_written 0 _ refl, (whole_written 0 to (omega arith), tt))) refl refl;
         reads = λ clients number. simp (at_is.0, at_is.1, to_low, to_high);
@@ -137,7 +138,7 @@ either false s t h k = k
 step_said : (i : ℕ) → 1 ≤ i → i ≤ 4094 → IsSaid (generated_step i)
 unfolding generated_step
 step_said i low high =
-    let a : i % 5 ≤ 63 = omega arith in
+    let a : i % 5 ≤ identity_limit - 1 = omega arith in
     let k : i % 40 < 40 = omega arith in
     let j : (7 * i + 7) % 40 < 40 = omega arith in
     either (i % 8 == 1) _ _ (increment_said (i % 5) a i low high)

@@ -1,6 +1,7 @@
 -- Reading the fields of a JSON value: what stands there, or the rule that is broken.
 use Rattle.std.specs.Prelude.{◌≡◌, ℕ, ◌+◌, ◌-◌, ◌^◌, ◌==◌, List, length, Bool, true, false, ◌&&◌, ◌||◌, nat_le, if◌then◌else◌, Option, Some, None, option_and_then, is_some, Result, Ok, Err, ⊤}
 use Rattle.std.specs.List.{list_all, count_by}
+use Rattle.model_history.specs.Table.{identity_limit}
 use Rattle.serde_json.specs.Data.{Data, Items, no_items, item, Members}
 use Rattle.serde_json.specs.Find.{get, as_number, as_u64, as_bool, as_str, as_array, as_object}
 use Rattle.serde_json.specs.Events.{items_len, members_len}
@@ -36,7 +37,7 @@ whole_of rule low high field = within rule low high (option_and_then as_u64 (opt
 
 -- the identity of a member
 abbrev pub identity_of : ℕ → Option Data → Result ℕ Rule
-identity_of step = whole_of (rule step 7) 0 63
+identity_of step = whole_of (rule step 7) 0 (identity_limit - 1)
 
 -- the place of a member
 abbrev pub place_of : ℕ → Option Data → Result ℕ Rule

@@ -1,5 +1,6 @@
 -- The bounds that every script keeps.
 use Rattle.std.specs.Prelude.{◌≢◌, ℕ, ◌-◌, ◌^◌, ◌<◌, ◌≤◌, List, length, All, AllPairs, ⊤}
+use Rattle.model_history.specs.Table.{identity_limit}
 use Rattle.model_kinds.specs.declared.operation.Op.{Op}
 use Rattle.model_kinds.specs.declared.operation.Op.TheVariants.{Increment, Decrement, Add, Remove, Enable, Assign}
 use Rattle.member_quorum.specs.declared.level.Level.{Level}
@@ -45,9 +46,9 @@ IsLevel (level.To number) = (1 ≤ number) × (number ≤ 64)
 IsLevel (level.Majority cap) = cap ≤ 64
 IsLevel level.All = ⊤
 
--- there are 64 identities
+-- there are 255 identities
 abbrev pub IsIdentity : ℕ → Type 0
-IsIdentity i = i < 64
+IsIdentity i = i < identity_limit
 
 -- there are eight places
 abbrev pub IsPlace : ℕ → Type 0

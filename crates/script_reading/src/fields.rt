@@ -8,7 +8,7 @@ ghost use Rattle.script_reading.specs.WellFormed.{IsIdentity, IsPlace, IsAmount,
 
 use crate::fault::Rule;
 use base_bytes::Text;
-use base_vectors::Id;
+use base_vectors::{IDENTITIES, Id};
 use model_kinds::Moment;
 use serde_json::Value;
 
@@ -19,7 +19,7 @@ pub const MOST_ADDED: u64 = 0x7fff_ffff_ffff_ffff;
 pub const LAST_MOMENT: u64 = 0x7fff_ffff_ffff_ffff;
 
 /// The greatest identity.
-pub const LAST_IDENTITY: u64 = 63;
+pub const LAST_IDENTITY: u64 = IDENTITIES as u64 - 1;
 
 /// The last place.
 pub const LAST_PLACE: u64 = 7;

@@ -29,8 +29,8 @@ const REFUSED: &str = r#"6: {"do":"threads"}
 13: {"do":"threads","clients":[[{"do":"update","op":"set","at":0,"key":"n"}]]}
 13: {"do":"threads","clients":[[{"do":"flush"}]]}
 13: {"do":"threads","clients":[[{"do":"flush","at":0,"to":1}]]}
-13: {"do":"threads","clients":[[{"do":"flush","at":64}]]}
-13: {"do":"threads","clients":[[{"do":"gossip","at":0,"to":64}]]}
+13: {"do":"threads","clients":[[{"do":"flush","at":255}]]}
+13: {"do":"threads","clients":[[{"do":"gossip","at":0,"to":255}]]}
 13: {"do":"threads","clients":[[{"do":"install","at":0,"view":4294967296}]]}
 13: {"do":"threads","clients":[[{"do":"get","at":0,"key":"N"}]]}
 13: {"do":"threads","clients":[[{"do":"update","op":"add","at":0,"key":"n","element":7}]]}
@@ -48,7 +48,7 @@ const REFUSED: &str = r#"6: {"do":"threads"}
 
 // A command as it is read, before the command.
 const COMMANDS: &str =
-    r#"update 63 n increment 9223372036854775807 times 1: {"at":63,"by":9223372036854775807,"do":"update","key":"n","op":"increment"}
+    r#"update 254 n increment 9223372036854775807 times 1: {"at":254,"by":9223372036854775807,"do":"update","key":"n","op":"increment"}
 update 0 n add a majority 2 times 1024: {"at":0,"do":"update","element":"a","key":"n","level":{"majority":2},"op":"add","times":1024}
 update 0 n enable times 2: {"at":0,"do":"update","key":"n","op":"enable","times":2}
 update 0 n assign a now 7 times 1: {"at":0,"do":"update","key":"n","now":7,"op":"assign","text":"a","times":1}

@@ -38,47 +38,47 @@ step 0 rule 4: {"members":1,"keys":[{"key":"a","kind":"gcounter"}],"steps":[{},7
 const STEPS: &str = r#"step 1 rule 5: {}
 step 1 rule 5: {"do":7}
 step 1 rule 5: {"do":"settled"}
-step 1 rule 5: {"do":"update","at":64}
+step 1 rule 5: {"do":"update","at":255}
 step 1 rule 5: {"do":"update","op":"set"}
 step 1 rule 5: {"do":"update","op":["add"],"element":7}
 step 1 rule 5: {"do":"update","op":"set","level":null}
 step 1 rule 5: {"do":"thread","clients":[]}
 step 2 rule 6: {"do":"round"},{"do":"round","at":0}
-step 1 rule 6: {"do":"get","at":64}
-step 1 rule 6: {"do":"get","at":64,"level":null}
+step 1 rule 6: {"do":"get","at":255}
+step 1 rule 6: {"do":"get","at":255,"level":null}
 step 1 rule 6: {"do":"flush","at":0,"level":"local"}
-step 1 rule 6: {"do":"timeout","at":64}
+step 1 rule 6: {"do":"timeout","at":255}
 step 1 rule 6: {"do":"timeout","op":0}
 step 1 rule 6: {"do":"timeout","at":0,"op":0,"key":"n"}
 step 1 rule 6: {"do":"gossip","at":0}
 step 1 rule 6: {"do":"lose","from":0,"to":1,"index":0}
-step 1 rule 6: {"do":"tick","at":64,"to":0}
+step 1 rule 6: {"do":"tick","at":255,"to":0}
 step 1 rule 6: {"do":"remove","at":0}
 step 1 rule 6: {"do":"join","place":8,"id":0}
 step 1 rule 6: {"do":"restart","place":0}
-step 1 rule 6: {"do":"install","at":64}
+step 1 rule 6: {"do":"install","at":255}
 step 1 rule 6: {"do":"settle","at":0}
 step 1 rule 6: {"do":"update","op":"enable","at":0,"key":"n","by":1}
 step 1 rule 6: {"do":"update","op":"decrement","at":0,"key":"n","element":"a"}
-step 1 rule 6: {"do":"update","op":"assign","at":64,"key":"n","text":7}
+step 1 rule 6: {"do":"update","op":"assign","at":255,"key":"n","text":7}
 step 1 rule 6: {"do":"update","op":"add","at":0,"key":"n","element":"a","levels":"all"}
-step 1 rule 7: {"do":"get","at":64,"key":""},{}
+step 1 rule 7: {"do":"get","at":255,"key":""},{}
 step 1 rule 7: {"do":"flush","at":-1}
 step 1 rule 7: {"do":"flush","at":1.0}
 step 1 rule 7: {"do":"flush","at":1e0}
 step 1 rule 7: {"do":"deliver","from":0,"to":1,"index":null}
 step 1 rule 7: {"do":"deliver","from":0,"to":1,"index":4294967296}
-step 1 rule 7: {"do":"deliver","from":64,"to":1}
-step 1 rule 7: {"do":"lose","from":0,"to":64}
-step 1 rule 7: {"do":"gossip","at":0,"to":64}
-step 1 rule 7: {"do":"tick","at":64}
-step 1 rule 7: {"do":"remove","id":64}
+step 1 rule 7: {"do":"deliver","from":255,"to":1}
+step 1 rule 7: {"do":"lose","from":0,"to":255}
+step 1 rule 7: {"do":"gossip","at":0,"to":255}
+step 1 rule 7: {"do":"tick","at":255}
+step 1 rule 7: {"do":"remove","id":255}
 step 1 rule 7: {"do":"join","place":8}
 step 1 rule 7: {"do":"restart","id":null}
-step 1 rule 7: {"do":"install","at":64,"view":0}
+step 1 rule 7: {"do":"install","at":255,"view":0}
 step 1 rule 7: {"do":"install","at":0,"view":4294967296}
-step 1 rule 7: {"do":"update","op":"enable","at":64,"key":"n","level":null}
-step 1 rule 7: {"do":"timeout","at":64,"op":0}
+step 1 rule 7: {"do":"update","op":"enable","at":255,"key":"n","level":null}
+step 1 rule 7: {"do":"timeout","at":255,"op":0}
 step 1 rule 7: {"do":"timeout","at":0,"op":4294967296}
 step 1 rule 7: {"do":"timeout","at":0,"op":null}
 step 1 rule 7: {"do":"timeout","at":0,"op":-1}
@@ -134,7 +134,7 @@ step 2 rule 14: {"do":"round"},{"do":"threads","clients":[[{"do":"get","at":0,"k
 
 // A step as it is read, before the step.
 const FORMS: &str =
-    r#"update 63 n increment 9223372036854775807: {"at":63,"by":9223372036854775807,"do":"update","key":"n","op":"increment"}
+    r#"update 254 n increment 9223372036854775807: {"at":254,"by":9223372036854775807,"do":"update","key":"n","op":"increment"}
 update 0 n decrement 1: {"at":0,"by":1,"do":"update","key":"n","op":"decrement"}
 update 0 n add 0123456789abcdef0123456789abcdef0123456789abcdef0123456789abcdef: {"at":0,"do":"update","element":"0123456789abcdef0123456789abcdef0123456789abcdef0123456789abcdef","key":"n","op":"add"}
 update 0 n remove é "x": {"at":0,"do":"update","element":"\u00e9 \"x\"","key":"n","op":"remove"}
@@ -161,9 +161,9 @@ deliver 2 1 index 4294967295: {"do":"deliver","from":2,"index":4294967295,"to":1
 lose 1 2: {"do":"lose","from":1,"to":2}
 round: {"do":"round"}
 tick 1: {"at":1,"do":"tick"}
-timeout 63 0: {"at":63,"do":"timeout","op":0}
+timeout 254 0: {"at":254,"do":"timeout","op":0}
 timeout 0 4294967295: {"at":0,"do":"timeout","op":4294967295}
-remove 63: {"do":"remove","id":63}
+remove 254: {"do":"remove","id":254}
 join 7: {"do":"join","place":7}
 restart 0: {"do":"restart","id":0}
 install 1 4294967295: {"at":1,"do":"install","view":4294967295}

@@ -82,8 +82,9 @@ fn vectors_are_compared(rt: HostRuntime) -> Result<(), Fail> {
 
 #[test]
 fn sets_are_united(rt: HostRuntime) -> Result<(), Fail> {
-    let (zero, one, _) = identities().ok_or("identities")?;
-    let set = IdSet::empty().with(one).union(IdSet::empty().with(zero));
-    assert_eq!(rt; (set.has(one), set.len()), (true, 2));
+    let (zero, one, last) = identities().ok_or("identities")?;
+    let ends = IdSet::empty().with(zero).with(last);
+    let set = IdSet::empty().with(one).union(ends);
+    assert_eq!(rt; (set.has(one), set.has(last), set.len()), (true, true, 3));
     Ok(())
 }

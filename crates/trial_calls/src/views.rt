@@ -123,7 +123,7 @@ fn check_refused_of_one(rt: &impl Abort, list: &mut ViewList) -> Result<(), Fail
 
 /// The only member gives way to the next identity, until all are given.
 fn check_all_replaced(rt: &impl Abort, list: &mut ViewList) -> Result<(), Fail> {
-    for number in 0..63 {
+    for number in 0..254 {
         let old = id(number)?;
         let new = id(number + 1)?;
         assert_eq!(rt; list.replace(old), Ok((new, u32::from(number) + 1)));
@@ -134,7 +134,7 @@ fn check_all_replaced(rt: &impl Abort, list: &mut ViewList) -> Result<(), Fail> 
 /// A list in which all identities are given, and the last is the only member, is not changed.
 fn check_refused_of_last(rt: &impl Abort, list: &mut ViewList) -> Result<(), Fail> {
     let first = id(0)?;
-    let last = id(63)?;
+    let last = id(254)?;
     let refused = [
         list.replace(first).err(),
         list.replace(last).err(),
@@ -148,7 +148,7 @@ fn check_refused_of_last(rt: &impl Abort, list: &mut ViewList) -> Result<(), Fai
             Some(ViewError::TooManyIdentities),
         ]
     );
-    assert_eq!(rt; list.last().number(), 63);
+    assert_eq!(rt; list.last().number(), 254);
     Ok(())
 }
 

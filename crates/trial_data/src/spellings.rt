@@ -13,14 +13,14 @@ const READS: usize = 255;
 
 // Each row in hexadecimal: a place, which is a byte, and bytes that break a rule of spellings there. They were made by hand.
 
-/// Counts above 64, identities that fall, a mark that nobody has seen, a mark that 65 have seen, of whom the last is none, and
-/// a version of a pruned identity.
+/// A mark of identity 255, a version of it, identities that fall, a mark that nobody has seen, a mark that two have seen, of
+/// whom the last is identity 255, and a version of a pruned identity.
 const BAD_HEADS: [&str; 6] = [
-    "02010141",
-    "0301010041",
+    "03010101ff00000000000100",
+    "0401010001ff0000000000000001",
     "0d0101000205000000000000000103000000000000000100",
     "0a0101010200000000010000",
-    "4b0101010200000000010041000102030405060708090a0b0c0d0e0f101112131415161718191a1b1c1d1e1f202122232425262728292a2b2c2d2e2f303132333435363738393a3b3c3d3e3f40",
+    "0c0101010200000000010200ff",
     "170101010201000000000000000001000000000000000101020000000000000001",
 ];
 
@@ -40,21 +40,21 @@ const BAD_TEXTS: [&str; 6] = [
     "0d01030000ffffffffffffffff00",
 ];
 
-/// Sets with removes: an element without a dot, an identity above 63, the numbers 0 and `2^62 + 1`, an identity that falls,
+/// Sets with removes: an element without a dot, the identity 255, the numbers 0 and `2^62 + 1`, an identity that falls,
 /// and a number that doesn't rise.
 const BAD_DOTS: [&str; 6] = [
     "0e01040000000000000000000101610000000000000000",
-    "1601040000000000000000000101610000000000000001400000000000000001",
+    "1601040000000000000000000101610000000000000001ff0000000000000001",
     "1701040000000000000000000101610000000000000001000000000000000000",
     "1701040000000000000000000101610000000000000001004000000000000001",
     "1f01040000000000000000000101610000000000000002030000000000000001010000000000000001",
     "2001040000000000000000000101610000000000000002010000000000000005010000000000000005",
 ];
 
-/// Registers: a timestamp above `2^63 - 1`, and a writer above 63.
+/// Registers: a timestamp above `2^63 - 1`, and the writer 255.
 const BAD_WRITES: [&str; 2] = [
     "040106000080000000000000000000",
-    "0c0106000000000000000000064000",
+    "0c010600000000000000000006ff00",
 ];
 
 /// A share and a dot of identity 2, which was pruned.

@@ -18,7 +18,7 @@ const ROWS: &str = r#"{"0":[{"do":"flush","at":0}]}
 , client 0, command 3 is 7, not an object (rule 13)
 [[{"do":"round"}]]
 , client 0, command 1: "do" is "round", not update, get, flush, gossip, tick or install (rule 13)
-[[{"do":7,"at":64}]]
+[[{"do":7,"at":255}]]
 , client 0, command 1: "do" is 7, not update, get, flush, gossip, tick or install (rule 13)
 [[{"at":0}]]
 , client 0, command 1: "do" is missing (rule 13: rule 5)
@@ -26,8 +26,8 @@ const ROWS: &str = r#"{"0":[{"do":"flush","at":0}]}
 , client 0, command 1: "op" is missing (rule 13: rule 5)
 [[{"do":"tick","at":0,"times":2}],[{"do":"get","at":0,"key":"n"},{"do":"get","at":0,"key":"n","tmes":2}]]
 , client 1, command 2: "tmes" is no name of a get (rule 13: rule 6)
-[[{"do":"gossip","at":0,"to":64,"times":0}]]
-, client 0, command 1: "to" is 64, not a whole number from 0 to 63 (rule 13: rule 7)
+[[{"do":"gossip","at":0,"to":255,"times":0}]]
+, client 0, command 1: "to" is 255, not a whole number from 0 to 254 (rule 13: rule 7)
 [[{"do":"install","at":0,"view":0,"times":0}]]
 , client 0, command 1: "times" is 0, not a whole number from 1 to 1024 (rule 13)
 [[{"do":"install","at":0,"view":0,"times":1025}]]
@@ -35,8 +35,8 @@ const ROWS: &str = r#"{"0":[{"do":"flush","at":0}]}
 
 const REFUSED: &str = r#"[[{"do":"flush","at":0}]]
 : clients are at work under the word "run" alone (rule 14)
-[[{"do":"flush","at":64}]]
-, client 0, command 1: "at" is 64, not a whole number from 0 to 63 (rule 13: rule 7)"#;
+[[{"do":"flush","at":255}]]
+, client 0, command 1: "at" is 255, not a whole number from 0 to 254 (rule 13: rule 7)"#;
 
 #[test]
 fn tells_of_clients(rt: HostRuntime) -> Result<(), Fail> {

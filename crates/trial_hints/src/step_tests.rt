@@ -10,7 +10,7 @@ const FORMS: &str = r#"{}
 2: "do" is 7, not the name of a step (rule 5)
 {"do":"fly"}
 1: "do" is "fly", not the name of a step (rule 5)
-{"do":"update","at":64}
+{"do":"update","at":255}
 1: "op" is missing (rule 5)
 {"do":"update","op":"disable"}
 1: "op" is "disable", not increment, decrement, add, remove, enable or assign (rule 5)
@@ -59,16 +59,16 @@ const FORMS: &str = r#"{}
 {"do":"threads","client":[]}
 1: "client" is no name of a threads step, and "clients" is missing (rule 6)"#;
 
-const VALUES: &str = r#"{"do":"flush","at":64}
-1: "at" is 64, not a whole number from 0 to 63 (rule 7)
+const VALUES: &str = r#"{"do":"flush","at":255}
+1: "at" is 255, not a whole number from 0 to 254 (rule 7)
 {"do":"get","at":"0","key":"N","level":"most"}
-1: "at" is "0", not a whole number from 0 to 63 (rule 7)
+1: "at" is "0", not a whole number from 0 to 254 (rule 7)
 {"do":"gossip","at":0,"to":-1}
-1: "to" is -1, not a whole number from 0 to 63 (rule 7)
-{"do":"lose","from":0.5,"to":64}
-1: "from" is 0.5, not a whole number from 0 to 63 (rule 7)
+1: "to" is -1, not a whole number from 0 to 254 (rule 7)
+{"do":"lose","from":0.5,"to":255}
+1: "from" is 0.5, not a whole number from 0 to 254 (rule 7)
 {"do":"remove","id":null}
-1: "id" is null, not a whole number from 0 to 63 (rule 7)
+1: "id" is null, not a whole number from 0 to 254 (rule 7)
 {"do":"join","place":8}
 1: "place" is 8, not a whole number from 0 to 7 (rule 7)
 {"do":"deliver","from":0,"to":1,"index":4294967296}

@@ -69,7 +69,7 @@ const LIMITS: [Section; 5] = [
         r#"{"do":"update","at":0,"key":"s","op":"add","element":"e000"},{"do":"update","at":0,"key":"s","op":"add","element":"e000","level":{"to":4}}"#,
         &[],
     ),
-    (62, r#",{"do":"restart","id":#}"#, &[(2, 1, 1, MANY)]),
+    (253, r#",{"do":"restart","id":#}"#, &[(2, 1, 1, MANY)]),
     (1, r#"]}"#, &[]),
 ];
 
@@ -89,7 +89,7 @@ const LIMITS_REPORT: [Section; 6] = [
         &[],
     ),
     (
-        61,
+        252,
         r#"# restart # id # view #
 "#,
         &[
@@ -101,8 +101,8 @@ const LIMITS_REPORT: [Section; 6] = [
     ),
     (
         1,
-        r#"321 restart 63 too many identities
-final view 61
+        r#"512 restart 254 too many identities
+final view 252
 member 0 place 0 view 0
 s {"#,
         &[],
@@ -117,7 +117,7 @@ s {"#,
         r#""e255"} known 0:257 marks -
 member 1 place 1 view 0
 s - known - marks -
-member 63 place 2 view 61
+member 254 place 2 view 252
 s - known - marks -
 "#,
         &[],

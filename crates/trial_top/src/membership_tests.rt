@@ -300,17 +300,17 @@ const RESTARTS: [Section; 3] = [
         r#"{"members":3,"keys":[{"key":"n","kind":"gcounter"}],"steps":["#,
         &[],
     ),
-    (61, r#"{"do":"restart","id":#},"#, &[(2, 1, 1, MANY)]),
+    (252, r#"{"do":"restart","id":#},"#, &[(2, 1, 1, MANY)]),
     (
         1,
-        r#"{"do":"restart","id":63},{"do":"join","place":3}]}"#,
+        r#"{"do":"restart","id":254},{"do":"join","place":3}]}"#,
         &[],
     ),
 ];
 
 const RESTARTS_REPORT: [Section; 2] = [
     (
-        61,
+        252,
         r#"# restart # id # view #
 "#,
         &[
@@ -322,14 +322,14 @@ const RESTARTS_REPORT: [Section; 2] = [
     ),
     (
         1,
-        r#"62 restart 63 too many identities
-63 join 3 too many identities
-final view 61
+        r#"253 restart 254 too many identities
+254 join 3 too many identities
+final view 252
 member 0 place 0 view 0
 n - known - marks -
 member 1 place 1 view 0
 n - known - marks -
-member 63 place 2 view 61
+member 254 place 2 view 252
 n - known - marks -
 "#,
         &[],

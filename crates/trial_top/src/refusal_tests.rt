@@ -84,7 +84,7 @@ const BROKEN: [(&str, &str); 37] = [
         "not a script: step 2 rule 6\n",
     ),
     (
-        r#"{"members":1,"keys":[{"key":"n","kind":"gcounter"}],"steps":[{"do":"flush","at":64},{"do":"fly"}]}"#,
+        r#"{"members":1,"keys":[{"key":"n","kind":"gcounter"}],"steps":[{"do":"flush","at":255},{"do":"fly"}]}"#,
         "not a script: step 1 rule 7\n",
     ),
     (
@@ -144,7 +144,7 @@ const BROKEN: [(&str, &str); 37] = [
         "not a script: step 1 rule 6\n",
     ),
     (
-        r#"{"members":1,"keys":[{"key":"n","kind":"gcounter"}],"steps":[{"do":"threads","clients":[[{"do":"flush","at":64}]]}]}"#,
+        r#"{"members":1,"keys":[{"key":"n","kind":"gcounter"}],"steps":[{"do":"threads","clients":[[{"do":"flush","at":255}]]}]}"#,
         "not a script: step 1 rule 13\n",
     ),
     (
@@ -156,25 +156,25 @@ const BROKEN: [(&str, &str); 37] = [
 // Each number and text of a step at its limit.
 const AT_THE_LIMITS: &str =
     r#"{"members":8,"keys":[{"key":"abcdefghijklmnopqrstuvwxyz012345","kind":"gset"}],"steps":[
-    {"do":"update","at":63,"key":"abcdefghijklmnopqrstuvwxyz012345","op":"add","element":"x"},
+    {"do":"update","at":254,"key":"abcdefghijklmnopqrstuvwxyz012345","op":"add","element":"x"},
     {"do":"update","at":0,"key":"abcdefghijklmnopqrstuvwxyz012345","op":"add","element":"xxxxxxxxxxxxxxxxxxxxxxxxxxxxxxxxxxxxxxxxxxxxxxxxxxxxxxxxxxxxxxxx"},
     {"do":"get","at":0,"key":"abcdefghijklmnopqrstuvwxyz012345","level":{"to":64}},
     {"do":"get","at":0,"key":"abcdefghijklmnopqrstuvwxyz012345","level":{"majority":64}},
-    {"do":"deliver","from":63,"to":0,"index":4294967295},
+    {"do":"deliver","from":254,"to":0,"index":4294967295},
     {"do":"install","at":0,"view":4294967295},
     {"do":"timeout","at":0,"op":4294967295},
     {"do":"join","place":7},
-    {"do":"lose","from":63,"to":63}]}"#;
+    {"do":"lose","from":254,"to":254}]}"#;
 
-const AT_THE_LIMITS_REPORT: &str = r#"1 update 63 abcdefghijklmnopqrstuvwxyz012345 gone
+const AT_THE_LIMITS_REPORT: &str = r#"1 update 254 abcdefghijklmnopqrstuvwxyz012345 gone
 2 update 0 abcdefghijklmnopqrstuvwxyz012345 done
 3 get 0 abcdefghijklmnopqrstuvwxyz012345 too few
 4 get 0 abcdefghijklmnopqrstuvwxyz012345 pending 0 sent 1:read 2:read 3:read 4:read 5:read 6:read 7:read
-5 deliver 63>0 4294967295 no such message
+5 deliver 254>0 4294967295 no such message
 6 install 0 view 4294967295 no such view
 7 timeout 0 4294967295 no such op
 8 join 7 place taken
-9 lose 63>63 0 no such message
+9 lose 254>254 0 no such message
 final view 0
 member 0 place 0 view 0
 abcdefghijklmnopqrstuvwxyz012345 {"xxxxxxxxxxxxxxxxxxxxxxxxxxxxxxxxxxxxxxxxxxxxxxxxxxxxxxxxxxxxxxxx"} known 0:1 marks -
