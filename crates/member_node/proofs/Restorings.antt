@@ -97,12 +97,12 @@ earlier_tested id given i e = go (nat_lt i given) (i == id) (lt-ltb i given e.be
     go true false p q = refl
     go false b p q = absurd (cc p)
 
--- a set of 64 bits has identities alone
-members_few : (seen i : ℕ) → seen < 2 ^ 64 → members_in seen i ≡ true → i < identity_limit
+-- a set has identities alone
+members_few : (seen i : ℕ) → seen < 2 ^ identity_limit → members_in seen i ≡ true → i < identity_limit
 members_few seen i small e = elim (cases_lt i identity_limit) [
   | inl few ↦ few
   | inr many ↦ absurd (
-      let high : 2 ^ 64 ≤ 2 ^ i = pow_mono many in
+      let high : 2 ^ identity_limit ≤ 2 ^ i = pow_mono many in
       let none : seen / 2 ^ i ≡ 0 = div-eq_of_lt (omega arith) in
       let no : (0 % 2 == 1) ≡ true = sym (ap (λ (n : ℕ). n % 2 == 1) none) ∙ e in cc no)
 ]

@@ -74,7 +74,7 @@ fn names_at(markers: &Markers, removed: Id, id: Id) -> bool
 fn marks_name(markers: &Markers, id: Id) -> bool
     ensures { result ≡ list_any (λ r. names_at r (mark_of markers.now r) id) identities }
 {
-    for number in 0..IDENTITIES {
+    for number in 0..markers.limit() {
         if let Some(removed) = Id::new(number) {
             if names_at(markers, removed, id) {
                 return true;

@@ -58,9 +58,6 @@ some_words (w ∷ ws) e = refl
 pub first_before : {X : Type 0} (f : X → List ℕ) (start text : List ℕ) (c i : ℕ) (ws : List X) → i ≡ 0 → text ≡ start ++ join_with_byte c (map f (take i ws)) → text ≡ start
 first_before f start text c i ws none e = (rw none at e) ∙ append-nil start
 
-pub range_end : (count : ℕ) → count ≡ identity_limit → range_with_len 0 count ≡ identities
-range_end count e = ap (range_with_len 0) e
-
 -- one more pair, or none
 pub pushed_pair : (v : VersionVector) (n seq : ℕ) (old new : List (String Global)) (word : String Global) → map string_bytes old ≡ pair_words v (range_with_len 0 n) → seq ≡ v n → 0 < seq → string_bytes word ≡ decimal n ++ codes ":" ++ decimal seq → new ≡ old ++ word ∷ []
     → map string_bytes new ≡ pair_words v (range_with_len 0 (n + 1))

@@ -11,7 +11,7 @@ ghost use Rattle.report_texts.specs.Marks.{marker_text, marker_word};
 
 use crate::words::{push_joined, push_words_or_dash};
 use base_bytes::{Items, Memory};
-use base_vectors::{IDENTITIES, Id, IdSet};
+use base_vectors::{Id, IdSet};
 use data_envelope::Envelope;
 use data_lattice::Replica;
 use data_markers::{Marker, Markers};
@@ -29,7 +29,7 @@ fn members(alloc: Global, set: IdSet) -> Result<Items<String>, Memory>
     ensures { IfOk result (λ texts. map string_bytes texts ≡ map decimal (members_of (members_in set))) }
 {
     let mut texts = Items::new(alloc);
-    for number in 0..IDENTITIES {
+    for number in 0..set.limit() {
         if let Some(id) = Id::new(number) {
             if set.has(id) {
                 texts.push(number_text(alloc, number)?)?;
@@ -63,7 +63,7 @@ fn marker_texts(alloc: Global, markers: &Markers) -> Result<Items<String>, Memor
     ensures { IfOk result (λ texts. map string_bytes texts ≡ filter_map (marker_word markers.now) identities) }
 {
     let mut texts = Items::new(alloc);
-    for number in 0..IDENTITIES {
+    for number in 0..markers.limit() {
         if let Some(id) = Id::new(number) {
             if let Some(marker) = markers.get(id) {
                 texts.push(marker_text(alloc, number, marker)?)?;

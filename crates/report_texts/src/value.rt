@@ -7,7 +7,7 @@ ghost use Rattle.report_texts.specs.Entries.{has_records, value_text};
 
 use crate::shown::push_shown;
 use base_bytes::Memory;
-use base_vectors::{IDENTITIES, Id};
+use base_vectors::Id;
 use data_envelope::Envelope;
 use data_lattice::Replica;
 use std::alloc::Global;
@@ -16,7 +16,7 @@ use std::alloc::Global;
 fn has_records<T: Replica>(envelope: &Envelope<T>) -> bool
     ensures { (log : History T.Op) (entry : Entry T.Op) → StandsFor T.IsDataOf (parts_of envelope.now) log entry → result ≡ has_records entry }
 {
-    for number in 0..IDENTITIES {
+    for number in 0..envelope.limit() {
         if let Some(id) = Id::new(number) {
             if envelope.at(id) > 0 {
                 return true;

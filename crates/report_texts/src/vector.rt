@@ -9,7 +9,7 @@ ghost use Rattle.report_texts.specs.Pairs.{pair_words};
 
 use crate::words::push_words_or_dash;
 use base_bytes::{Items, Memory};
-use base_vectors::{IDENTITIES, Id, Seq};
+use base_vectors::{Id, Seq};
 use data_envelope::Envelope;
 use data_lattice::Replica;
 use std::alloc::Global;
@@ -27,7 +27,7 @@ fn pairs<T: Replica>(alloc: Global, envelope: &Envelope<T>) -> Result<Items<Stri
         → IfOk result (λ pairs. map string_bytes pairs ≡ pair_words (at entry.history) identities) }
 {
     let mut pairs = Items::new(alloc);
-    for number in 0..IDENTITIES {
+    for number in 0..envelope.limit() {
         if let Some(id) = Id::new(number) {
             let seq = envelope.at(id);
             if seq > 0 {
