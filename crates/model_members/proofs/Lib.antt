@@ -1,8 +1,8 @@
 pub mod Cases
 pub mod GroupLaws
 pub mod Steps
+pub mod DeletedKeys
 pub mod Taking
-pub mod Changes
 pub mod Judgements
 pub mod Unchanged
 pub mod Levels

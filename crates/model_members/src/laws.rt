@@ -1,17 +1,17 @@
 ghost use Rattle.std.specs.Prelude.{◌≡◌, ◌≢◌, ◌↔◌, ℕ, ◌<◌, ◌≤◌, ◌+◌, [], true, Some};
 ghost use Rattle.model_history.specs.Table.{identity_limit};
 ghost use Rattle.model_history.specs.History.{History, at, IsPartOf, IsHistory};
-ghost use Rattle.model_members.specs.Entry.{Entry, Group, IsGroupOf, judged, is_unchanged};
+ghost use Rattle.model_members.specs.Entry.{Entry, Group, IsGroupOf, judged, has_records, is_unchanged};
 ghost use Rattle.model_members.specs.Entry.Judgement.{Wanted, Stale, Missing};
 ghost use Rattle.model_history.specs.Texts.{Text};
 ghost use Rattle.model_members.specs.View.{View, is_member, leader};
 ghost use Rattle.model_members.specs.DataType.{Replication};
 ghost use Rattle.model_members.specs.Message.{Message};
-ghost use Rattle.model_members.specs.Node.{Node, Input, Fate, Level, needed};
+ghost use Rattle.model_members.specs.Node.{Node, Input, Fate, Level, HasKey, needed};
 ghost use Rattle.model_members.specs.Refusals.{IsRefusal};
 ghost use Rattle.model_members.specs.Node.Fate.{StoreFailed};
-ghost use Rattle.model_members.specs.Node.Reply.{Done, Pending, NotStored, TickedNotStored};
-ghost use Rattle.model_members.specs.Step.{step, outcomes_of};
+ghost use Rattle.model_members.specs.Node.Reply.{Done, Pending, Deleted, NotStored, TickedNotStored};
+ghost use Rattle.model_members.specs.Step.{step, member_count, outcomes_of};
 ghost use Rattle.model_members.specs.Node.{one_step_later};
 ghost use Rattle.model_members.specs.Relations.{StandsBefore, AreSameMark, AreOfIdentities, MayChange};
 
@@ -63,4 +63,13 @@ pub fn refusals_change_no_entry<Kind, Operation, Shown>()
         → IsRefusal (step D node input fate).output.reply → (key : Text) → (step D node input fate).node.entries key ≡ node.entries key }
     ensures silent { (D : Replication Kind Operation Shown) (node : Node Kind Operation Shown) (input : Input Operation) (fate : Fate)
         → IsRefusal (step D node input fate).output.reply → (step D node input fate).output.posts ≡ [] }
+{}
+
+/// A deleted key can't be used again. An update of a declared key is answered `Deleted` exactly where the key's history has a
+/// delete, whatever the operation and the level; and so is a get that needs nobody else, where the key has a record.
+pub fn deleted_keys_are_told<Kind, Operation, Shown>()
+    ensures update { (D : Replication Kind Operation Shown) (node : Node Kind Operation Shown) (key : Text) (kind : Kind) (op : Operation) (level : Level) (fate : Fate) → HasKey node key kind
+        → ((step D node (Input.Update key op level) fate).output.reply ≡ Deleted) ↔ (D.data_type.deleted (node.entries key).history ≡ true) }
+    ensures get { (D : Replication Kind Operation Shown) (node : Node Kind Operation Shown) (key : Text) (kind : Kind) (fate : Fate) → HasKey node key kind → 0 < member_count node
+        → ((step D node (Input.Get key Level.Local) fate).output.reply ≡ Deleted) ↔ ((has_records (node.entries key) ≡ true) × (D.data_type.deleted (node.entries key).history ≡ true)) }
 {}
