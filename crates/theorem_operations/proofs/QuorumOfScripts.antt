@@ -16,7 +16,7 @@ use Rattle.model_members.specs.Script.Answer.{Replied}
 use Rattle.model_members.specs.Script.Head.{Asked, DeliverHead}
 use Rattle.theorem_runs.proofs.Playing.{Appends, played_is_run, no_events}
 use Rattle.theorem_operations.specs.Quorum.{AllInstalled, KeepsMembers, HasSucceeded, MajorityWrite, HasWrite, WriteThenRead, IsUnchanged, ShowsWrite, Finishes, write_event, read_event, all_events, at_read, at_end, reply_in}
-use Rattle.theorem_operations.specs.Scripts.{UpdateThenGet, written, before_step, TellsLine, Replies, TellsEnd, SuccessIsTold, IsUnchangedUntil, IncludesUpdate, GetsInclude}
+use Rattle.theorem_operations.specs.Scripts.{UpdateThenGet, before_step, TellsLine, Replies, TellsEnd, SuccessIsTold, IsUnchangedUntil, IncludesUpdate, GetsInclude}
 use Rattle.theorem_operations.proofs.Lists.{all_first, all_last}
 use Rattle.theorem_operations.proofs.Moments.{run_append, pushed_run, lawful_first, lawful_rest}
 use Rattle.theorem_operations.proofs.KeptViews.{rises_along, kept_along}
@@ -25,6 +25,10 @@ use Rattle.theorem_operations.proofs.ScriptLines.{HeadTells, LineFrom, step_told
 use Rattle.theorem_operations.proofs.ScriptLines.LineFrom.{FromEvent, Plain}
 use Rattle.theorem_operations.proofs.ScriptMoments.{after_step_is, appends_between, lines_told, silent_before, ok_at, front_steps}
 use Rattle.theorem_operations.proofs.StayingFinished.{HasEnded, stays_along, finishes_by, ended_by}
+
+-- the update, with what its writer's store did
+abbrev written : {Op : Type 0} → UpdateThenGet Op → Fate → MajorityWrite Op
+written r fate = record { writer = r.writer; key = r.key; operation = r.operation; cap = r.cap; fate = fate }
 
 same_item : {X : Type 0} (o : Option X) (x y : X) → o ≡ Some x → o ≡ Some y → x ≡ y
 same_item o x y e f = let g : Some x ≡ Some y = sym e ∙ f in cc g
@@ -248,11 +252,11 @@ module _ {Kind Op Shown : Type 0} (D : Replication Kind Op Shown) (answers : Kee
         }
 
         -- what the theorem says of the reader, as it is said of scripts
-        includes : (line : Told Op Shown) (earlier : List (Event Op)) (event : Event Op) (rest : List (Event Op)) (means : Meaning Shown) → so_far (suc last) ≡ earlier ++ event ∷ rest
-            → output_lines D line.head (output_of D (run D first earlier) event) ≡ line ∷ [] → (world : World Kind Op Shown) → run D first (earlier ++ event ∷ []) ≡ world → ShowsWrite D members keys the_run world means
+        includes : (line : Told Op Shown) (within : List (Event Op)) (event : Event Op) (rest : List (Event Op)) (means : Meaning Shown) → so_far (suc last) ≡ (so_far last ++ within) ++ event ∷ rest
+            → output_lines D line.head (output_of D (run D first (so_far last ++ within)) event) ≡ line ∷ [] → (world : World Kind Op Shown) → run D first ((so_far last ++ within) ++ event ∷ []) ≡ world → ShowsWrite D members keys the_run world means
             → IncludesUpdate D answers members keys steps r last line means
-        includes line earlier event rest means is tells world same shows = record {
-          earlier = earlier;
+        includes line within event rest means is tells world same shows = record {
+          within = within;
           event = event;
           rest = rest;
           way = is;
@@ -262,8 +266,7 @@ module _ {Kind Op Shown : Type 0} (D : Replication Kind Op Shown) (answers : Kee
           decl = shows.decl;
           declared = shows.declared;
           is = shows.is;
-          fate = the_fate;
-          has = subst (λ (w : World Kind Op Shown). HasWrite D w the_write (shows.node.entries r.key).history) (world_at r.update) shows.has;
+          has = subst (λ (w : World Kind Op Shown). HasWrite D w r.writer r.key r.operation (shows.node.entries r.key).history) (world_at r.update) shows.has;
         }
 
   -- A GET THAT IS ANSWERED AT ONCE
@@ -296,10 +299,14 @@ module _ {Kind Op Shown : Type 0} (D : Replication Kind Op Shown) (answers : Kee
     ending_now : run D first (so_far r.get ++ get_now ∷ []) ≡ happens D (at_read D members keys run_now) get_now
     ending_now = pushed_run D first (so_far r.get) get_now ∙ ap (λ (w : World Kind Op Shown). happens D w get_now) (world_at r.get ∙ sym read_now)
 
+    no_more : so_far r.get ≡ so_far r.get ++ []
+    no_more = sym (append_nothing (so_far r.get))
+
     answered_now : ((op : ℕ) → reply ≢ Reply.Pending op) → (means : Meaning Shown) × (reply ≡ value_reply D (Some means)) × IncludesUpdate D answers members keys steps r r.get line means
     answered_now never =
         let shows = theorem.at_once D members keys run_now (unchanged r r.get u here made_now.fate [] [] way_now) reply replied_now never in
-        (shows.0, shows.1, includes r r.get u here made_now.fate [] [] way_now line (so_far r.get) get_now [] shows.0 made_now.events told_now (happens D (at_read D members keys run_now) get_now) ending_now shows.2)
+        (shows.0, shows.1, includes r r.get u here made_now.fate [] [] way_now line [] get_now [] shows.0 (subst (λ es. so_far (suc r.get) ≡ es ++ get_now ∷ []) no_more made_now.events)
+        (subst (λ es. output_lines D line.head (output_of D (run D first es) get_now) ≡ line ∷ []) no_more told_now) (happens D (at_read D members keys run_now) get_now) (subst (λ es. run D first (es ++ get_now ∷ []) ≡ happens D (at_read D members keys run_now) get_now) no_more ending_now) shows.2)
 
   -- A GET WHOSE OPERATION FINISHES LATER
 
@@ -363,7 +370,7 @@ module _ {Kind Op Shown : Type 0} (D : Replication Kind Op Shown) (answers : Kee
         let shows = theorem.later D members keys run_later (unchanged r n u past made.fate after_get tail_events way_later) op replied_later last_event end lawful_later finishes_later is in (
           shows.0,
           shows.1,
-          includes r n u past made.fate after_get tail_events way_later last (so_far n ++ ends.since) last_event ends.rest shows.0 ends.way ends.tells (happens D (at_end D members keys run_later) last_event) ending_later shows.2,
+          includes r n u past made.fate after_get tail_events way_later last ends.since last_event ends.rest shows.0 ends.way ends.tells (happens D (at_end D members keys run_later) last_event) ending_later shows.2,
         )
 
   pub gets_include : GetsInclude D answers members keys steps

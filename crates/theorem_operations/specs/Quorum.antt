@@ -68,12 +68,11 @@ module _ {Kind Op Shown : Type 0} (D : Replication Kind Op Shown) where
     pub its : turn.at ≡ i
     pub ended : (step_in D turn).output.ended ≡ Some end
 
-  -- the history has the record that a write makes in this world: its writer's next one of the key
-  pub record HasWrite (world : World Kind Op Shown) (write : MajorityWrite Op) (H : History Op) : Type 0 where
+  -- the history has the record that an update makes in this world: its writer's next one of the key
+  pub record HasWrite (world : World Kind Op Shown) (writer : ℕ) (key : Text) (operation : Op) (H : History Op) : Type 0 where
     pub node : Node Kind Op Shown
-    pub runs : world.nodes write.writer ≡ Some node
-    pub has : HasRecord H write.writer (at (node.entries write.key).history write.writer)
-        (record { action = Action.Operation write.operation; past = versions (node.entries write.key).history })
+    pub runs : world.nodes writer ≡ Some node
+    pub has : HasRecord H writer (at (node.entries key).history writer) (record { action = Action.Operation operation; past = versions (node.entries key).history })
 
   -- a write succeeds in this world, as is seen at its writer in a later one: it is answered Done, or its operation has finished there
   pub data HasSucceeded (world : World Kind Op Shown) (write : MajorityWrite Op) (later : World Kind Op Shown) : Type 0 where
@@ -107,4 +106,4 @@ module _ {Kind Op Shown : Type 0} (D : Replication Kind Op Shown) where
       pub decl : KeyDecl Kind
       pub declared : find (λ (d : KeyDecl Kind). bytes_eq d.name r.write.key) keys ≡ Some decl
       pub is : means ≡ meaning D.data_type decl.kind (node.entries r.write.key).history
-      pub has : HasWrite at_write r.write (node.entries r.write.key).history
+      pub has : HasWrite at_write r.write.writer r.write.key r.write.operation (node.entries r.write.key).history

@@ -8,14 +8,14 @@ use Rattle.std.specs.Str.{bytes_eq}
 use Rattle.model_history.specs.Texts.{Text}
 use Rattle.model_members.specs.DataType.{Replication, Meaning, meaning}
 use Rattle.model_members.specs.Message.{Message}
-use Rattle.model_members.specs.Node.{KeyDecl, Node, Fate, Reply, Result, Finished}
+use Rattle.model_members.specs.Node.{KeyDecl, Node, Reply, Result, Finished}
 use Rattle.model_members.specs.Node.Level.{Majority}
 use Rattle.model_members.specs.Step.{value_reply, read_result}
 use Rattle.model_members.specs.World.{Event, start, run, output_of}
 use Rattle.model_members.specs.Script.{Ask, Playing, ScriptStep, Told, KeeperAnswers, opening, played_all, lines_of, output_lines}
 use Rattle.model_members.specs.Script.Answer.{Replied}
 use Rattle.model_members.specs.Script.Head.{DeliverHead}
-use Rattle.theorem_operations.specs.Quorum.{AllInstalled, MajorityWrite, HasWrite}
+use Rattle.theorem_operations.specs.Quorum.{AllInstalled, HasWrite}
 
 -- a majority update and a later majority get of its key, by the numbers of their steps, from 0
 pub record UpdateThenGet (Op : Type 0) : Type 0 where
@@ -27,9 +27,6 @@ pub record UpdateThenGet (Op : Type 0) : Type 0 where
   pub get : ℕ
   pub reader : ℕ
   pub read_cap : ℕ
-
-abbrev pub written : {Op : Type 0} → UpdateThenGet Op → Fate → MajorityWrite Op
-written r fate = record { writer = r.writer; key = r.key; operation = r.operation; cap = r.cap; fate = fate }
 
 module _ {Kind Op Shown : Type 0} (D : Replication Kind Op Shown) (answers : KeeperAnswers) (members : ℕ) (keys : List (KeyDecl Kind)) (steps : List (ScriptStep Op)) where
   -- the script before the step of a number
@@ -70,21 +67,19 @@ module _ {Kind Op Shown : Type 0} (D : Replication Kind Op Shown) (answers : Kee
 
     -- when the step of a number tells this line, this is the meaning of what the reader has of the key, and the update's record is in it
     pub record IncludesUpdate (n : ℕ) (line : Told Op Shown) (means : Meaning Shown) : Type 0 where
-      -- the event that put out what the line tells
-      pub earlier : List (Event Op)
+      -- the event of the step that put out what the line tells
+      pub within : List (Event Op)
       pub event : Event Op
       pub rest : List (Event Op)
-      pub way : (before_step (suc n)).events ≡ earlier ++ event ∷ rest
-      pub tells : output_lines D line.head (output_of D (run D (start members keys) earlier) event) ≡ line ∷ []
+      pub way : (before_step (suc n)).events ≡ ((before_step n).events ++ within) ++ event ∷ rest
+      pub tells : output_lines D line.head (output_of D (run D (start members keys) ((before_step n).events ++ within)) event) ≡ line ∷ []
       -- the reader after it
       pub node : Node Kind Op Shown
-      pub runs : (run D (start members keys) (earlier ++ event ∷ [])).nodes r.reader ≡ Some node
+      pub runs : (run D (start members keys) (((before_step n).events ++ within) ++ event ∷ [])).nodes r.reader ≡ Some node
       pub decl : KeyDecl Kind
       pub declared : find (λ (d : KeyDecl Kind). bytes_eq d.name r.key) keys ≡ Some decl
       pub is : means ≡ meaning D.data_type decl.kind (node.entries r.key).history
-      -- what the writer's store did at the update
-      pub fate : Fate
-      pub has : HasWrite D (before_step r.update).world (written r fate) (node.entries r.key).history
+      pub has : HasWrite D (before_step r.update).world r.writer r.key r.operation (node.entries r.key).history
 
   -- WHILE MEMBERSHIP STAYS UNCHANGED, a majority get whose answer is told includes each majority update of its key whose success was told before: in the value that it is answered with, and in the value that its operation finishes with, where the key isn't deleted; and it is told that it is deleted where what the reader has of it has a delete
   pub record GetsInclude : Type 0 where

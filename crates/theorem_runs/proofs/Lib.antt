@@ -29,3 +29,4 @@ pub mod Playing
 pub mod ScriptLogs
 pub mod EntriesOverRuns
 pub mod UnprunedMarks
+pub mod HeldHistories

@@ -49,3 +49,7 @@ pub record AreLogsOf {Kind Op Shown : Type 0} (D : Replication Kind Op Shown) (m
   pub last : HasLogs logs (run D (start members keys) events)
   pub throughout : (before rest : List (Event Op)) → events ≡ before ++ rest → IsLoggedBy logs (run D (start members keys) before)
   pub unpruned : AllByRecursion IsNoTick events → (key : Text) → HasNoPrunes (logs key)
+
+-- each running member's history of a key is one: pasts lie inside it, numbers are in order, and a past holds the pasts of its records
+abbrev pub AllHaveHistories : {Kind Op Shown : Type 0} → World Kind Op Shown → Type 0
+AllHaveHistories {Kind} {Op} {Shown} world = (i : ℕ) (node : Node Kind Op Shown) (key : Text) → world.nodes i ≡ Some node → IsHistory (node.entries key).history

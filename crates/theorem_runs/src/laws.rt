@@ -8,7 +8,7 @@ ghost use Rattle.model_members.specs.Node.{KeyDecl, Node, Level, Input, Fate, st
 ghost use Rattle.model_members.specs.Step.{step, shown_of};
 ghost use Rattle.model_members.specs.World.{World, Event, IsRun};
 ghost use Rattle.model_members.specs.Script.{ScriptStep, IsStep, KeeperAnswers, opening, played_all};
-ghost use Rattle.theorem_runs.specs.Logs.{HasLogs, AreLogsOf};
+ghost use Rattle.theorem_runs.specs.Logs.{HasLogs, AreLogsOf, AllHaveHistories};
 ghost use Rattle.theorem_runs.specs.Views.{HasSoundViews};
 ghost use Rattle.theorem_runs.specs.PassedOver.{NothingIsPassedOver};
 ghost use Rattle.theorem_runs.specs.Pruning.{InEveryRun, HaveTakenAsMany, HasTakenAll, AreRunning, AllSeeTheirMarks, AllHaveUnprunedMarks, SeenHaveInstalled, SeenAreKept, JoinedUnpruned, PrunersHaveInstalled, NoLateRecord, NoLateGroup, NoEarlierPrune, GroupsHaveNoPrunes, StoredIsHeld, PrunesFollowMarks, OnePruneAView, EntriesArePruned, UnionsArePruned};
@@ -18,6 +18,12 @@ ghost use Rattle.theorem_runs.specs.Pruning.{InEveryRun, HaveTakenAsMany, HasTak
 pub fn logs_throughout<Kind, Operation, Shown>()
     ensures { (D : Replication Kind Operation Shown) (members : ℕ) (keys : List (KeyDecl Kind)) (events : List (Event Operation)) (world : World Kind Operation Shown) → IsRun D members keys events world
         → (logs : Text → History Operation) × AreLogsOf D members keys events logs }
+{}
+
+/// In every run, each running member's history of a key is one in which pasts lie inside it, numbers are in order, and a
+/// past holds the pasts of its records. So meanings that recur on pasts say of it what they seem to.
+pub fn members_have_histories<Kind, Operation, Shown>()
+    ensures { InEveryRun Kind Operation Shown (λ variables world. AllHaveHistories world) }
 {}
 
 /// What a script plays is a run, whatever the keepers answer.

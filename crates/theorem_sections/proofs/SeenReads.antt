@@ -32,7 +32,7 @@ use Rattle.theorem_operations.proofs.StayingFinished.{HasEnded, stays_along, fin
 use Rattle.theorem_sections.specs.Runs.{RunStep, IsRunStep, Plays, PlaysAll, plain_line}
 use Rattle.theorem_sections.specs.Runs.RunStep.{Plain, Threads}
 use Rattle.theorem_sections.specs.Sections.{Line, Ending, pending_op, finished_at, ending_of, ending_by, is_open, section_lines}
-use Rattle.theorem_sections.specs.Seen.{Place, Stands, HadSeen, StandsIn, StandsAt, stands_before, SeenUpdate, seen_write, TellsDelivery, SuccessIsSeen, IsSeenUntil, IncludesSeen, GetsIncludeSeen}
+use Rattle.theorem_sections.specs.Seen.{Place, Stands, HadSeen, StandsIn, StandsAt, stands_before, SeenUpdate, TellsDelivery, SuccessIsSeen, IsSeenUntil, IncludesSeen, GetsIncludeSeen}
 use Rattle.theorem_sections.specs.Seen.HadSeen.{EarlierStep, OwnCommand}
 use Rattle.theorem_sections.proofs.Endings.{result_at, result_stays, FinishedAmong, finish_found}
 use Rattle.theorem_sections.proofs.KnownTimeouts.{get_mapped}
@@ -41,6 +41,10 @@ use Rattle.theorem_sections.proofs.SeenMoments.{lines_by, plain_by, none_of_sect
 use Rattle.theorem_sections.proofs.SeenMoments.EndsSo.{AsTold, AsItStands}
 use Rattle.theorem_sections.proofs.Sectioned.{Runs}
 use Rattle.theorem_sections.proofs.Unfinished.{opened_none}
+
+-- the update, with what its writer's store did
+abbrev seen_write : {Op : Type 0} → SeenUpdate Op → Fate → MajorityWrite Op
+seen_write r fate = record { writer = r.writer; key = r.key; operation = r.operation; cap = r.cap; fate = fate }
 
 -- an operation that ended so has that result
 ended_at : {Kind Op Shown : Type 0} (o : Option (Node Kind Op Shown)) (op : ℕ) (end : Finished Shown) → ending_of o (Some op) ≡ Some (Ending.Ended end) → (node : Node Kind Op Shown) × (o ≡ Some node) × (finished_at op (Some node) ≡ Some end)
@@ -424,8 +428,7 @@ module _ {Kind Op Shown : Type 0} (D : Replication Kind Op Shown) (answers : Kee
         decl = shows.decl;
         declared = shows.declared;
         is = shows.is;
-        fate = the_fate;
-        has = subst (λ (w : World Kind Op Shown). HasWrite D w the_write (shows.node.entries r.key).history) (sym updates.runs.leads) shows.has;
+        has = subst (λ (w : World Kind Op Shown). HasWrite D w r.writer r.key r.operation (shows.node.entries r.key).history) (sym updates.runs.leads) shows.has;
       }
 
       -- an operation that finishes by this event

@@ -8,14 +8,14 @@ use Rattle.std.specs.Str.{bytes_eq}
 use Rattle.model_history.specs.Texts.{Text}
 use Rattle.model_members.specs.DataType.{Replication, Meaning, meaning}
 use Rattle.model_members.specs.Message.{Message}
-use Rattle.model_members.specs.Node.{KeyDecl, Node, Fate, Reply, Result, Finished}
+use Rattle.model_members.specs.Node.{KeyDecl, Node, Reply, Result, Finished}
 use Rattle.model_members.specs.Node.Level.{Majority}
 use Rattle.model_members.specs.Step.{value_reply, read_result}
 use Rattle.model_members.specs.World.{Event, start, run}
 use Rattle.model_members.specs.Script.{Ask, Playing, ScriptStep, KeeperAnswers, opening}
 use Rattle.model_members.specs.Script.Answer.{Replied}
 use Rattle.model_members.specs.Script.Head.{Asked, DeliverHead}
-use Rattle.theorem_operations.specs.Quorum.{AllInstalled, MajorityWrite, HasWrite}
+use Rattle.theorem_operations.specs.Quorum.{AllInstalled, HasWrite}
 use Rattle.theorem_sections.specs.Sections.{Client, Section, Line, Ending}
 use Rattle.theorem_sections.specs.Runs.{RunStep, Plays, PlaysAll}
 use Rattle.theorem_sections.specs.Runs.RunStep.{Plain, Threads}
@@ -76,9 +76,6 @@ pub record SeenUpdate (Op : Type 0) : Type 0 where
   pub reader : ℕ
   pub read_cap : ℕ
 
-abbrev pub seen_write : {Op : Type 0} → SeenUpdate Op → Fate → MajorityWrite Op
-seen_write r fate = record { writer = r.writer; key = r.key; operation = r.operation; cap = r.cap; fate = fate }
-
 module _ {Op Shown : Type 0} (lines : List (List (Line Op Shown))) where
   -- the script's own line in a step: a message was delivered to a member, and by it this operation finished
   pub record TellsDelivery (place : Place) (i : ℕ) (end : Finished Shown) : Type 0 where
@@ -127,9 +124,7 @@ module _ {Kind Op Shown : Type 0} (D : Replication Kind Op Shown) (answers : Kee
       pub decl : KeyDecl Kind
       pub declared : find (λ (d : KeyDecl Kind). bytes_eq d.name r.key) keys ≡ Some decl
       pub is : means ≡ meaning D.data_type decl.kind (node.entries r.key).history
-      -- what the writer's store did at the update
-      pub fate : Fate
-      pub has : HasWrite D here.world (seen_write r fate) (node.entries r.key).history
+      pub has : HasWrite D here.world r.writer r.key r.operation (node.entries r.key).history
 
   -- WHILE MEMBERSHIP STAYS UNCHANGED, what the report tells of a majority get includes each majority update of its key whose success whoever made the get had seen: in its answer, in the end of a client's line, and in the script's own line by which its operation finished
   pub record GetsIncludeSeen : Type 0 where
