@@ -1,5 +1,5 @@
 -- All sections of some clients, tried one move after another.
-use Rattle.std.proofs.Common.{◌≡◌, ℕ, zero, suc, refl, sym, ap, subst, ◌∙◌, true, false, Bool, List, [], ◌∷◌, ◌++◌, Option, None, Some}
+use Rattle.std.proofs.Common.{◌≡◌, ℕ, zero, suc, refl, sym, ap, subst, ◌∙◌, true, false, Bool, List, [], ◌∷◌, ◌++◌, map, Option, None, Some, ◌⊎◌, inl, inr}
 use Rattle.std.specs.Prelude.{◌&&◌, ◌||◌, ◌==◌, slice_get, is_some}
 use Rattle.std.specs.List.{list_any, list_all}
 use Rattle.std.specs.Str.{bytes_eq}
@@ -7,13 +7,13 @@ use Rattle.std.proofs.lemmas.Bool.Decides.{Decides-eqb}
 use Rattle.model_history.specs.Texts.{Text}
 use Rattle.model_members.specs.DataType.{Replication}
 use Rattle.model_members.specs.Node.{KeyDecl}
-use Rattle.model_members.specs.World.{message_at}
-use Rattle.model_members.specs.Script.{Playing, KeeperAnswers, opening}
+use Rattle.model_members.specs.World.{World, message_at}
+use Rattle.model_members.specs.Script.{Playing, ScriptStep, KeeperAnswers, opening, played}
 use Rattle.model_members.specs.Report.{final_block}
 use Rattle.model_members.proofs.Steps.{bytes_eq-tells}
-use Rattle.theorem_sections.specs.Sections.{Command, Section, Move, may_come, may_command, may_call_timeout, is_over, moved, moved_all, may_all_come, opened, running, world_of, has_room, section_lines, IsSection}
+use Rattle.theorem_sections.specs.Sections.{Command, Section, Move, Line, may_come, may_command, may_call_timeout, is_over, moved, moved_all, may_all_come, opened, running, world_of, has_room, section_lines, IsSection}
 use Rattle.theorem_sections.specs.Sections.Move.{NextCommand, NextMessage, ItsTimeout}
-use Rattle.theorem_sections.specs.Runs.{RunStep, HasReport, lines_text}
+use Rattle.theorem_sections.specs.Runs.{RunStep, HasReport, lines_text, plain_line}
 use Rattle.theorem_operations.proofs.Lists.{first_true, second_true}
 
 -- TESTS
@@ -120,3 +120,56 @@ module _ {Kind Op Shown : Type 0} (D : Replication Kind Op Shown) (value_text : 
         h.told ∙ ap (λ ls. lines_text value_text 1 ls ++ final_block D value_text h.last.world) lines
         ∙ ap (λ (p : Playing Kind Op Shown). lines_text value_text 1 (section_lines end ∷ []) ++ final_block D value_text p.world) last
         ∙ told
+
+    either_text : (end : Section Kind Op Shown) (a b : Text) → (c d : Bool) → bytes_eq (text_of end) a ≡ c → bytes_eq (text_of end) b ≡ d → (c || d) ≡ true → (text_of end ≡ a) ⊎ (text_of end ≡ b)
+    either_text end a b true d is is' e = inl (bytes_eq-tells (text_of end) a is)
+    either_text end a b false true is is' e = inr (bytes_eq-tells (text_of end) b is')
+    either_text end a b false false is is' e = absurd (cc e)
+
+    -- this text, or another one
+    pub has_only_these : (second : Text) (n : ℕ) → explored D n at_start (λ end. bytes_eq (text_of end) text || bytes_eq (text_of end) second) ≡ true → (other : Text) → HasReport D value_text answers members keys (RunStep.Threads clients ∷ []) other
+        → (other ≡ text) ⊎ (other ≡ second)
+    has_only_these second n all other h =
+        let section = h.plays.3.2 in
+        let end = h.plays.3.1 in
+        let reached = found D (λ end. bytes_eq (text_of end) text || bytes_eq (text_of end) second) n at_start h.plays.3.0 all section.lawful (subst (λ e. is_over e ≡ true) section.leads section.over) in
+        let tells = either_text end text second (bytes_eq (text_of end) text) (bytes_eq (text_of end) second) refl refl (subst (λ e. (bytes_eq (text_of e) text || bytes_eq (text_of e) second) ≡ true) (sym section.leads) reached) in
+        let lines : h.lines ≡ section_lines end ∷ [] = h.plays.5 ∙ ap (λ rest. h.plays.0 ∷ rest) h.plays.4.0 ∙ ap (λ first. first ∷ []) h.plays.3.3 in
+        let last : h.last ≡ end.playing = h.plays.4.1 ∙ h.plays.3.4 in
+        let told : other ≡ text_of end = h.told ∙ ap (λ ls. lines_text value_text 1 ls ++ final_block D value_text h.last.world) lines ∙ ap (λ (p : Playing Kind Op Shown). lines_text value_text 1 (section_lines end ∷ []) ++ final_block D value_text p.world) last in
+        elim tells [ inl is ↦ inl (told ∙ is) | inr is ↦ inr (told ∙ is) ]
+
+    -- A PLAIN STEP AFTER IT
+
+    module _ (step : ScriptStep Op) where
+      abbrev pub text_then : Playing Kind Op Shown → List (Line Op Shown) → Text
+      text_then p lines = lines_text value_text 1 (lines ∷ map plain_line (played D p step).lines ∷ []) ++ final_block D value_text (played D p step).world
+
+      pub has_this_then : (moves : List Move) → may_all_come D at_start moves ≡ true → is_over (moved_all D at_start moves) ≡ true → text ≡ text_then (moved_all D at_start moves).playing (section_lines (moved_all D at_start moves))
+          → HasReport D value_text answers members keys (RunStep.Threads clients ∷ RunStep.Plain step ∷ []) text
+      has_this_then moves lawful over told =
+          let end = moved_all D at_start moves in
+          let s : IsSection D (opening answers members keys) clients moves end = record { lawful = lawful; leads = refl; over = over } in
+          let next = played D end.playing step in
+          record {
+            lines = section_lines end ∷ map plain_line next.lines ∷ [];
+            last = record next { lines = [] };
+            plays = (section_lines end, map plain_line next.lines ∷ [], end.playing, (moves, end, s, refl, refl), (map plain_line next.lines, [], record next { lines = [] }, (refl, refl), (refl, refl), refl), refl);
+            told = told;
+          }
+
+      pub has_only_this_then : (n : ℕ) → explored D n at_start (λ end. bytes_eq (text_then end.playing (section_lines end)) text) ≡ true → (other : Text) → HasReport D value_text answers members keys (RunStep.Threads clients ∷ RunStep.Plain step ∷ []) other → other ≡ text
+      has_only_this_then n all other h =
+          let section = h.plays.3.2 in
+          let end = h.plays.3.1 in
+          let p = h.plays.2 in
+          let rest = h.plays.4 in
+          let reached = found D (λ end. bytes_eq (text_then end.playing (section_lines end)) text) n at_start h.plays.3.0 all section.lawful (subst (λ e. is_over e ≡ true) section.leads section.over) in
+          let told : text_then end.playing (section_lines end) ≡ text =
+          bytes_eq-tells (text_then end.playing (section_lines end)) text (subst (λ (e : Section Kind Op Shown). bytes_eq (text_then e.playing (section_lines e)) text ≡ true) (sym section.leads) reached) in
+          let later : h.plays.1 ≡ map plain_line (played D p step).lines ∷ [] = rest.5 ∙ ap (λ ls. rest.0 ∷ ls) rest.4.0 ∙ ap (λ l. l ∷ []) rest.3.0 in
+          let lines : h.lines ≡ section_lines end ∷ map plain_line (played D p step).lines ∷ [] = h.plays.5 ∙ ap (λ ls. h.plays.0 ∷ ls) later ∙ ap (λ l. l ∷ map plain_line (played D p step).lines ∷ []) h.plays.3.3 in
+          let last : h.last.world ≡ (played D p step).world = ap (λ (x : Playing Kind Op Shown). x.world) (rest.4.1 ∙ rest.3.1) in
+          h.told ∙ ap (λ ls. lines_text value_text 1 ls ++ final_block D value_text h.last.world) lines
+          ∙ ap (λ (w : World Kind Op Shown). lines_text value_text 1 (section_lines end ∷ map plain_line (played D p step).lines ∷ []) ++ final_block D value_text w) last
+          ∙ ap (λ (x : Playing Kind Op Shown). text_then x (section_lines end)) h.plays.3.4 ∙ told
