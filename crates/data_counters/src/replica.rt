@@ -1,5 +1,6 @@
-ghost use Rattle.std.specs.Prelude.{true, refl, ◌≡◌, None};
+ghost use Rattle.std.specs.Prelude.{true, false, refl, ◌≡◌, None};
 ghost use Rattle.std.proofs.Common.{ap};
+ghost use Rattle.std.proofs.lemmas.Bool.{false≢true};
 ghost use Rattle.model_kinds.specs.SixKinds.{of_kind, increment};
 ghost use Rattle.model_kinds.specs.declared.kind.Kind.TheVariants as kind;
 ghost use Rattle.model_kinds.specs.declared.shown.Shown.TheVariants.{Count};
@@ -35,6 +36,8 @@ impl Replica for GCounter {
     ghost data_type = { of_kind kind.GCounter };
 
     ghost kind_of = { λ _. tt };
+
+    ghost is_closed = { λ _. false };
 
     ghost delta_fits_kind = { λ _ _. true };
 
@@ -87,6 +90,10 @@ impl Replica for GCounter {
 
     fn same_kind(&self, _other: &GCounter) -> bool {
         true
+    }
+
+    fn closed(&self) -> bool {
+        false
     }
 
     fn fits(&self, op: &Op) -> bool {
@@ -154,6 +161,20 @@ impl Replica for GCounter {
 
     ghost kind_pruned = { λ _ _ _. refl };
 
+    ghost closed_joined = { λ _ _ _ _. refl };
+
+    ghost closed_absorbed = { λ _ _ _ is. is };
+
+    ghost closed_cleaned = { λ _ _. refl };
+
+    ghost closed_pruned = { λ _ _ _. refl };
+
+    ghost closed_mentions = { λ _ _ is. absurd (false≢true is) };
+
+    ghost closed_shown = { λ _ is. absurd (false≢true is) };
+
+    ghost closed_unblocked = { λ _ _ _ is. absurd (false≢true is) };
+
     ghost delta_kind = { λ _ _ _ _. refl };
 
     ghost delta_origin = { λ _ _ _. refl };
@@ -213,6 +234,8 @@ impl Replica for GCounter {
     ghost pruned_mentions = { λ state removed dot id. laws.pruned_mentions state removed dot.origin id };
 
     ghost pruned_unmentioned = { λ state removed dot _. laws.pruned_unmentioned state removed dot.origin };
+
+    ghost closed_means = { λ _ _ _ _ _ _. refl };
 
     ghost refusal_means = { laws.growing_refusal };
 

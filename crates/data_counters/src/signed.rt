@@ -1,4 +1,5 @@
-ghost use Rattle.std.specs.Prelude.{true, refl, ◌≡◌, ◌≤◌, ◌^◌};
+ghost use Rattle.std.specs.Prelude.{true, false, refl, ◌≡◌, ◌≤◌, ◌^◌};
+ghost use Rattle.std.proofs.lemmas.Bool.{false≢true};
 ghost use Rattle.model_kinds.specs.SixKinds.{of_kind};
 ghost use Rattle.model_kinds.specs.declared.kind.Kind.TheVariants as kind;
 ghost use Rattle.model_kinds.specs.declared.shown.Shown.TheVariants as shown_as;
@@ -33,6 +34,8 @@ impl Replica for PnCounter {
     ghost data_type = { of_kind kind.PnCounter };
 
     ghost kind_of = { λ _. tt };
+
+    ghost is_closed = { λ _. false };
 
     ghost delta_fits_kind = { λ _ _. true };
 
@@ -91,6 +94,10 @@ impl Replica for PnCounter {
 
     fn same_kind(&self, _other: &PnCounter) -> bool {
         true
+    }
+
+    fn closed(&self) -> bool {
+        false
     }
 
     fn fits(&self, op: &Op) -> bool {
@@ -201,6 +208,20 @@ impl Replica for PnCounter {
 
     ghost kind_pruned = { λ _ _ _. refl };
 
+    ghost closed_joined = { λ _ _ _ _. refl };
+
+    ghost closed_absorbed = { λ _ _ _ is. is };
+
+    ghost closed_cleaned = { λ _ _. refl };
+
+    ghost closed_pruned = { λ _ _ _. refl };
+
+    ghost closed_mentions = { λ _ _ is. absurd (false≢true is) };
+
+    ghost closed_shown = { λ _ is. absurd (false≢true is) };
+
+    ghost closed_unblocked = { λ _ _ _ is. absurd (false≢true is) };
+
     ghost delta_kind = { λ _ _ _ _. refl };
 
     ghost delta_origin = { λ _ _ _. refl };
@@ -260,6 +281,8 @@ impl Replica for PnCounter {
     ghost pruned_mentions = { laws.pruned_mentions };
 
     ghost pruned_unmentioned = { λ state removed dot _. laws.pruned_unmentioned state removed dot };
+
+    ghost closed_means = { λ _ _ _ _ _ _. refl };
 
     ghost refusal_means = { laws.refusal_means };
 

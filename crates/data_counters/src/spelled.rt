@@ -42,6 +42,8 @@ impl SpelledData for GCounter {
 
     ghost read_in = { λ _ barred. counter_in barred };
 
+    ghost history_byte = { λ _ _. growing_byte };
+
     ghost history_spelled = { λ _. growing_history_spelled };
 
     fn is_kind(byte: u8) -> bool {
@@ -69,13 +71,15 @@ impl SpelledData for GCounter {
 
     ghost spelling_is = { λ _. refl };
 
-    ghost kind_is_known = { λ _. refl };
+    ghost byte_is_known = { λ _. refl };
 
     ghost read_is_spelled = { laws.growing_takes };
 
     ghost spelled_is_read = { laws.growing_again };
 
     ghost mentioned_few = { laws.growing_few };
+
+    ghost byte_means = { λ _ _ _ _ _ _. refl };
 
     ghost spelling_means = { laws.shares_mean increment };
 }
@@ -90,6 +94,8 @@ impl SpelledData for PnCounter {
     ghost spelled = { signed_spelled };
 
     ghost read_in = { λ _ barred. signed_in barred };
+
+    ghost history_byte = { λ _ _. signed_byte };
 
     ghost history_spelled = { λ _. signed_history_spelled };
 
@@ -118,13 +124,15 @@ impl SpelledData for PnCounter {
 
     ghost spelling_is = { λ _. refl };
 
-    ghost kind_is_known = { λ _. refl };
+    ghost byte_is_known = { λ _. refl };
 
     ghost read_is_spelled = { laws.both_take };
 
     ghost spelled_is_read = { laws.both_again };
 
     ghost mentioned_few = { laws.both_few };
+
+    ghost byte_means = { λ _ _ _ _ _ _. refl };
 
     ghost spelling_means = { laws.both_mean };
 }
