@@ -25,7 +25,8 @@ begun_piece r None h = refl
 begun_piece r (Some (Initialized view owner seen)) h = refl
 begun_piece r (Some (Performed owner at upto)) h = absurd (cc h)
 
-module _ {State Kind Op : Type 0} (D : State → History Op → VersionVector → IdentitySet → Type 0) (kind_of : State → Kind) (byte_of : Kind → ℕ) (spelled : State → List ℕ) (history_spelled : Kind → History Op → List ℕ)
+module _ {State Kind Op : Type 0} (D : State → History Op → VersionVector → IdentitySet → Type 0) (kind_of : State → Kind) (byte_of : State → ℕ) (spelled : State → List ℕ) (history_byte : Kind → History Op → ℕ) (history_spelled : Kind → History Op → List ℕ)
+    (byte_means : (state : State) (log : History Op) (held : VersionVector) (gone : IdentitySet) → IsPrunedCut log held gone → D state log held gone → byte_of state ≡ history_byte (kind_of state) (cut log held))
     (means : (state : State) (log : History Op) (held : VersionVector) (gone : IdentitySet) → IsPrunedCut log held gone → D state log held gone → spelled state ≡ history_spelled (kind_of state) (cut log held))
     (parts : Parts State) (log : History Op) (entry : Entry Op) (stands : StandsFor D parts log entry) where
   piece_is : (r : ℕ) (o : Option (Stamped Op)) → prune_of entry.history r ≡ o → piece_of parts.marks r ≡ mark_piece o r (entry.marks r)
@@ -55,14 +56,20 @@ module _ {State Kind Op : Type 0} (D : State → History Op → VersionVector �
       means parts.value log (versions entry.history) (performed_in parts.marks) (held_pruned D parts log (versions entry.history) stands.holds) stands.holds.state
       ∙ ap (history_spelled (kind_of parts.value)) (cut_of_part log entry.history stands.taken.part)
 
-  pub spelled_is : envelope_spelled (λ (value : State). byte_of (kind_of value)) spelled parts ≡ entry_spelled byte_of history_spelled (kind_of parts.value) entry
+  byte_is : byte_of parts.value ≡ history_byte (kind_of parts.value) entry.history
+  byte_is =
+      byte_means parts.value log (versions entry.history) (performed_in parts.marks) (held_pruned D parts log (versions entry.history) stands.holds) stands.holds.state
+      ∙ ap (history_byte (kind_of parts.value)) (cut_of_part log entry.history stands.taken.part)
+
+  pub spelled_is : envelope_spelled byte_of spelled parts ≡ entry_spelled history_byte history_spelled (kind_of parts.value) entry
   unfolding entry_spelled
   spelled_is =
-      ap (λ (t : List ℕ). 1 ∷ byte_of (kind_of parts.value) ∷ t ++ numbers_spelled (number_at parts.versions) ++ spelled parts.value) marks_are
-      ∙ ap (λ (f : ℕ → ℕ). 1 ∷ byte_of (kind_of parts.value) ∷ pieces_spelled (entry_piece entry) ++ numbers_spelled f ++ spelled parts.value) numbers_are
-      ∙ ap (λ (t : List ℕ). 1 ∷ byte_of (kind_of parts.value) ∷ pieces_spelled (entry_piece entry) ++ numbers_spelled (without (is_pruned entry.history) (versions entry.history)) ++ t) data_are
+      ap (λ (b : ℕ). 1 ∷ b ∷ marks_spelled parts.marks ++ numbers_spelled (number_at parts.versions) ++ spelled parts.value) byte_is
+      ∙ ap (λ (t : List ℕ). 1 ∷ history_byte (kind_of parts.value) entry.history ∷ t ++ numbers_spelled (number_at parts.versions) ++ spelled parts.value) marks_are
+      ∙ ap (λ (f : ℕ → ℕ). 1 ∷ history_byte (kind_of parts.value) entry.history ∷ pieces_spelled (entry_piece entry) ++ numbers_spelled f ++ spelled parts.value) numbers_are
+      ∙ ap (λ (t : List ℕ). 1 ∷ history_byte (kind_of parts.value) entry.history ∷ pieces_spelled (entry_piece entry) ++ numbers_spelled (without (is_pruned entry.history) (versions entry.history)) ++ t) data_are
 
   -- a digest of the spelling is that of the entry
-  pub digest_is : (digest : List ℕ) → digest ≡ sha1 (envelope_spelled (λ (value : State). byte_of (kind_of value)) spelled parts) → digest ≡ entry_digest byte_of history_spelled (kind_of parts.value) entry
+  pub digest_is : (digest : List ℕ) → digest ≡ sha1 (envelope_spelled byte_of spelled parts) → digest ≡ entry_digest history_byte history_spelled (kind_of parts.value) entry
   unfolding entry_digest
   digest_is digest is = is ∙ ap sha1 spelled_is

@@ -17,11 +17,11 @@ module _ {Op : Type 0} where
   abbrev pub entry_piece : Entry Op → ℕ → Option (List ℕ)
   entry_piece entry removed = mark_piece (prune_of entry.history removed) removed (entry.marks removed)
 
-module _ {Kind Op : Type 0} (byte_of : Kind → ℕ) (history_spelled : Kind → History Op → List ℕ) where
-  -- format 1, the kind, the marks, the numbers of records, and the data, nothing of pruned identities in these
+module _ {Kind Op : Type 0} (history_byte : Kind → History Op → ℕ) (history_spelled : Kind → History Op → List ℕ) where
+  -- format 1, the byte of the kind or of a deleted key of the kind, the marks, the numbers of records, and the data, nothing of pruned identities in these
   unfoldable pub entry_spelled : Kind → Entry Op → List ℕ
   entry_spelled kind entry =
-      1 ∷ byte_of kind ∷ pieces_spelled (entry_piece entry) ++ numbers_spelled (without (is_pruned entry.history) (versions entry.history)) ++ history_spelled kind entry.history
+      1 ∷ history_byte kind entry.history ∷ pieces_spelled (entry_piece entry) ++ numbers_spelled (without (is_pruned entry.history) (versions entry.history)) ++ history_spelled kind entry.history
 
   -- SHA-1 of the spelling
   unfoldable pub entry_digest : Kind → Entry Op → List ℕ

@@ -16,7 +16,7 @@ abbrev pub most_seq : ℕ
 most_seq = 2 ^ 62
 
 module _ {T : Type 0} (byte_of : T → ℕ) (spelled : T → List ℕ) where
-  -- format 1, the kind, the marks, the numbers of records, and the data
+  -- format 1, the byte that tells what the data are, the marks, the numbers of records, and the data
   abbrev pub envelope_spelled : Parts T → List ℕ
   envelope_spelled parts = 1 ∷ byte_of parts.value ∷ marks_spelled parts.marks ++ numbers_spelled (number_at parts.versions) ++ spelled parts.value
 

@@ -87,9 +87,9 @@ impl<T: SpelledData> Digested<T> {
 
     /// The digest that is kept, or else one that is made and not kept.
     pub fn told(&self) -> Result<[u8; 20], Memory>
-        ensures value { IfOk result (λ digest. digest ≡ sha1 (envelope_spelled (λ value. T.byte_of (T.kind_of value)) T.spelled (parts_of self.now.envelope))) }
+        ensures value { IfOk result (λ digest. digest ≡ sha1 (envelope_spelled T.byte_of T.spelled (parts_of self.now.envelope))) }
         ensures image { (log : History T.Op) (entry : Entry T.Op) → StandsFor T.IsDataOf (parts_of self.now.envelope) log entry
-            → IfOk result (λ digest. digest ≡ entry_digest T.byte_of T.history_spelled (T.kind_of self.now.envelope.value) entry) }
+            → IfOk result (λ digest. digest ≡ entry_digest T.history_byte T.history_spelled (T.kind_of self.now.envelope.value) entry) }
     {
         match self.digest {
             Some(kept) => Ok(kept),
@@ -110,9 +110,9 @@ impl<T: SpelledData> Digested<T> {
 
     /// The digest, which is then kept. A step is a digest that was made.
     pub fn digest<L: Ledger>(&mut self, steps: &mut Steps<L>) -> Result<[u8; 20], Memory>
-        ensures value { IfOk result (λ digest. digest ≡ sha1 (envelope_spelled (λ value. T.byte_of (T.kind_of value)) T.spelled (parts_of self.old.envelope))) }
+        ensures value { IfOk result (λ digest. digest ≡ sha1 (envelope_spelled T.byte_of T.spelled (parts_of self.old.envelope))) }
         ensures image { (log : History T.Op) (entry : Entry T.Op) → StandsFor T.IsDataOf (parts_of self.old.envelope) log entry
-            → IfOk result (λ digest. digest ≡ entry_digest T.byte_of T.history_spelled (T.kind_of self.old.envelope.value) entry) }
+            → IfOk result (λ digest. digest ≡ entry_digest T.history_byte T.history_spelled (T.kind_of self.old.envelope.value) entry) }
         ensures kept { OnOk result (self.new ≡ record { envelope = self.old.envelope; is_kept = true }) }
         ensures err { OnErr result (self.new ≡ self.old) }
         ensures steps { steps.new ≡ (if is_ok result && not self.old.is_kept then steps.old + 1 else steps.old) }

@@ -65,9 +65,9 @@ fn read_whole<T: SpelledData>(alloc: Global, bytes: &[u8]) -> Result<(Head, T), 
 /// The envelope that the bytes spell; else the place of the first field that is cut short, breaks its rule or is left over.
 pub fn read<T: SpelledData>(alloc: Global, bytes: &[u8]) -> Result<Envelope<T>, CodecError>
     // What is read is spelled so.
-    ensures found { IfOk result (λ envelope. IsEnvelope T.IsSound T.mentioned (parts_of envelope) × (bytes.now ≡ envelope_spelled (λ value. T.byte_of (T.kind_of value)) T.spelled (parts_of envelope))) }
+    ensures found { IfOk result (λ envelope. IsEnvelope T.IsSound T.mentioned (parts_of envelope) × (bytes.now ≡ envelope_spelled T.byte_of T.spelled (parts_of envelope))) }
     // What is spelled so is read, unless memory runs out.
-    ensures only { (parts : Parts T) → IsEnvelope T.IsSound T.mentioned parts → bytes.now ≡ envelope_spelled (λ value. T.byte_of (T.kind_of value)) T.spelled parts → IsRead (length bytes.now) result (Ok parts) }
+    ensures only { (parts : Parts T) → IsEnvelope T.IsSound T.mentioned parts → bytes.now ≡ envelope_spelled T.byte_of T.spelled parts → IsRead (length bytes.now) result (Ok parts) }
     // Which fault it is.
     ensures exact { IsRead (length bytes.now) result (envelope_of T.is_known T.read_in bytes.now) }
 {

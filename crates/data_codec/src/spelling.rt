@@ -16,7 +16,7 @@ use std::alloc::Global;
 /// Appends the spelling of an envelope.
 fn append<T: SpelledData>(envelope: &Envelope<T>, into: &mut Vec<u8>) -> Result<(), Memory>
     ensures readable { OnOk result (IsEnvelope T.IsSound T.mentioned (parts_of envelope.now)) }
-    ensures value { OnOk result (into.new.items ≡ into.old.items ++ envelope_spelled (λ value. T.byte_of (T.kind_of value)) T.spelled (parts_of envelope.now)) }
+    ensures value { OnOk result (into.new.items ≡ into.old.items ++ envelope_spelled T.byte_of T.spelled (parts_of envelope.now)) }
 {
     into.push(1)?;
     into.push(envelope.value().kind_byte())?;
@@ -27,9 +27,9 @@ fn append<T: SpelledData>(envelope: &Envelope<T>, into: &mut Vec<u8>) -> Result<
 
 /// The spelling of an envelope.
 pub fn spell<T: SpelledData>(alloc: Global, envelope: &Envelope<T>) -> Result<Vec<u8>, Memory>
-    ensures value { IfOk result (λ bytes. bytes.items ≡ envelope_spelled (λ value. T.byte_of (T.kind_of value)) T.spelled (parts_of envelope.now)) }
+    ensures value { IfOk result (λ bytes. bytes.items ≡ envelope_spelled T.byte_of T.spelled (parts_of envelope.now)) }
     ensures image { (log : History T.Op) (entry : Entry T.Op) → StandsFor T.IsDataOf (parts_of envelope.now) log entry
-        → IfOk result (λ bytes. bytes.items ≡ entry_spelled T.byte_of T.history_spelled (T.kind_of envelope.now.value) entry) }
+        → IfOk result (λ bytes. bytes.items ≡ entry_spelled T.history_byte T.history_spelled (T.kind_of envelope.now.value) entry) }
     // What is spelled is what `read` reads again.
     ensures readable { IfOk result (λ _bytes. IsEnvelope T.IsSound T.mentioned (parts_of envelope.now)) }
 {
@@ -40,9 +40,9 @@ pub fn spell<T: SpelledData>(alloc: Global, envelope: &Envelope<T>) -> Result<Ve
 
 /// The SHA-1 (FIPS 180-4) of the envelope's spelling.
 pub fn digest<T: SpelledData>(alloc: Global, envelope: &Envelope<T>) -> Result<[u8; 20], Memory>
-    ensures value { IfOk result (λ digest. digest ≡ sha1 (envelope_spelled (λ value. T.byte_of (T.kind_of value)) T.spelled (parts_of envelope.now))) }
+    ensures value { IfOk result (λ digest. digest ≡ sha1 (envelope_spelled T.byte_of T.spelled (parts_of envelope.now))) }
     ensures image { (log : History T.Op) (entry : Entry T.Op) → StandsFor T.IsDataOf (parts_of envelope.now) log entry
-        → IfOk result (λ digest. digest ≡ entry_digest T.byte_of T.history_spelled (T.kind_of envelope.now.value) entry) }
+        → IfOk result (λ digest. digest ≡ entry_digest T.history_byte T.history_spelled (T.kind_of envelope.now.value) entry) }
 {
     let bytes = spell(alloc, envelope)?;
     Ok(Sha1::digest(&bytes))

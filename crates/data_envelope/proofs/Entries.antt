@@ -1,5 +1,5 @@
 -- What an envelope stands for after each change.
-use Rattle.std.proofs.Common.{◌≡◌, ◌≢◌, ℕ, true, Option, Some, None, refl, ap, sym, ◌∙◌, subst, inl, inr}
+use Rattle.std.proofs.Common.{◌≡◌, ◌≢◌, ℕ, Bool, true, false, Option, Some, None, refl, ap, sym, ◌∙◌, subst, inl, inr}
 use Rattle.std.specs.Prelude.{if◌then◌else◌, length}
 use Rattle.std.specs.FinMap as map
 use Rattle.std.proofs.lemmas.Bool.{cases_eq, cases_Bool, or_parts}
@@ -46,6 +46,11 @@ blocked_shares (Some shares) owner removed (inr e) =
     let a : shares.owner ≡ owner = cc e in
     let b : shares.removed ≡ removed = cc e in
     λ i. Some (record { owner = a i; removed = b i })
+
+-- what is blocked was not deleted, where what was deleted blocks nothing
+pub blocked_undeleted : (closed : Bool) (meant : Option Shares) (owner removed : ℕ) → (closed ≡ true → meant ≡ None) → IsPruneRefusal meant (refusal.Blocked owner removed) → closed ≡ false
+blocked_undeleted false meant owner removed free r = refl
+blocked_undeleted true meant owner removed free r = absurd (let some = sym (free refl) ∙ blocked_shares meant owner removed r in cc some)
 
 pub blocked_same : (meant : Option Shares) (x y x' y' owner removed : ℕ) → IsPruneRefusal meant (refusal.Blocked x y) → x' ≡ x → y' ≡ y → ◌≡◌ {A = Result Perform Memory} (Ok (outcome.Blocked x' y')) (Ok (outcome.Blocked owner removed))
     → meant ≡ Some (record { owner = owner; removed = removed })

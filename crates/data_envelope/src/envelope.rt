@@ -1,4 +1,4 @@
-ghost use Rattle.std.specs.Prelude.{◌≡◌, ◌↔◌, ℕ, ◌+◌, ◌<◌, ◌≤◌, ◌^◌, Bool, true, false, not, IsTrue, IfSome, IfNone, IfOk, IfErr, OnOk, OnErr, Option, Some, None, Ok, max};
+ghost use Rattle.std.specs.Prelude.{◌≡◌, ◌↔◌, ℕ, ◌+◌, ◌<◌, ◌≤◌, ◌^◌, Bool, true, false, not, ◌&&◌, IsTrue, IfSome, IfNone, IfOk, IfErr, OnOk, OnErr, Option, Some, None, Ok, max};
 ghost use Rattle.std.specs.FinMap as map;
 ghost use Rattle.model_history.specs.Table.{identity_limit};
 ghost use Rattle.model_history.specs.Vector.{Covers};
@@ -104,6 +104,14 @@ impl<T: Replica> Envelope<T> {
             → IfOk result (λ shown. shown ≡ T.data_type.shown (T.kind_of self.now.value) entry.history) }
     {
         self.value.show(alloc)
+    }
+
+    /// Whether the key was deleted, which is what the history says.
+    pub fn closed(&self) -> bool
+        ensures value { result ≡ T.is_closed self.now.value }
+        ensures image { (log : History T.Op) (entry : Entry T.Op) → StandsFor T.IsDataOf (parts_of self.now) log entry → result ≡ T.data_type.deleted entry.history }
+    {
+        self.value.closed()
     }
 
     /// How many records of an identity this entry has, those of a pruned one included.
@@ -289,7 +297,7 @@ impl<T: Replica> Envelope<T> {
     ///
     /// The refusal that the kind has for the operation of this identity, or memory was refused. Nothing changed then.
     pub fn update(&mut self, op: &T::Op, id: Id) -> Result<T::Delta, ApplyError>
-        requires fits { T.data_type.fits (T.kind_of self.old.value) op.now ≡ true }
+        requires fits { (not (T.is_closed self.old.value) && T.data_type.fits (T.kind_of self.old.value) op.now) ≡ true }
         requires member { performed_in self.old.markers id ≡ false }
         requires room { number_at self.old.versions id < 2 ^ 62 }
         ensures image { (log : History T.Op) (entry : Entry T.Op) → StandsFor T.IsDataOf (parts_of self.old) log entry → IsTakenFrom log (with_action entry id (Operation op.now)).history
@@ -485,6 +493,7 @@ impl<T: Replica> Envelope<T> {
             → T.data_type.blocked (T.kind_of self.old.value) owner removed entry.history ≡ Some (record { owner = owner_share; removed = removed_share }) }
         ensures unblocked { (log : History T.Op) (entry : Entry T.Op) → StandsFor T.IsDataOf (parts_of self.old) log entry → result ≡ Ok outcome.Performed
             → T.data_type.blocked (T.kind_of self.old.value) owner removed entry.history ≡ None }
+        ensures undeleted { (owner_share removed_share : ℕ) → result ≡ Ok (outcome.Blocked owner_share removed_share) → T.is_closed self.old.value ≡ false }
         ensures nothing { result ≡ Ok outcome.NothingMarked → is_begun_at (mark_of self.old.markers removed) view ≡ false }
         ensures marked { is_begun_at (mark_of self.old.markers removed) view ≡ false → result ≡ Ok outcome.NothingMarked }
         ensures waiting { (i : ℕ) (mark : Mark) → begun (mark_of self.old.markers removed) ≡ Some mark → result ≡ Ok (outcome.Waiting i) → unseen mark members.now ≡ Some i }
@@ -516,6 +525,7 @@ impl<T: Replica> Envelope<T> {
             → T.data_type.blocked (T.kind_of self.old.value) owner removed entry.history ≡ Some (record { owner = owner_share; removed = removed_share }) }
         ensures unblocked { (log : History T.Op) (entry : Entry T.Op) → StandsFor T.IsDataOf (parts_of self.old) log entry → result ≡ Ok outcome.Performed
             → T.data_type.blocked (T.kind_of self.old.value) owner removed entry.history ≡ None }
+        ensures undeleted { (owner_share removed_share : ℕ) → result ≡ Ok (outcome.Blocked owner_share removed_share) → T.is_closed self.old.value ≡ false }
         ensures marked { result ≡ Ok outcome.NothingMarked → ⊥ }
         ensures seen { (i : ℕ) → result ≡ Ok (outcome.Waiting i) → ⊥ }
         ensures pruned { result ≡ Ok outcome.Performed → IsPruned removed owner (parts_of self.old) (parts_of self.new) }

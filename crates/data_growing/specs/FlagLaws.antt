@@ -7,7 +7,7 @@ use Rattle.model_history.specs.Vector.{VersionVector, join}
 use Rattle.model_history.specs.History.{History, cut}
 use Rattle.model_history.specs.History.Action.{Operation, Prune}
 use Rattle.model_history.specs.Cuts.{IsConsistentCut, IsNext, grown}
-use Rattle.model_meanings.specs.Growing.{is_on}
+use Rattle.model_meanings.specs.Growing.{has_operation}
 use Rattle.model_meanings.specs.Refusal.{Refusal}
 use Rattle.base_vectors.specs.declared.id.Dot.{Dot}
 use Rattle.model_kinds.specs.SixKinds.{of_kind, enables}
@@ -50,7 +50,7 @@ module _ {Op : Type 0} (on : Op → Bool) where
   pub data_once : (state other : Flag) (log : History Op) (held : VersionVector) → IsFlagOf on state log held → IsFlagOf on other log held → state ≡ other
   data_once state other log held is other_is = same_flag _ _ (tells_once on log state.on other.on held is other_is)
 
-  pub on_means : (state : Flag) (log : History Op) (held : VersionVector) → IsConsistentCut log held → IsFlagOf on state log held → state.on ≡ is_on on (cut log held)
+  pub on_means : (state : Flag) (log : History Op) (held : VersionVector) → IsConsistentCut log held → IsFlagOf on state log held → state.on ≡ has_operation on (cut log held)
   on_means state log held h is = tells_means on log state.on held h is
 
   switched : (log : History Op) (origin after to : ℕ) → IsSwitchedOn on log origin after to → TellsBetween on log true origin after to

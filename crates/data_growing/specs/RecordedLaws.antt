@@ -15,7 +15,7 @@ use Rattle.model_history.proofs.PastLaws.{identity_of_record}
 use Rattle.model_history.proofs.PruneLaws.{IsIn, in_flat_map, to_flat_map, in_stamped, at_identities}
 use Rattle.model_history.proofs.CutLaws.{with_at_is, with_at-le, new_or_old}
 use Rattle.model_history.proofs.Bridge.{cut_is_history, in_cut, of_cut}
-use Rattle.model_meanings.specs.Growing.{switches_on, is_on}
+use Rattle.model_meanings.specs.Growing.{is_operation, has_operation}
 use Rattle.data_growing.specs.Bits.{same_bits}
 use Rattle.data_growing.specs.Recorded.{IsRecorded, Tells, TellsBetween}
 
@@ -64,7 +64,7 @@ module _ {Op : Type 0} (test : Op → Bool) (log : History Op) where
   pub tells_none : (held : VersionVector) → ((i : ℕ) → held i ≡ 0) → Tells test log false held
   tells_none held none = record { only = λ e. absurd (cc e); all = λ r. absurd (let w = r.within in let z = none r.origin in omega arith) }
 
-  pub tells_grown : (bit also : Bool) (held : VersionVector) (id : ℕ) (next : Action Op) → IsNext log held id next → switches_on test next ≡ also → Tells test log bit held → Tells test log (bit || also) (grown held id)
+  pub tells_grown : (bit also : Bool) (held : VersionVector) (id : ℕ) (next : Action Op) → IsNext log held id next → is_operation test next ≡ also → Tells test log bit held → Tells test log (bit || also) (grown held id)
   tells_grown bit also held id next n passes t = record {
     only = λ e. ⊎_elim
         (λ (old : bit ≡ true). stays held (grown held id) (λ i. with_at-le held id (held id + 1) i (omega arith)) (t.only old))
@@ -72,12 +72,12 @@ module _ {Op : Type 0} (test : Op → Bool) (log : History Op) where
           origin = id;
           index = held id;
           within = (let w = with_at_is held id (held id + 1) id refl in omega arith);
-          passes = ap (switches_on test) n.action ∙ passes ∙ new;
+          passes = ap (is_operation test) n.action ∙ passes ∙ new;
         }) (or_cases bit also e);
     all = λ r. ⊎_elim
         (λ (new : (r.origin ≡ id) × (r.index ≡ held id)). or_right bit also (
         let same : action_of log r.origin r.index ≡ next = ap (λ i. action_of log i r.index) new.0 ∙ ap (action_of log id) new.1 ∙ n.action in
-        sym passes ∙ sym (ap (switches_on test) same) ∙ r.passes))
+        sym passes ∙ sym (ap (is_operation test) same) ∙ r.passes))
         (λ (old : r.index < held r.origin). or_left bit also (t.all (record { origin = r.origin; index = r.index; within = old; passes = r.passes })))
         (new_or_old log held id r.origin r.index r.within);
   }
@@ -86,14 +86,14 @@ module _ {Op : Type 0} (test : Op → Bool) (log : History Op) where
   tells_pruned bit held id removed n t = subst (λ b. Tells test log b (grown held id)) (or-false bit) (tells_grown bit false held id (Prune removed) n refl t)
 
   -- the new record alone
-  pub tells_new : (bit : Bool) (held : VersionVector) (id : ℕ) (next : Action Op) → IsNext log held id next → switches_on test next ≡ bit → TellsBetween test log bit id (held id) (held id + 1)
+  pub tells_new : (bit : Bool) (held : VersionVector) (id : ℕ) (next : Action Op) → IsNext log held id next → is_operation test next ≡ bit → TellsBetween test log bit id (held id) (held id + 1)
   tells_new bit held id next n passes = record {
-    only = λ e. record { index = held id; from = omega arith; within = omega arith; passes = ap (switches_on test) n.action ∙ passes ∙ e };
+    only = λ e. record { index = held id; from = omega arith; within = omega arith; passes = ap (is_operation test) n.action ∙ passes ∙ e };
     all = λ r.
         let f = r.from in
         let w = r.within in
         let here : r.index ≡ held id = omega arith in
-        sym passes ∙ sym (ap (switches_on test) (ap (action_of log id) here ∙ n.action)) ∙ r.passes;
+        sym passes ∙ sym (ap (is_operation test) (ap (action_of log id) here ∙ n.action)) ∙ r.passes;
   }
 
   pub tells_joined : (bit also_bit : Bool) (held also : VersionVector) → Tells test log bit held → Tells test log also_bit also → Tells test log (bit || also_bit) (join held also)
@@ -124,7 +124,7 @@ module _ {Op : Type 0} (test : Op → Bool) (log : History Op) where
         let same : held r.origin ≡ held origin = ap held here in
         let upto : with_at held origin to r.origin ≡ to = with_at_is held origin to r.origin here in
         let w = r.within in
-        u.all (record { index = r.index; from = omega arith; within = omega arith; passes = ap (λ i. switches_on test (action_of log i r.index)) (sym here) ∙ r.passes }))
+        u.all (record { index = r.index; from = omega arith; within = omega arith; passes = ap (λ i. is_operation test (action_of log i r.index)) (sym here) ∙ r.passes }))
         (λ (there : r.origin ≢ origin). absurd (let w = r.within in let s = with_at_other held origin to r.origin there in omega arith)) (cases_eq r.origin origin)))
         (cases_lt r.index (held r.origin));
   }
@@ -147,20 +147,20 @@ module _ {Op : Type 0} (test : Op → Bool) (log : History Op) where
   tells_once bit also held t u = same_bits bit also (λ e. u.all (t.only e)) (λ e. t.all (u.only e))
 
   -- it is what all records of the history say
-  pub tells_means : (bit : Bool) (held : VersionVector) → IsConsistentCut log held → Tells test log bit held → bit ≡ is_on test (cut log held)
-  tells_means bit held h t = same_bits bit (is_on test (cut log held)) there back
+  pub tells_means : (bit : Bool) (held : VersionVector) → IsConsistentCut log held → Tells test log bit held → bit ≡ has_operation test (cut log held)
+  tells_means bit held h t = same_bits bit (has_operation test (cut log held)) there back
     where
-      there : bit ≡ true → is_on test (cut log held) ≡ true
+      there : bit ≡ true → has_operation test (cut log held) ≡ true
       there e =
           let r = t.only e in
           let few = h.made r.origin in
           let w = r.within in
           let b = belongs log held h r.origin r.index _ (in_cut log held r.origin r.index r.within (omega arith)) in
-          any_passes_from_place (λ (x : Stamped Op). switches_on test x.action) (all_records (cut log held)) b.0 _ b.1 r.passes
+          any_passes_from_place (λ (x : Stamped Op). is_operation test x.action) (all_records (cut log held)) b.0 _ b.1 r.passes
 
-      back : is_on test (cut log held) ≡ true → bit ≡ true
+      back : has_operation test (cut log held) ≡ true → bit ≡ true
       back e =
-          let x = any_at (λ (x : Stamped Op). switches_on test x.action) (all_records (cut log held)) e in
+          let x = any_at (λ (x : Stamped Op). is_operation test x.action) (all_records (cut log held)) e in
           let p = placed log held x.0 x.1 in
           let same = (of_cut log held p.0 p.1 _ p.4).1 in
-          t.all (record { origin = p.0; index = p.1; within = p.3; passes = ap (λ (r : Record Op). switches_on test r.action) same ∙ x.2 })
+          t.all (record { origin = p.0; index = p.1; within = p.3; passes = ap (λ (r : Record Op). is_operation test r.action) same ∙ x.2 })

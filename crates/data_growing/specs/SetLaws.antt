@@ -10,7 +10,7 @@ use Rattle.model_history.specs.Vector.{VersionVector, join}
 use Rattle.model_history.specs.History.{Action, Stamped, History, cut, all_records}
 use Rattle.model_history.specs.History.Action.{Operation, Prune}
 use Rattle.model_history.specs.Cuts.{IsConsistentCut, IsNext, grown}
-use Rattle.model_meanings.specs.Growing.{found, added_elements, switches_on}
+use Rattle.model_meanings.specs.Growing.{found, added_elements, is_operation}
 use Rattle.model_meanings.specs.Refusal.{full}
 use Rattle.model_kinds.specs.SixKinds.{of_kind, added}
 use Rattle.model_kinds.specs.declared.kind.Kind.TheVariants as Kind
@@ -114,7 +114,7 @@ module _ {Op : Type 0} (added : Op → Option Text) where
 
   -- THE ELEMENTS THAT A HISTORY ADDS
 
-  adds_here : (e : Text) (action : Action Op) (rest : Bool) (xs : List Text) → rest ≡ contains_text xs e → (switches_on (is_adding added e) action || rest) ≡ contains_text (option_to_list (found added action) ++ xs) e
+  adds_here : (e : Text) (action : Action Op) (rest : Bool) (xs : List Text) → rest ≡ contains_text xs e → (is_operation (is_adding added e) action || rest) ≡ contains_text (option_to_list (found added action) ++ xs) e
   adds_here e (Operation op) rest xs same = ap (λ b. is_adding added e op || b) same ∙ sym (contains_append (option_to_list (added op)) xs e)
   adds_here e (Prune r) rest xs same = same
 
@@ -125,10 +125,10 @@ module _ {Op : Type 0} (added : Op → Option Text) where
       go None e = rw e refl
       go (Some y) e = rw e refl
 
-  contains_added : (xs : List (Stamped Op)) (e : Text) → list_any (λ (x : Stamped Op). switches_on (is_adding added e) x.action) xs ≡ contains_text (filter_map (λ (x : Stamped Op). found added x.action) xs) e
+  contains_added : (xs : List (Stamped Op)) (e : Text) → list_any (λ (x : Stamped Op). is_operation (is_adding added e) x.action) xs ≡ contains_text (filter_map (λ (x : Stamped Op). found added x.action) xs) e
   contains_added [] e = refl
   contains_added (x ∷ xs) e =
-      adds_here e x.action (list_any (λ (x : Stamped Op). switches_on (is_adding added e) x.action) xs) (filter_map (λ (x : Stamped Op). found added x.action) xs) (contains_added xs e)
+      adds_here e x.action (list_any (λ (x : Stamped Op). is_operation (is_adding added e) x.action) xs) (filter_map (λ (x : Stamped Op). found added x.action) xs) (contains_added xs e)
       ∙ ap (λ ys. contains_text ys e) (sym (filter_map_cons (λ (x : Stamped Op). found added x.action) x xs))
 
   pub set_means : (state : List Text) (log : History Op) (held : VersionVector) → IsConsistentCut log held → IsSetOf added state log held → state ≡ added_elements added (cut log held)

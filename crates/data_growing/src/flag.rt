@@ -1,11 +1,12 @@
 ghost use Rattle.std.specs.Prelude.{true, false, refl, ◌≡◌, ◌==◌, None, ◌||◌};
 ghost use Rattle.std.proofs.Common.{ap};
+ghost use Rattle.std.proofs.lemmas.Bool.{false≢true};
 ghost use Rattle.model_history.specs.History.{cut};
 ghost use Rattle.model_kinds.specs.SixKinds.{of_kind, enables};
 ghost use Rattle.model_kinds.specs.declared.kind.Kind.TheVariants as kind;
 ghost use Rattle.model_kinds.specs.declared.shown.Shown.TheVariants.{Switch};
 ghost use Rattle.data_growing.specs.Flags.{flag_joined, flag_on, flag_off, IsFlagOf, IsSwitchedOn};
-ghost use Rattle.model_meanings.specs.Growing.{is_on};
+ghost use Rattle.model_meanings.specs.Growing.{has_operation};
 ghost use Rattle.data_growing.specs.Spelling.{switch_spelled};
 ghost use Rattle.data_growing.specs.Reading.{flag_in};
 ghost use Rattle.data_growing.specs.SpellingLaws as spellings;
@@ -38,6 +39,8 @@ impl Replica for Flag {
     ghost data_type = { of_kind kind.Flag };
 
     ghost kind_of = { λ _. tt };
+
+    ghost is_closed = { λ _. false };
 
     ghost delta_fits_kind = { λ _ _. true };
 
@@ -87,6 +90,10 @@ impl Replica for Flag {
 
     fn same_kind(&self, _other: &Flag) -> bool {
         true
+    }
+
+    fn closed(&self) -> bool {
+        false
     }
 
     fn fits(&self, op: &Op) -> bool {
@@ -154,6 +161,20 @@ impl Replica for Flag {
 
     ghost kind_pruned = { λ _ _ _. refl };
 
+    ghost closed_joined = { λ _ _ _ _. refl };
+
+    ghost closed_absorbed = { λ _ _ _ is. is };
+
+    ghost closed_cleaned = { λ _ _. refl };
+
+    ghost closed_pruned = { λ _ _ _. refl };
+
+    ghost closed_mentions = { λ _ _ _. refl };
+
+    ghost closed_shown = { λ _ is. absurd (false≢true is) };
+
+    ghost closed_unblocked = { λ _ _ _ _. refl };
+
     ghost delta_kind = { λ _ _ _ _. refl };
 
     ghost delta_origin = { λ _ _ _. tt };
@@ -214,6 +235,8 @@ impl Replica for Flag {
 
     ghost pruned_unmentioned = { λ _ _ _ _. refl };
 
+    ghost closed_means = { λ _ _ _ _ _ _. refl };
+
     ghost refusal_means = { λ _ log held _ op origin _ _ _ fits. laws.never_refused op origin (cut log held) fits };
 
     ghost blocked_means = { λ _ _ _ _ _ _ _ _ _ _. refl };
@@ -232,7 +255,9 @@ impl SpelledData for Flag {
 
     ghost read_in = { λ _ _. flag_in };
 
-    ghost history_spelled = { λ _ H. switch_spelled (is_on enables H) };
+    ghost history_byte = { λ _ _. 5 };
+
+    ghost history_spelled = { λ _ H. switch_spelled (has_operation enables H) };
 
     fn is_kind(byte: u8) -> bool {
         byte == 5
@@ -259,13 +284,15 @@ impl SpelledData for Flag {
 
     ghost spelling_is = { λ _. refl };
 
-    ghost kind_is_known = { λ _. refl };
+    ghost byte_is_known = { λ _. refl };
 
     ghost read_is_spelled = { λ kind barred bytes x rest known fits read. spellings.of_one_kind 5 kind barred known (spellings.flag_takes bytes x rest fits read) };
 
     ghost spelled_is_read = { λ x _ rest _ _. spellings.flag_again x rest };
 
     ghost mentioned_few = { λ _ _ _ _. refl };
+
+    ghost byte_means = { λ _ _ _ _ _ _. refl };
 
     ghost spelling_means = { λ state log held _ pruned is. ap switch_spelled (laws.on_means enables state log held pruned.cut is) };
 }

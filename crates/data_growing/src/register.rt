@@ -1,6 +1,7 @@
 ghost use Rattle.std.specs.Prelude.{◌≡◌, ◌≤◌, ◌+◌, ◌==◌, [], max, true, false, refl, None, Some, OnOk, OnErr, IfOk, IfErr, option_copied};
 ghost use Rattle.std.specs.Ordering.{is_lt};
 ghost use Rattle.std.proofs.Common.{ap};
+ghost use Rattle.std.proofs.lemmas.Bool.{false≢true};
 ghost use Rattle.model_meanings.specs.Growing.{Assignment};
 ghost use Rattle.model_meanings.specs.Refusal.{greatest_share};
 ghost use Rattle.base_vectors.specs.declared.id.Dot.{Dot};
@@ -171,6 +172,8 @@ impl Replica for LwwRegister {
 
     ghost kind_of = { λ _. tt };
 
+    ghost is_closed = { λ _. false };
+
     ghost delta_fits_kind = { λ _ _. true };
 
     ghost IsOfOrigin = { λ delta origin. delta.writer ≡ origin };
@@ -226,6 +229,10 @@ impl Replica for LwwRegister {
 
     fn same_kind(&self, _other: &LwwRegister) -> bool {
         true
+    }
+
+    fn closed(&self) -> bool {
+        false
     }
 
     fn fits(&self, op: &Op) -> bool {
@@ -300,6 +307,20 @@ impl Replica for LwwRegister {
 
     ghost kind_pruned = { λ _ _ _. refl };
 
+    ghost closed_joined = { λ _ _ _ _. refl };
+
+    ghost closed_absorbed = { λ _ _ _ is. is };
+
+    ghost closed_cleaned = { λ _ _. refl };
+
+    ghost closed_pruned = { λ _ _ _. refl };
+
+    ghost closed_mentions = { λ _ _ _. refl };
+
+    ghost closed_shown = { λ _ is. absurd (false≢true is) };
+
+    ghost closed_unblocked = { λ _ _ _ _. refl };
+
     ghost delta_kind = { λ _ _ _ _. refl };
 
     ghost delta_origin = { λ _ _ _. refl };
@@ -360,6 +381,8 @@ impl Replica for LwwRegister {
 
     ghost pruned_unmentioned = { λ _ _ _ _. refl };
 
+    ghost closed_means = { λ _ _ _ _ _ _. refl };
+
     ghost refusal_means = { λ state log held _ op origin _ is _ fits. laws.refusal_means state log held op origin is fits };
 
     ghost blocked_means = { λ _ _ _ _ _ _ _ _ _ _. refl };
@@ -396,6 +419,8 @@ impl SpelledData for LwwRegister {
 
     ghost read_in = { λ _ _. register_in };
 
+    ghost history_byte = { λ _ _. 6 };
+
     ghost history_spelled = { λ _ H. register_spelled (won_write assigned H) };
 
     fn is_kind(byte: u8) -> bool {
@@ -428,13 +453,15 @@ impl SpelledData for LwwRegister {
 
     ghost spelling_is = { λ _. refl };
 
-    ghost kind_is_known = { λ _. refl };
+    ghost byte_is_known = { λ _. refl };
 
     ghost read_is_spelled = { λ kind barred bytes x rest known fits read. spellings.of_one_kind 6 kind barred known (spellings.register_takes bytes x rest fits read) };
 
     ghost spelled_is_read = { λ x _ rest sound _. spellings.register_again x rest sound };
 
     ghost mentioned_few = { λ _ _ _ _. refl };
+
+    ghost byte_means = { λ _ _ _ _ _ _. refl };
 
     ghost spelling_means = { λ state log held _ _ is. ap register_spelled (laws.write_means assigned log state held is) };
 }

@@ -1,6 +1,7 @@
 ghost use Rattle.std.specs.Prelude.{◌≡◌, ◌==◌, ◌≤◌, [], ◌∷◌, ◌++◌, true, false, refl, length, None, OnOk, OnErr, IfOk, IfErr};
 ghost use Rattle.std.specs.Option.{option_to_list};
 ghost use Rattle.std.proofs.Common.{ap};
+ghost use Rattle.std.proofs.lemmas.Bool.{false≢true};
 ghost use Rattle.model_history.specs.Texts.{text_set};
 ghost use Rattle.model_meanings.specs.Refusal.{full};
 ghost use Rattle.model_kinds.specs.SixKinds.{of_kind, added};
@@ -153,6 +154,8 @@ impl Replica for GSet {
 
     ghost kind_of = { λ _. tt };
 
+    ghost is_closed = { λ _. false };
+
     ghost delta_fits_kind = { λ _ _. true };
 
     ghost IsOfOrigin = { λ _ _. Unit {0} };
@@ -201,6 +204,10 @@ impl Replica for GSet {
 
     fn same_kind(&self, _other: &GSet) -> bool {
         true
+    }
+
+    fn closed(&self) -> bool {
+        false
     }
 
     fn fits(&self, op: &Op) -> bool {
@@ -268,6 +275,20 @@ impl Replica for GSet {
 
     ghost kind_pruned = { λ _ _ _. refl };
 
+    ghost closed_joined = { λ _ _ _ _. refl };
+
+    ghost closed_absorbed = { λ _ _ _ is. is };
+
+    ghost closed_cleaned = { λ _ _. refl };
+
+    ghost closed_pruned = { λ _ _ _. refl };
+
+    ghost closed_mentions = { λ _ _ _. refl };
+
+    ghost closed_shown = { λ _ is. absurd (false≢true is) };
+
+    ghost closed_unblocked = { λ _ _ _ _. refl };
+
     ghost delta_kind = { λ _ _ _ _. refl };
 
     ghost delta_origin = { λ _ _ _. tt };
@@ -328,6 +349,8 @@ impl Replica for GSet {
 
     ghost pruned_unmentioned = { λ _ _ _ _. refl };
 
+    ghost closed_means = { λ _ _ _ _ _ _. refl };
+
     ghost refusal_means = { λ state log held _ op origin pruned is _ fits. laws.refusal_means state log held op origin pruned.cut is fits };
 
     ghost blocked_means = { λ _ _ _ _ _ _ _ _ _ _. refl };
@@ -356,6 +379,8 @@ impl SpelledData for GSet {
 
     ghost read_in = { λ _ _. set_in };
 
+    ghost history_byte = { λ _ _. 3 };
+
     ghost history_spelled = { λ _ H. set_spelled (added_elements added H) };
 
     fn is_kind(byte: u8) -> bool {
@@ -383,13 +408,15 @@ impl SpelledData for GSet {
 
     ghost spelling_is = { λ _. refl };
 
-    ghost kind_is_known = { λ _. refl };
+    ghost byte_is_known = { λ _. refl };
 
     ghost read_is_spelled = { λ kind barred bytes x rest known fits read. spellings.of_one_kind 3 kind barred known (spellings.set_takes bytes x rest fits read) };
 
     ghost spelled_is_read = { λ x _ rest sound _. spellings.set_again x rest sound };
 
     ghost mentioned_few = { λ _ _ _ _. refl };
+
+    ghost byte_means = { λ _ _ _ _ _ _. refl };
 
     ghost spelling_means = { λ state log held _ pruned is. ap set_spelled (laws.set_means added state log held pruned.cut is) };
 }

@@ -5,9 +5,9 @@ use Rattle.std.specs.List.{list_any}
 use Rattle.model_history.specs.Texts.{Text, text_set}
 use Rattle.model_history.specs.History.{Stamped, History, all_records}
 use Rattle.model_meanings.specs.Counter.{amount_of, total}
-use Rattle.model_meanings.specs.Growing.{found, added_elements, switches_on, is_on}
+use Rattle.model_meanings.specs.Growing.{found, added_elements, is_operation, has_operation}
 use Rattle.model_meanings.specs.ObservedRemove.{is_live, live_elements}
-use Rattle.model_kinds.specs.SixKinds.{added, enables, set_operations}
+use Rattle.model_kinds.specs.SixKinds.{added, set_operations}
 use Rattle.model_kinds.specs.declared.operation.Op.{Op}
 use Rattle.data_meaning.specs.declared.record.Record.{Record}
 use Rattle.data_meaning.specs.Records.{action_of, stamped, AreInOrder}
@@ -22,8 +22,8 @@ module _ (records : List Record) (H : History Op) (are : AreInOrder records H) w
   pub added_means : text_set (filter_map (λ (r : Record). found added (action_of r.action)) records) ≡ added_elements added H
   added_means = ap text_set (sym (filter_map-map stamped (λ (x : Stamped Op). found added x.action) records) ∙ ap (filter_map (λ (x : Stamped Op). found added x.action)) are.listed)
 
-  pub on_means : list_any (λ (r : Record). switches_on enables (action_of r.action)) records ≡ is_on enables H
-  on_means = sym (list_any-map stamped (λ (x : Stamped Op). switches_on enables x.action) records) ∙ ap (list_any (λ (x : Stamped Op). switches_on enables x.action)) are.listed
+  pub operation_means : (test : Op → Bool) → list_any (λ (r : Record). is_operation test (action_of r.action)) records ≡ has_operation test H
+  operation_means test = sym (list_any-map stamped (λ (x : Stamped Op). is_operation test x.action) records) ∙ ap (list_any (λ (x : Stamped Op). is_operation test x.action)) are.listed
 
   pub live_means : filter (is_shown records) (text_set (filter_map (λ (r : Record). found added (action_of r.action)) records)) ≡ live_elements set_operations H
   live_means = filter-same (is_shown records) (λ e. list_any (is_live set_operations e H) (all_records H)) _ (λ e. is_shown_means e H are.history records are.listed)

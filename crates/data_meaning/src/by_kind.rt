@@ -5,6 +5,7 @@ ghost use Rattle.model_kinds.specs.declared.shown.Shown.TheVariants.{Signed};
 ghost use Rattle.data_meaning.specs.Records.{AreRecordsOf, AreInOrder};
 
 use crate::counts::{decrements, increments};
+use crate::deletes::is_deleted;
 use crate::elements::{added_elements, live_elements};
 use crate::record::Record;
 use crate::switches::is_on;
@@ -40,9 +41,9 @@ fn in_order(mut records: Vec<Record>) -> Result<Vec<Record>, Memory>
     }
 }
 
-/// What a history of a kind shows. The records are those of the history, each once, in any order.
+/// What a history of a kind shows, deletes among its operations. The records are those of the history, each once, in any order.
 pub fn meaning(alloc: Global, kind: Kind, records: Vec<Record>) -> Result<Shown, Memory>
-    ensures { (H : History Op) → AreRecordsOf records.items H → IfOk result (λ shown. shown ≡ kinds.shown kind H) }
+    ensures { (H : History Op) → AreRecordsOf records.items H → IfOk result (λ shown. shown ≡ kinds.six_kinds.shown kind H) }
 {
     let sorted = in_order(records)?;
     meaning_in_order(alloc, kind, &sorted)
@@ -50,6 +51,16 @@ pub fn meaning(alloc: Global, kind: Kind, records: Vec<Record>) -> Result<Shown,
 
 /// What a history shows whose records stand by origin and then by number.
 fn meaning_in_order(alloc: Global, kind: Kind, records: &[Record]) -> Result<Shown, Memory>
+    ensures { (H : History Op) → AreInOrder records.now H → IfOk result (λ shown. shown ≡ kinds.six_kinds.shown kind H) }
+{
+    if is_deleted(records) {
+        return Ok(Shown::Deleted);
+    }
+    value_in_order(alloc, kind, records)
+}
+
+/// The value of a history whose records stand by origin and then by number, where none deletes the key.
+fn value_in_order(alloc: Global, kind: Kind, records: &[Record]) -> Result<Shown, Memory>
     ensures { (H : History Op) → AreInOrder records.now H → IfOk result (λ shown. shown ≡ kinds.shown kind H) }
 {
     match kind {

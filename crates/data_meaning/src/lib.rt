@@ -8,6 +8,7 @@
 
 mod by_kind;
 mod counts;
+mod deletes;
 mod elements;
 mod laws;
 mod record;

@@ -1,6 +1,7 @@
 ghost use Rattle.std.specs.Prelude.{◌≡◌, ◌≤◌, true, false, refl, None};
 ghost use Rattle.std.specs.FinSet as set;
 ghost use Rattle.std.proofs.Common.{ap};
+ghost use Rattle.std.proofs.lemmas.Bool.{false≢true};
 ghost use Rattle.model_kinds.specs.SixKinds.{of_kind};
 ghost use Rattle.model_kinds.specs.declared.kind.Kind.TheVariants as kind;
 ghost use Rattle.model_kinds.specs.declared.shown.Shown.TheVariants.{Elements};
@@ -31,6 +32,8 @@ impl Replica for OrSet {
     ghost data_type = { of_kind kind.OrSet };
 
     ghost kind_of = { λ _. tt };
+
+    ghost is_closed = { λ _. false };
 
     ghost delta_fits_kind = { λ _ _. true };
 
@@ -80,6 +83,10 @@ impl Replica for OrSet {
 
     fn same_kind(&self, _other: &OrSet) -> bool {
         true
+    }
+
+    fn closed(&self) -> bool {
+        false
     }
 
     fn fits(&self, op: &Op) -> bool {
@@ -151,6 +158,20 @@ impl Replica for OrSet {
 
     ghost kind_pruned = { λ _ _ _. refl };
 
+    ghost closed_joined = { λ _ _ _ _. refl };
+
+    ghost closed_absorbed = { λ _ _ _ is. is };
+
+    ghost closed_cleaned = { λ _ _. refl };
+
+    ghost closed_pruned = { λ _ _ _. refl };
+
+    ghost closed_mentions = { λ _ _ is. absurd (false≢true is) };
+
+    ghost closed_shown = { λ _ is. absurd (false≢true is) };
+
+    ghost closed_unblocked = { λ _ _ _ _. refl };
+
     ghost delta_kind = { λ _ _ _ _. refl };
 
     ghost delta_origin = { joins.delta_origin };
@@ -210,6 +231,8 @@ impl Replica for OrSet {
     ghost pruned_mentions = { mentions.pruned_mentions };
 
     ghost pruned_unmentioned = { mentions.pruned_unmentioned };
+
+    ghost closed_means = { λ _ _ _ _ _ _. refl };
 
     ghost refusal_means = { λ state log held gone op origin pruned is _ fits. meaning.refusal_means state log held gone pruned is op origin fits };
 

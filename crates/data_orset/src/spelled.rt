@@ -25,6 +25,8 @@ impl SpelledData for OrSet {
 
     ghost read_in = { λ _ barred bytes. set_in barred bytes };
 
+    ghost history_byte = { λ _ _. 4 };
+
     ghost history_spelled = { λ _ H. elements_spelled (history_elements H) };
 
     fn is_kind(byte: u8) -> bool {
@@ -51,13 +53,15 @@ impl SpelledData for OrSet {
 
     ghost spelling_is = { λ _. refl };
 
-    ghost kind_is_known = { λ _. refl };
+    ghost byte_is_known = { λ _. refl };
 
     ghost read_is_spelled = { laws.set_takes };
 
     ghost spelled_is_read = { λ x barred rest. laws.set_again x barred rest };
 
     ghost mentioned_few = { laws.set_few };
+
+    ghost byte_means = { λ _ _ _ _ _ _. refl };
 
     ghost spelling_means = { λ state log held gone pruned is. ap elements_spelled (meaning.elements_are state log held gone pruned is) };
 }

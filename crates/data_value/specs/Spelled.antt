@@ -13,8 +13,8 @@ use Rattle.data_growing.specs.contracts.set.GSetSpelledData.TheImpl.{ghosts as g
 use Rattle.data_orset.specs.contracts.spelled.OrSetSpelledData.TheImpl.{ghosts as orset}
 use Rattle.data_growing.specs.contracts.flag.FlagSpelledData.TheImpl.{ghosts as flag}
 use Rattle.data_growing.specs.contracts.register.LwwRegisterSpelledData.TheImpl.{ghosts as register}
-use Rattle.data_value.specs.declared.value.Data.{Data}
-use Rattle.data_value.specs.declared.value.Data.TheVariants.{GCounter, PnCounter, GSet, OrSet, Flag, LwwRegister}
+use Rattle.data_value.specs.declared.value.Value.{Value}
+use Rattle.data_value.specs.declared.value.Value.TheVariants.{GCounter, PnCounter, GSet, OrSet, Flag, LwwRegister}
 
 -- the bytes of the kinds are 1 to 6
 abbrev pub byte_of : Kind → ℕ
@@ -33,7 +33,7 @@ abbrev pub kind_at : ℕ → Kind
 kind_at byte =
     if byte == 1 then kinds.GCounter else (if byte == 2 then kinds.PnCounter else (if byte == 3 then kinds.GSet else (if byte == 4 then kinds.OrSet else (if byte == 5 then kinds.Flag else kinds.LwwRegister))))
 
-abbrev pub IsSound : Data → Type 0
+abbrev pub IsSound : Value → Type 0
 IsSound (GCounter state) = gcounter.IsSound state
 IsSound (PnCounter state) = pncounter.IsSound state
 IsSound (GSet state) = gset.IsSound state
@@ -41,7 +41,7 @@ IsSound (OrSet state) = orset.IsSound state
 IsSound (Flag state) = flag.IsSound state
 IsSound (LwwRegister state) = register.IsSound state
 
-abbrev pub spelled : Data → List ℕ
+abbrev pub spelled : Value → List ℕ
 spelled (GCounter state) = gcounter.spelled state
 spelled (PnCounter state) = pncounter.spelled state
 spelled (GSet state) = gset.spelled state
@@ -49,11 +49,11 @@ spelled (OrSet state) = orset.spelled state
 spelled (Flag state) = flag.spelled state
 spelled (LwwRegister state) = register.spelled state
 
--- what was read, as data of a kind
-abbrev pub told_as : {X : Type 0} → (X → Data) → Result (X × List ℕ) Fault → Result (Data × List ℕ) Fault
+-- what was read, as something else
+abbrev pub told_as : {X Y : Type 0} → (X → Y) → Result (X × List ℕ) Fault → Result (Y × List ℕ) Fault
 told_as make read = read >>= λ found. Ok (make found.0, found.1)
 
-abbrev pub read_of : Kind → IdentitySet → List ℕ → Result (Data × List ℕ) Fault
+abbrev pub read_of : Kind → IdentitySet → List ℕ → Result (Value × List ℕ) Fault
 read_of kinds.GCounter barred bytes = told_as GCounter (gcounter.read_in 1 barred bytes)
 read_of kinds.PnCounter barred bytes = told_as PnCounter (pncounter.read_in 2 barred bytes)
 read_of kinds.GSet barred bytes = told_as GSet (gset.read_in 3 barred bytes)
@@ -61,7 +61,7 @@ read_of kinds.OrSet barred bytes = told_as OrSet (orset.read_in 4 barred bytes)
 read_of kinds.Flag barred bytes = told_as Flag (flag.read_in 5 barred bytes)
 read_of kinds.LwwRegister barred bytes = told_as LwwRegister (register.read_in 6 barred bytes)
 
-abbrev pub read_in : ℕ → IdentitySet → List ℕ → Result (Data × List ℕ) Fault
+abbrev pub read_in : ℕ → IdentitySet → List ℕ → Result (Value × List ℕ) Fault
 read_in byte barred bytes = read_of (kind_at byte) barred bytes
 
 abbrev pub history_spelled : Kind → History Op → List ℕ

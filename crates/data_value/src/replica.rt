@@ -1,9 +1,11 @@
-ghost use Rattle.model_kinds.specs.SixKinds.{six_kinds};
+ghost use Rattle.std.specs.Prelude.{◌≡◌, false, refl};
+ghost use Rattle.std.proofs.lemmas.Bool.{false≢true};
+ghost use Rattle.model_kinds.specs.SixKinds as meant;
 ghost use Rattle.data_value.specs.Values as values;
 ghost use Rattle.data_value.specs.Spelled as spelled;
 ghost use Rattle.data_value.specs.Laws as laws;
 
-use crate::value::{Data, Delta, are_same};
+use crate::value::{Value, Change, are_same};
 use base_bytes::Memory;
 use base_vectors::{Dot, Id, VersionVector};
 use data_counters::{GCounter, PnCounter};
@@ -13,16 +15,18 @@ use data_orset::OrSet;
 use model_kinds::{Kind, Op, Shown};
 use std::alloc::Global;
 
-impl Replica for Data {
+impl Replica for Value {
     type Kind = Kind;
 
     type Op = Op;
 
-    type Delta = Delta;
+    type Delta = Change;
 
-    ghost data_type = { six_kinds };
+    ghost data_type = { meant.values };
 
     ghost kind_of = { values.kind_of };
+
+    ghost is_closed = { λ _. false };
 
     ghost delta_fits_kind = { values.fits_kind };
 
@@ -62,204 +66,208 @@ impl Replica for Data {
 
     ghost IsWithin = { values.IsWithin };
 
-    fn empty(alloc: Global, kind: &Kind) -> Result<Data, Memory> {
+    fn empty(alloc: Global, kind: &Kind) -> Result<Value, Memory> {
         match kind {
-            Kind::GCounter => Ok(Data::GCounter(GCounter::empty(alloc, &())?)),
-            Kind::PnCounter => Ok(Data::PnCounter(PnCounter::empty(alloc, &())?)),
-            Kind::GSet => Ok(Data::GSet(GSet::empty(alloc, &())?)),
-            Kind::OrSet => Ok(Data::OrSet(OrSet::empty(alloc, &())?)),
-            Kind::Flag => Ok(Data::Flag(Flag::empty(alloc, &())?)),
-            Kind::LwwRegister => Ok(Data::LwwRegister(LwwRegister::empty(alloc, &())?)),
+            Kind::GCounter => Ok(Value::GCounter(GCounter::empty(alloc, &())?)),
+            Kind::PnCounter => Ok(Value::PnCounter(PnCounter::empty(alloc, &())?)),
+            Kind::GSet => Ok(Value::GSet(GSet::empty(alloc, &())?)),
+            Kind::OrSet => Ok(Value::OrSet(OrSet::empty(alloc, &())?)),
+            Kind::Flag => Ok(Value::Flag(Flag::empty(alloc, &())?)),
+            Kind::LwwRegister => Ok(Value::LwwRegister(LwwRegister::empty(alloc, &())?)),
         }
     }
 
-    fn copy(&self, alloc: Global) -> Result<Data, Memory> {
+    fn copy(&self, alloc: Global) -> Result<Value, Memory> {
         match self {
-            Data::GCounter(state) => Ok(Data::GCounter(state.copy(alloc)?)),
-            Data::PnCounter(state) => Ok(Data::PnCounter(state.copy(alloc)?)),
-            Data::GSet(state) => Ok(Data::GSet(state.copy(alloc)?)),
-            Data::OrSet(state) => Ok(Data::OrSet(state.copy(alloc)?)),
-            Data::Flag(state) => Ok(Data::Flag(state.copy(alloc)?)),
-            Data::LwwRegister(state) => Ok(Data::LwwRegister(state.copy(alloc)?)),
+            Value::GCounter(state) => Ok(Value::GCounter(state.copy(alloc)?)),
+            Value::PnCounter(state) => Ok(Value::PnCounter(state.copy(alloc)?)),
+            Value::GSet(state) => Ok(Value::GSet(state.copy(alloc)?)),
+            Value::OrSet(state) => Ok(Value::OrSet(state.copy(alloc)?)),
+            Value::Flag(state) => Ok(Value::Flag(state.copy(alloc)?)),
+            Value::LwwRegister(state) => Ok(Value::LwwRegister(state.copy(alloc)?)),
         }
     }
 
-    fn same_kind(&self, other: &Data) -> bool {
+    fn same_kind(&self, other: &Value) -> bool {
         self.kind() == other.kind()
+    }
+
+    fn closed(&self) -> bool {
+        false
     }
 
     fn fits(&self, op: &Op) -> bool {
         match self {
-            Data::GCounter(state) => state.fits(op),
-            Data::PnCounter(state) => state.fits(op),
-            Data::GSet(state) => state.fits(op),
-            Data::OrSet(state) => state.fits(op),
-            Data::Flag(state) => state.fits(op),
-            Data::LwwRegister(state) => state.fits(op),
+            Value::GCounter(state) => state.fits(op),
+            Value::PnCounter(state) => state.fits(op),
+            Value::GSet(state) => state.fits(op),
+            Value::OrSet(state) => state.fits(op),
+            Value::Flag(state) => state.fits(op),
+            Value::LwwRegister(state) => state.fits(op),
         }
     }
 
-    fn apply(&mut self, alloc: Global, op: &Op, dot: Dot) -> Result<Delta, ApplyError> {
+    fn apply(&mut self, alloc: Global, op: &Op, dot: Dot) -> Result<Change, ApplyError> {
         match self {
-            Data::GCounter(state) => state.apply(alloc, op, dot).map(Delta::GCounter),
-            Data::PnCounter(state) => state.apply(alloc, op, dot).map(Delta::PnCounter),
-            Data::GSet(state) => state.apply(alloc, op, dot).map(Delta::GSet),
-            Data::OrSet(state) => state.apply(alloc, op, dot).map(Delta::OrSet),
-            Data::Flag(state) => state.apply(alloc, op, dot).map(Delta::Flag),
-            Data::LwwRegister(state) => state.apply(alloc, op, dot).map(Delta::LwwRegister),
+            Value::GCounter(state) => state.apply(alloc, op, dot).map(Change::GCounter),
+            Value::PnCounter(state) => state.apply(alloc, op, dot).map(Change::PnCounter),
+            Value::GSet(state) => state.apply(alloc, op, dot).map(Change::GSet),
+            Value::OrSet(state) => state.apply(alloc, op, dot).map(Change::OrSet),
+            Value::Flag(state) => state.apply(alloc, op, dot).map(Change::Flag),
+            Value::LwwRegister(state) => state.apply(alloc, op, dot).map(Change::LwwRegister),
         }
     }
 
     fn join(
         &mut self,
         mine: &VersionVector,
-        other: &Data,
+        other: &Value,
         theirs: &VersionVector,
     ) -> Result<(), Memory> {
         match self {
-            Data::GCounter(state) => match other {
-                Data::GCounter(other) => state.join(mine, other, theirs),
+            Value::GCounter(state) => match other {
+                Value::GCounter(other) => state.join(mine, other, theirs),
                 _ => unreachable!(),
             },
-            Data::PnCounter(state) => match other {
-                Data::PnCounter(other) => state.join(mine, other, theirs),
+            Value::PnCounter(state) => match other {
+                Value::PnCounter(other) => state.join(mine, other, theirs),
                 _ => unreachable!(),
             },
-            Data::GSet(state) => match other {
-                Data::GSet(other) => state.join(mine, other, theirs),
+            Value::GSet(state) => match other {
+                Value::GSet(other) => state.join(mine, other, theirs),
                 _ => unreachable!(),
             },
-            Data::OrSet(state) => match other {
-                Data::OrSet(other) => state.join(mine, other, theirs),
+            Value::OrSet(state) => match other {
+                Value::OrSet(other) => state.join(mine, other, theirs),
                 _ => unreachable!(),
             },
-            Data::Flag(state) => match other {
-                Data::Flag(other) => state.join(mine, other, theirs),
+            Value::Flag(state) => match other {
+                Value::Flag(other) => state.join(mine, other, theirs),
                 _ => unreachable!(),
             },
-            Data::LwwRegister(state) => match other {
-                Data::LwwRegister(other) => state.join(mine, other, theirs),
+            Value::LwwRegister(state) => match other {
+                Value::LwwRegister(other) => state.join(mine, other, theirs),
                 _ => unreachable!(),
             },
         }
     }
 
-    fn absorb(&mut self, mine: &VersionVector, delta: &Delta) -> Result<(), Memory> {
+    fn absorb(&mut self, mine: &VersionVector, delta: &Change) -> Result<(), Memory> {
         match self {
-            Data::GCounter(state) => match delta {
-                Delta::GCounter(change) => state.absorb(mine, change),
+            Value::GCounter(state) => match delta {
+                Change::GCounter(change) => state.absorb(mine, change),
                 _ => unreachable!(),
             },
-            Data::PnCounter(state) => match delta {
-                Delta::PnCounter(change) => state.absorb(mine, change),
+            Value::PnCounter(state) => match delta {
+                Change::PnCounter(change) => state.absorb(mine, change),
                 _ => unreachable!(),
             },
-            Data::GSet(state) => match delta {
-                Delta::GSet(change) => state.absorb(mine, change),
+            Value::GSet(state) => match delta {
+                Change::GSet(change) => state.absorb(mine, change),
                 _ => unreachable!(),
             },
-            Data::OrSet(state) => match delta {
-                Delta::OrSet(change) => state.absorb(mine, change),
+            Value::OrSet(state) => match delta {
+                Change::OrSet(change) => state.absorb(mine, change),
                 _ => unreachable!(),
             },
-            Data::Flag(state) => match delta {
-                Delta::Flag(change) => state.absorb(mine, change),
+            Value::Flag(state) => match delta {
+                Change::Flag(change) => state.absorb(mine, change),
                 _ => unreachable!(),
             },
-            Data::LwwRegister(state) => match delta {
-                Delta::LwwRegister(change) => state.absorb(mine, change),
-                _ => unreachable!(),
-            },
-        }
-    }
-
-    fn extend_delta(delta: &mut Delta, later: &Delta) -> Result<(), Memory> {
-        match delta {
-            Delta::GCounter(change) => match later {
-                Delta::GCounter(later) => GCounter::extend_delta(change, later),
-                _ => unreachable!(),
-            },
-            Delta::PnCounter(change) => match later {
-                Delta::PnCounter(later) => PnCounter::extend_delta(change, later),
-                _ => unreachable!(),
-            },
-            Delta::GSet(change) => match later {
-                Delta::GSet(later) => GSet::extend_delta(change, later),
-                _ => unreachable!(),
-            },
-            Delta::OrSet(change) => match later {
-                Delta::OrSet(later) => OrSet::extend_delta(change, later),
-                _ => unreachable!(),
-            },
-            Delta::Flag(change) => match later {
-                Delta::Flag(later) => Flag::extend_delta(change, later),
-                _ => unreachable!(),
-            },
-            Delta::LwwRegister(change) => match later {
-                Delta::LwwRegister(later) => LwwRegister::extend_delta(change, later),
+            Value::LwwRegister(state) => match delta {
+                Change::LwwRegister(change) => state.absorb(mine, change),
                 _ => unreachable!(),
             },
         }
     }
 
-    fn copy_delta(alloc: Global, delta: &Delta) -> Result<Delta, Memory> {
+    fn extend_delta(delta: &mut Change, later: &Change) -> Result<(), Memory> {
         match delta {
-            Delta::GCounter(change) => GCounter::copy_delta(alloc, change).map(Delta::GCounter),
-            Delta::PnCounter(change) => PnCounter::copy_delta(alloc, change).map(Delta::PnCounter),
-            Delta::GSet(change) => GSet::copy_delta(alloc, change).map(Delta::GSet),
-            Delta::OrSet(change) => OrSet::copy_delta(alloc, change).map(Delta::OrSet),
-            Delta::Flag(change) => Flag::copy_delta(alloc, change).map(Delta::Flag),
-            Delta::LwwRegister(change) => LwwRegister::copy_delta(alloc, change).map(
-                Delta::LwwRegister,
+            Change::GCounter(change) => match later {
+                Change::GCounter(later) => GCounter::extend_delta(change, later),
+                _ => unreachable!(),
+            },
+            Change::PnCounter(change) => match later {
+                Change::PnCounter(later) => PnCounter::extend_delta(change, later),
+                _ => unreachable!(),
+            },
+            Change::GSet(change) => match later {
+                Change::GSet(later) => GSet::extend_delta(change, later),
+                _ => unreachable!(),
+            },
+            Change::OrSet(change) => match later {
+                Change::OrSet(later) => OrSet::extend_delta(change, later),
+                _ => unreachable!(),
+            },
+            Change::Flag(change) => match later {
+                Change::Flag(later) => Flag::extend_delta(change, later),
+                _ => unreachable!(),
+            },
+            Change::LwwRegister(change) => match later {
+                Change::LwwRegister(later) => LwwRegister::extend_delta(change, later),
+                _ => unreachable!(),
+            },
+        }
+    }
+
+    fn copy_delta(alloc: Global, delta: &Change) -> Result<Change, Memory> {
+        match delta {
+            Change::GCounter(change) => GCounter::copy_delta(alloc, change).map(Change::GCounter),
+            Change::PnCounter(change) => PnCounter::copy_delta(alloc, change).map(Change::PnCounter),
+            Change::GSet(change) => GSet::copy_delta(alloc, change).map(Change::GSet),
+            Change::OrSet(change) => OrSet::copy_delta(alloc, change).map(Change::OrSet),
+            Change::Flag(change) => Flag::copy_delta(alloc, change).map(Change::Flag),
+            Change::LwwRegister(change) => LwwRegister::copy_delta(alloc, change).map(
+                Change::LwwRegister,
             ),
         }
     }
 
-    fn delta_fits(&self, delta: &Delta) -> bool {
+    fn delta_fits(&self, delta: &Change) -> bool {
         are_same(self.kind(), delta.kind())
     }
 
     fn clean(&mut self, id: Id) {
         match self {
-            Data::GCounter(state) => state.clean(id),
-            Data::PnCounter(state) => state.clean(id),
-            Data::GSet(state) => state.clean(id),
-            Data::OrSet(state) => state.clean(id),
-            Data::Flag(state) => state.clean(id),
-            Data::LwwRegister(state) => state.clean(id),
+            Value::GCounter(state) => state.clean(id),
+            Value::PnCounter(state) => state.clean(id),
+            Value::GSet(state) => state.clean(id),
+            Value::OrSet(state) => state.clean(id),
+            Value::Flag(state) => state.clean(id),
+            Value::LwwRegister(state) => state.clean(id),
         }
     }
 
     fn prune(&mut self, removed: Id, dot: Dot) -> Result<(), PruneError> {
         match self {
-            Data::GCounter(state) => state.prune(removed, dot),
-            Data::PnCounter(state) => state.prune(removed, dot),
-            Data::GSet(state) => state.prune(removed, dot),
-            Data::OrSet(state) => state.prune(removed, dot),
-            Data::Flag(state) => state.prune(removed, dot),
-            Data::LwwRegister(state) => state.prune(removed, dot),
+            Value::GCounter(state) => state.prune(removed, dot),
+            Value::PnCounter(state) => state.prune(removed, dot),
+            Value::GSet(state) => state.prune(removed, dot),
+            Value::OrSet(state) => state.prune(removed, dot),
+            Value::Flag(state) => state.prune(removed, dot),
+            Value::LwwRegister(state) => state.prune(removed, dot),
         }
     }
 
     fn mentions(&self, id: Id) -> bool {
         match self {
-            Data::GCounter(state) => state.mentions(id),
-            Data::PnCounter(state) => state.mentions(id),
-            Data::GSet(state) => state.mentions(id),
-            Data::OrSet(state) => state.mentions(id),
-            Data::Flag(state) => state.mentions(id),
-            Data::LwwRegister(state) => state.mentions(id),
+            Value::GCounter(state) => state.mentions(id),
+            Value::PnCounter(state) => state.mentions(id),
+            Value::GSet(state) => state.mentions(id),
+            Value::OrSet(state) => state.mentions(id),
+            Value::Flag(state) => state.mentions(id),
+            Value::LwwRegister(state) => state.mentions(id),
         }
     }
 
     fn show(&self, alloc: Global) -> Result<Shown, Memory> {
         match self {
-            Data::GCounter(state) => state.show(alloc),
-            Data::PnCounter(state) => state.show(alloc),
-            Data::GSet(state) => state.show(alloc),
-            Data::OrSet(state) => state.show(alloc),
-            Data::Flag(state) => state.show(alloc),
-            Data::LwwRegister(state) => state.show(alloc),
+            Value::GCounter(state) => state.show(alloc),
+            Value::PnCounter(state) => state.show(alloc),
+            Value::GSet(state) => state.show(alloc),
+            Value::OrSet(state) => state.show(alloc),
+            Value::Flag(state) => state.show(alloc),
+            Value::LwwRegister(state) => state.show(alloc),
         }
     }
 
@@ -274,6 +282,20 @@ impl Replica for Data {
     ghost kind_cleaned = { laws.kind_cleaned };
 
     ghost kind_pruned = { laws.kind_pruned };
+
+    ghost closed_joined = { λ _ _ _ _. refl };
+
+    ghost closed_absorbed = { λ _ _ _ is. is };
+
+    ghost closed_cleaned = { λ _ _. refl };
+
+    ghost closed_pruned = { λ _ _ _. refl };
+
+    ghost closed_mentions = { λ _ _ is. absurd (false≢true is) };
+
+    ghost closed_shown = { λ _ is. absurd (false≢true is) };
+
+    ghost closed_unblocked = { λ _ _ _ is. absurd (false≢true is) };
 
     ghost delta_kind = { λ state op dot _. laws.delta_kind state op dot };
 
@@ -334,6 +356,8 @@ impl Replica for Data {
     ghost pruned_mentions = { laws.pruned_mentions };
 
     ghost pruned_unmentioned = { laws.pruned_unmentioned };
+
+    ghost closed_means = { λ _ _ _ _ _ _. refl };
 
     ghost refusal_means = { laws.refusal_means };
 

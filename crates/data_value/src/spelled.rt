@@ -1,9 +1,10 @@
-ghost use Rattle.std.specs.Prelude.{◌≡◌, length, drop, refl};
+ghost use Rattle.std.specs.Prelude.{◌≡◌, ◌≤◌, length, drop, refl};
 ghost use Rattle.base_bytes.specs.Spelling.{GivesAt};
+ghost use Rattle.data_value.specs.Values as values;
 ghost use Rattle.data_value.specs.Spelled as spelled;
 ghost use Rattle.data_value.specs.SpelledLaws as laws;
 
-use crate::value::Data;
+use crate::value::Value;
 use base_bytes::{Memory, ReadError};
 use base_vectors::IdSet;
 use data_counters::{GCounter, PnCounter};
@@ -14,7 +15,7 @@ use model_kinds::Kind;
 use std::alloc::Global;
 
 /// The kind of a byte that is one's.
-fn kind_at(byte: u8) -> Kind
+pub(crate) fn kind_at(byte: u8) -> Kind
     ensures { result ≡ spelled.kind_at byte }
 {
     match byte {
@@ -27,8 +28,23 @@ fn kind_at(byte: u8) -> Kind
     }
 }
 
-impl SpelledData for Data {
-    ghost byte_of = { spelled.byte_of };
+/// The byte of a kind.
+pub(crate) fn kind_byte(kind: Kind) -> u8
+    ensures byte { result ≡ spelled.byte_of kind }
+    ensures few { result ≤ 6 }
+{
+    match kind {
+        Kind::GCounter => 1,
+        Kind::PnCounter => 2,
+        Kind::GSet => 3,
+        Kind::OrSet => 4,
+        Kind::Flag => 5,
+        Kind::LwwRegister => 6,
+    }
+}
+
+impl SpelledData for Value {
+    ghost byte_of = { λ value. spelled.byte_of (values.kind_of value) };
 
     ghost is_known = { spelled.is_known };
 
@@ -38,6 +54,8 @@ impl SpelledData for Data {
 
     ghost read_in = { spelled.read_in };
 
+    ghost history_byte = { λ kind _. spelled.byte_of kind };
+
     ghost history_spelled = { spelled.history_spelled };
 
     fn is_kind(byte: u8) -> bool {
@@ -45,24 +63,17 @@ impl SpelledData for Data {
     }
 
     fn kind_byte(&self) -> u8 {
-        match self {
-            Data::GCounter(_) => 1,
-            Data::PnCounter(_) => 2,
-            Data::GSet(_) => 3,
-            Data::OrSet(_) => 4,
-            Data::Flag(_) => 5,
-            Data::LwwRegister(_) => 6,
-        }
+        kind_byte(self.kind())
     }
 
     fn spell_data(&self, into: &mut Vec<u8>) -> Result<(), Memory> {
         match self {
-            Data::GCounter(state) => state.spell_data(into),
-            Data::PnCounter(state) => state.spell_data(into),
-            Data::GSet(state) => state.spell_data(into),
-            Data::OrSet(state) => state.spell_data(into),
-            Data::Flag(state) => state.spell_data(into),
-            Data::LwwRegister(state) => state.spell_data(into),
+            Value::GCounter(state) => state.spell_data(into),
+            Value::PnCounter(state) => state.spell_data(into),
+            Value::GSet(state) => state.spell_data(into),
+            Value::OrSet(state) => state.spell_data(into),
+            Value::Flag(state) => state.spell_data(into),
+            Value::LwwRegister(state) => state.spell_data(into),
         }
     }
 
@@ -72,44 +83,46 @@ impl SpelledData for Data {
         barred: IdSet,
         from: &[u8],
         place: usize,
-    ) -> Result<(Data, usize), ReadError> {
+    ) -> Result<(Value, usize), ReadError> {
         match kind_at(kind) {
             Kind::GCounter => {
                 let (state, next) = GCounter::read_data(alloc, 1, barred, from, place)?;
-                Ok((Data::GCounter(state), next))
+                Ok((Value::GCounter(state), next))
             }
             Kind::PnCounter => {
                 let (state, next) = PnCounter::read_data(alloc, 2, barred, from, place)?;
-                Ok((Data::PnCounter(state), next))
+                Ok((Value::PnCounter(state), next))
             }
             Kind::GSet => {
                 let (state, next) = GSet::read_data(alloc, 3, barred, from, place)?;
-                Ok((Data::GSet(state), next))
+                Ok((Value::GSet(state), next))
             }
             Kind::OrSet => {
                 let (state, next) = OrSet::read_data(alloc, 4, barred, from, place)?;
-                Ok((Data::OrSet(state), next))
+                Ok((Value::OrSet(state), next))
             }
             Kind::Flag => {
                 let (state, next) = Flag::read_data(alloc, 5, barred, from, place)?;
-                Ok((Data::Flag(state), next))
+                Ok((Value::Flag(state), next))
             }
             Kind::LwwRegister => {
                 let (state, next) = LwwRegister::read_data(alloc, 6, barred, from, place)?;
-                Ok((Data::LwwRegister(state), next))
+                Ok((Value::LwwRegister(state), next))
             }
         }
     }
 
     ghost spelling_is = { λ _. refl };
 
-    ghost kind_is_known = { laws.kind_is_known };
+    ghost byte_is_known = { λ value. laws.kind_is_known (values.kind_of value) };
 
     ghost read_is_spelled = { laws.read_is_spelled };
 
     ghost spelled_is_read = { laws.spelled_is_read };
 
     ghost mentioned_few = { laws.mentioned_few };
+
+    ghost byte_means = { λ _ _ _ _ _ _. refl };
 
     ghost spelling_means = { laws.spelling_means };
 }

@@ -6,9 +6,9 @@ use data_growing::{Flag, GSet, LwwRegister, SwitchedOn, Written};
 use data_orset::{OrSet, SetDelta};
 use model_kinds::Kind;
 
-/// Data of one of the six kinds.
+/// A value of one of the six kinds.
 #[derive(Drop)]
-pub enum Data {
+pub enum Value {
     GCounter(GCounter),
     PnCounter(PnCounter),
     GSet(GSet),
@@ -17,9 +17,9 @@ pub enum Data {
     LwwRegister(LwwRegister),
 }
 
-/// What one or more operations of one origin changed in data of one of the six kinds.
+/// What one or more operations of one origin changed in a value of one of the six kinds.
 #[derive(Drop)]
-pub enum Delta {
+pub enum Change {
     GCounter(Share),
     PnCounter(PnShare),
     GSet(GSet),
@@ -35,34 +35,34 @@ pub(crate) fn are_same(one: Kind, other: Kind) -> bool
     one == other
 }
 
-impl Data {
-    /// The kind of these data.
+impl Value {
+    /// The kind of this value.
     pub fn kind(&self) -> Kind
         ensures { result ≡ kind_of self.now }
     {
         match self {
-            Data::GCounter(_) => Kind::GCounter,
-            Data::PnCounter(_) => Kind::PnCounter,
-            Data::GSet(_) => Kind::GSet,
-            Data::OrSet(_) => Kind::OrSet,
-            Data::Flag(_) => Kind::Flag,
-            Data::LwwRegister(_) => Kind::LwwRegister,
+            Value::GCounter(_) => Kind::GCounter,
+            Value::PnCounter(_) => Kind::PnCounter,
+            Value::GSet(_) => Kind::GSet,
+            Value::OrSet(_) => Kind::OrSet,
+            Value::Flag(_) => Kind::Flag,
+            Value::LwwRegister(_) => Kind::LwwRegister,
         }
     }
 }
 
-impl Delta {
-    /// The kind of the data that this changes.
+impl Change {
+    /// The kind of the values that this changes.
     pub fn kind(&self) -> Kind
         ensures { result ≡ kind_of_delta self.now }
     {
         match self {
-            Delta::GCounter(_) => Kind::GCounter,
-            Delta::PnCounter(_) => Kind::PnCounter,
-            Delta::GSet(_) => Kind::GSet,
-            Delta::OrSet(_) => Kind::OrSet,
-            Delta::Flag(_) => Kind::Flag,
-            Delta::LwwRegister(_) => Kind::LwwRegister,
+            Change::GCounter(_) => Kind::GCounter,
+            Change::PnCounter(_) => Kind::PnCounter,
+            Change::GSet(_) => Kind::GSet,
+            Change::OrSet(_) => Kind::OrSet,
+            Change::Flag(_) => Kind::Flag,
+            Change::LwwRegister(_) => Kind::LwwRegister,
         }
     }
 }

@@ -95,13 +95,16 @@ impl<T: Replica<Kind = Kind, Op = Op>> Member<T> {
         records.add(self.id, &mut self.taken, action)
     }
 
-    /// Makes a record of an operation, unless the entry refuses it.
+    /// Makes a record of an operation, unless the key was deleted or the entry refuses it.
     pub(crate) fn update(
         &mut self,
         alloc: Global,
         op: Op,
         records: &mut Records,
     ) -> Result<(), Fail> {
+        if self.entry.closed() {
+            return Ok(());
+        }
         if !self.entry.value().fits(&op) || !self.has_room() {
             return Err("unfit".into());
         }

@@ -5,7 +5,7 @@ use data_value::Data;
 use std::alloc::Global;
 use std::test::Fail;
 use trial_parts::{
-    DOTS, MARKED, PRUNED, SET, SHARE, SIGNED, SWITCH, TEXTS, UNWRITTEN, WRITTEN, bytes_of,
+    DELETED, DOTS, MARKED, PRUNED, SET, SHARE, SIGNED, SWITCH, TEXTS, UNWRITTEN, WRITTEN, bytes_of,
 };
 
 /// In a table of places: the bytes are an envelope's again.
@@ -22,6 +22,16 @@ const BAD_HEADS: [&str; 6] = [
     "0a0101010200000000010000",
     "0c0101010200000000010200ff",
     "170101010201000000000000000001000000000000000101020000000000000001",
+];
+
+/// Bytes of no kind, beside those of kinds and of deleted keys; and a byte after a deleted key, whose data have none.
+const BAD_KINDS: [&str; 6] = [
+    "010100",
+    "010107",
+    "010180",
+    "010187",
+    "0101ff",
+    "0d0181000100000000000000000100",
 ];
 
 /// Growing counters: a share above `2^63 - 1`, and an identity twice.
@@ -152,7 +162,7 @@ fn check(alloc: Global, row: [&str; 4]) -> Result<(), Fail> {
 #[test]
 fn reads_spells_and_refuses_as_another_reader_does(rt: HostRuntime) -> Result<(), Fail> {
     let rows = [
-        SHARE, SET, PRUNED, MARKED, SIGNED, TEXTS, DOTS, SWITCH, WRITTEN, UNWRITTEN,
+        SHARE, SET, PRUNED, MARKED, SIGNED, TEXTS, DOTS, SWITCH, WRITTEN, UNWRITTEN, DELETED,
     ];
     for row in rows {
         check(rt.alloc(), row)?;
@@ -196,6 +206,7 @@ fn refuses_what_breaks_a_rule_where_it_stands_and_nothing_else(
 ) -> Result<(), Fail> {
     let alloc = rt.alloc();
     check_places(alloc, &BAD_HEADS)?;
+    check_places(alloc, &BAD_KINDS)?;
     check_places(alloc, &BAD_SHARES)?;
     check_places(alloc, &BAD_TEXTS)?;
     check_places(alloc, &BAD_DOTS)?;

@@ -17,5 +17,5 @@ pub use operations::operation;
 pub use random::Random;
 pub use records::Records;
 pub use spellings::{
-    DOTS, MARKED, PRUNED, SET, SHARE, SIGNED, SWITCH, TEXTS, UNWRITTEN, WRITTEN, bytes_of,
+    DELETED, DOTS, MARKED, PRUNED, SET, SHARE, SIGNED, SWITCH, TEXTS, UNWRITTEN, WRITTEN, bytes_of,
 };

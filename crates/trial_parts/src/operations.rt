@@ -1,5 +1,5 @@
 ghost use Rattle.std.specs.Prelude.{◌≡◌, true, IfOk};
-ghost use Rattle.model_kinds.specs.SixKinds.{fits};
+ghost use Rattle.model_kinds.specs.SixKinds.{six_kinds};
 
 use crate::random::Random;
 use base_bytes::Text;
@@ -21,14 +21,17 @@ fn moment(random: &mut Random) -> Result<Moment, Fail> {
     Ok(Moment::new(random.below(4)).ok_or("moment")?)
 }
 
-/// An operation of a kind, at random.
+/// An operation of a kind at random, which is a delete now and then.
 ///
 /// # Errors
 ///
 /// None in practice: no text was made of one letter, or no moment of a small number.
 pub fn operation(kind: Kind, random: &mut Random) -> Result<Op, Fail>
-    ensures { IfOk result (λ op. fits kind op ≡ true) }
+    ensures { IfOk result (λ op. six_kinds.fits kind op ≡ true) }
 {
+    if random.below(24) == 0 {
+        return Ok(Op::Delete);
+    }
     let first = random.below(2) == 0;
     match kind {
         Kind::GCounter => Ok(Op::Increment(random.below(9))),

@@ -70,7 +70,7 @@ impl Records {
     ///
     /// Memory was refused.
     pub fn mean(&self, taken: &VersionVector, shown: &Shown) -> Result<bool, Memory>
-        ensures { (H : History Op) → AreRecordsOf (counted taken.now self.now.records.items) H → IfOk result (λ same. IsTrue same ↔ (shown.now ≡ kinds.shown self.now.kind H)) }
+        ensures { (H : History Op) → AreRecordsOf (counted taken.now self.now.records.items) H → IfOk result (λ same. IsTrue same ↔ (shown.now ≡ kinds.six_kinds.shown self.now.kind H)) }
     {
         let records = taken_of(self.alloc, taken, &self.records)?;
         let meant = meaning(self.alloc, self.kind, records)?;

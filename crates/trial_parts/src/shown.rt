@@ -49,5 +49,9 @@ pub(crate) fn same_shown(one: &Shown, other: &Shown) -> bool
             Shown::Written(also) => same_text(text, also),
             _ => false,
         },
+        Shown::Deleted => match other {
+            Shown::Deleted => true,
+            _ => false,
+        },
     }
 }

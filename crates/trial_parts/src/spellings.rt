@@ -88,6 +88,14 @@ pub const UNWRITTEN: [&str; 4] = [
     "00010a050c0c0c0c0c0c0c0c",
 ];
 
+/// A deleted growing counter with one record.
+pub const DELETED: [&str; 4] = [
+    "01810001000000000000000001",
+    "37f062a153079bfc25913c5473dcf7dc67b7e6d0",
+    "00010203040505050505050505",
+    "00ff0a0dffffffffffffffffff",
+];
+
 /// The bytes of a row in hexadecimal.
 ///
 /// # Errors

@@ -13,26 +13,26 @@ read_data-requires-clause-known g c = (head_takes g.T.SpelledData.is_known c.arg
 pub returns-then-next-total : goal.returns-then-next-total
 returns-then-next-total g c =
     let S = g.T.SpelledData in
-    let place = place_is S.is_known S.read_in (λ x. S.byte_of (g.T.Replica.kind_of x)) S.spelled S.IsSound g.T.Replica.mentioned c.args.bytes.now c.in-Ok.found.1.now c.in-Ok.found.0 c.saturating_sub-place.result (λ i. omega (arith, c.type_inv.bytes i)) c.in-Ok.ensures c.saturating_sub-place.ensures in
+    let place = place_is S.is_known S.read_in S.byte_of S.spelled S.IsSound g.T.Replica.mentioned c.args.bytes.now c.in-Ok.found.1.now c.in-Ok.found.0 c.saturating_sub-place.result (λ i. omega (arith, c.type_inv.bytes i)) c.in-Ok.ensures c.saturating_sub-place.ensures in
     let same = moved S.is_known S.read_in c.in-Ok.found.0.kind _ _ _ _ c.performed_ids-barred.ensures place in
-    fault_is S.is_known S.read_in (λ x. S.byte_of (g.T.Replica.kind_of x)) S.spelled S.IsSound g.T.Replica.mentioned
-    (record { takes = g.met.T.SpelledData.read_is_spelled; again = g.met.T.SpelledData.spelled_is_read; known = λ x. g.met.T.SpelledData.kind_is_known (g.T.Replica.kind_of x) })
+    fault_is S.is_known S.read_in S.byte_of S.spelled S.IsSound g.T.Replica.mentioned
+    (record { takes = g.met.T.SpelledData.read_is_spelled; again = g.met.T.SpelledData.spelled_is_read; known = g.met.T.SpelledData.byte_is_known })
     c.args.bytes.now c.in-Ok.found.1.now c.in-Ok-read_data.ensures.0 c.in-Ok.found.0 c.in-Ok-read_data.value c.in-Ok-read_data.next (λ i. omega (arith, c.type_inv.bytes i)) c.in-Ok.ensures
     (sym same ∙ c.in-Ok-read_data.ensures.1) c.in-Ok-read_data.ensures.2 c.if-next-total.true
 
 pub returns-else-next-total : goal.returns-else-next-total
 returns-else-next-total g c =
     let S = g.T.SpelledData in
-    let place = place_is S.is_known S.read_in (λ x. S.byte_of (g.T.Replica.kind_of x)) S.spelled S.IsSound g.T.Replica.mentioned c.args.bytes.now c.in-Ok.found.1.now c.in-Ok.found.0 c.saturating_sub-place.result (λ i. omega (arith, c.type_inv.bytes i)) c.in-Ok.ensures c.saturating_sub-place.ensures in
+    let place = place_is S.is_known S.read_in S.byte_of S.spelled S.IsSound g.T.Replica.mentioned c.args.bytes.now c.in-Ok.found.1.now c.in-Ok.found.0 c.saturating_sub-place.result (λ i. omega (arith, c.type_inv.bytes i)) c.in-Ok.ensures c.saturating_sub-place.ensures in
     let same = moved S.is_known S.read_in c.in-Ok.found.0.kind _ _ _ _ c.performed_ids-barred.ensures place in
-    whole_is S.is_known S.read_in (λ x. S.byte_of (g.T.Replica.kind_of x)) S.spelled S.IsSound g.T.Replica.mentioned
-    (record { takes = g.met.T.SpelledData.read_is_spelled; again = g.met.T.SpelledData.spelled_is_read; known = λ x. g.met.T.SpelledData.kind_is_known (g.T.Replica.kind_of x) })
+    whole_is S.is_known S.read_in S.byte_of S.spelled S.IsSound g.T.Replica.mentioned
+    (record { takes = g.met.T.SpelledData.read_is_spelled; again = g.met.T.SpelledData.spelled_is_read; known = g.met.T.SpelledData.byte_is_known })
     c.args.bytes.now c.in-Ok.found.1.now c.in-Ok-read_data.ensures.0 c.in-Ok.found.0 c.in-Ok-read_data.value c.in-Ok-read_data.next (λ i. omega (arith, c.type_inv.bytes i)) c.in-Ok.ensures
     (sym same ∙ c.in-Ok-read_data.ensures.1) c.in-Ok-read_data.ensures.2 c.if-next-total.false
 
 pub returns-in-Err-read_data : goal.returns-in-Err-read_data
 returns-in-Err-read_data g c =
     let S = g.T.SpelledData in
-    let place = place_is S.is_known S.read_in (λ x. S.byte_of (g.T.Replica.kind_of x)) S.spelled S.IsSound g.T.Replica.mentioned c.args.bytes.now c.in-Ok.found.1.now c.in-Ok.found.0 c.saturating_sub-place.result (λ i. omega (arith, c.type_inv.bytes i)) c.in-Ok.ensures c.saturating_sub-place.ensures in
+    let place = place_is S.is_known S.read_in S.byte_of S.spelled S.IsSound g.T.Replica.mentioned c.args.bytes.now c.in-Ok.found.1.now c.in-Ok.found.0 c.saturating_sub-place.result (λ i. omega (arith, c.type_inv.bytes i)) c.in-Ok.ensures c.saturating_sub-place.ensures in
     let same = moved S.is_known S.read_in c.in-Ok.found.0.kind _ _ _ _ c.performed_ids-barred.ensures place in
     (c.in-Err-read_data.ensures.0, data_fail S.is_known S.read_in c.in-Err-read_data.ensures.0 c.args.bytes.now c.in-Ok.found.1.now c.in-Ok.found.0 c.in-Ok.ensures (subst (Fails c.in-Err-read_data.ensures.0) same c.in-Err-read_data.ensures.1), c.of.ensures ∙ ap refusal c.in-Err-read_data.ensures.2)

@@ -15,7 +15,7 @@ use Rattle.data_envelope.specs.Pruning.{IsPruned}
 use Rattle.data_envelope.proofs.Tests.{performed_insert}
 use Rattle.data_envelope.proofs.Holding.{holds_pruned, held_pruned}
 use Rattle.data_envelope.proofs.Pruned.{pruned_numbers, marks_with, performed_with}
-use Rattle.data_envelope.proofs.Entries.{stands_pruned, next_of_prune, whole, blocked_same}
+use Rattle.data_envelope.proofs.Entries.{stands_pruned, next_of_prune, whole, blocked_same, blocked_undeleted}
 use Rattle.data_envelope.proofs.Forgetting.{forgotten_pruned}
 use Rattle.data_envelope.proofs.envelope.Envelope.prune.Given as given
 use Rattle.data_envelope.proofs.Opened.{same_markers}
@@ -76,6 +76,14 @@ returns-in-Err-Blocked-clause-blocked g c =
     sym (g.met.T.Replica.blocked_means one.value log held (performed_in one.markers) c.args.owner c.args.removed (held_pruned D _ log held s.holds) s.holds.state member stays
     ∙ ap (g.T.Replica.data_type.blocked (g.T.Replica.kind_of one.value) c.args.owner c.args.removed) (whole D _ log entry s))
     ∙ blocked_same meant _ _ _ _ owner_share removed_share (subst (λ x. IsPruneRefusal meant x) c.in-Err-Blocked.field-0-is c.in-Err-Blocked.ensures.refused) c.in-Err-Blocked.owner_share-is c.in-Err-Blocked.removed_share-is e)
+
+pub returns-in-Err-Blocked-clause-undeleted : goal.returns-in-Err-Blocked-clause-undeleted
+returns-in-Err-Blocked-clause-undeleted g c = rw (← c.self.view_is) (
+    λ _ _ _.
+    let one = c.self.inside in
+    let meant = g.T.Replica.prune_refusal one.value c.args.removed c.args.owner in
+    blocked_undeleted (g.T.Replica.is_closed one.value) meant _ _ (g.met.T.Replica.closed_unblocked one.value c.args.removed c.args.owner)
+    (subst (λ x. IsPruneRefusal meant x) c.in-Err-Blocked.field-0-is c.in-Err-Blocked.ensures.refused))
 
 pruned_here : (g : given.Over) (c : goal.After-drop-self-inside-in-Ok g) → IsPruned c.args.removed c.args.owner (record { value = c.self.inside.value; versions = c.self.inside.versions; marks = c.self.inside.markers }) (record { value = c.prune.new.self; versions = c.without.new.self; marks = c.put.new.self })
 pruned_here g c =

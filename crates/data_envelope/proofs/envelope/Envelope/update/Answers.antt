@@ -1,4 +1,5 @@
 use Rattle.std.proofs.Common.{◌≡◌, true, false, ◌+◌, ap, sym, ◌∙◌, subst, refl}
+use Rattle.std.specs.Prelude.{not, ◌&&◌}
 use Rattle.model_history.proofs.CutLaws.{uncleaned}
 use Rattle.model_history.specs.History.{versions}
 use Rattle.model_history.specs.History.Action.{Operation}
@@ -17,7 +18,7 @@ use Rattle.data_envelope.proofs.envelope.Envelope.update.Goals as goal
 pub returns-in-Ok-clause-image : goal.returns-in-Ok-clause-image
 returns-in-Ok-clause-image g c =
     let member : performed_in c.self.inside.markers c.args.id ≡ false = ap (λ m. performed_in m c.args.id) (same_markers c.self.view_is) ∙ c.requires.member in
-    let fits : g.T.Replica.data_type.fits (g.T.Replica.kind_of c.self.inside.value) c.args.op.now ≡ true = ap (λ v. g.T.Replica.data_type.fits (g.T.Replica.kind_of v) c.args.op.now) (same_value c.self.view_is) ∙ c.requires.fits in
+    let fits : (not (g.T.Replica.is_closed c.self.inside.value) && g.T.Replica.data_type.fits (g.T.Replica.kind_of c.self.inside.value) c.args.op.now) ≡ true = ap (λ v. not (g.T.Replica.is_closed v) && g.T.Replica.data_type.fits (g.T.Replica.kind_of v) c.args.op.now) (same_value c.self.view_is) ∙ c.requires.fits in
     rw (← c.self.view_is) (
     λ log entry s taken.
     let D = g.T.Replica.IsDataOf in
@@ -35,7 +36,7 @@ returns-in-Ok-clause-image g c =
 pub returns-in-Ok-clause-delta : goal.returns-in-Ok-clause-delta
 returns-in-Ok-clause-delta g c =
     let member : performed_in c.self.inside.markers c.args.id ≡ false = ap (λ m. performed_in m c.args.id) (same_markers c.self.view_is) ∙ c.requires.member in
-    let fits : g.T.Replica.data_type.fits (g.T.Replica.kind_of c.self.inside.value) c.args.op.now ≡ true = ap (λ v. g.T.Replica.data_type.fits (g.T.Replica.kind_of v) c.args.op.now) (same_value c.self.view_is) ∙ c.requires.fits in
+    let fits : (not (g.T.Replica.is_closed c.self.inside.value) && g.T.Replica.data_type.fits (g.T.Replica.kind_of c.self.inside.value) c.args.op.now) ≡ true = ap (λ v. not (g.T.Replica.is_closed v) && g.T.Replica.data_type.fits (g.T.Replica.kind_of v) c.args.op.now) (same_value c.self.view_is) ∙ c.requires.fits in
     rw (← c.self.view_is) (
     λ log entry s taken.
     let D = g.T.Replica.IsDataOf in
@@ -50,7 +51,7 @@ returns-in-Ok-clause-delta g c =
 pub returns-in-Ok-clause-unrefused : goal.returns-in-Ok-clause-unrefused
 returns-in-Ok-clause-unrefused g c =
     let member : performed_in c.self.inside.markers c.args.id ≡ false = ap (λ m. performed_in m c.args.id) (same_markers c.self.view_is) ∙ c.requires.member in
-    let fits : g.T.Replica.data_type.fits (g.T.Replica.kind_of c.self.inside.value) c.args.op.now ≡ true = ap (λ v. g.T.Replica.data_type.fits (g.T.Replica.kind_of v) c.args.op.now) (same_value c.self.view_is) ∙ c.requires.fits in
+    let fits : (not (g.T.Replica.is_closed c.self.inside.value) && g.T.Replica.data_type.fits (g.T.Replica.kind_of c.self.inside.value) c.args.op.now) ≡ true = ap (λ v. not (g.T.Replica.is_closed v) && g.T.Replica.data_type.fits (g.T.Replica.kind_of v) c.args.op.now) (same_value c.self.view_is) ∙ c.requires.fits in
     rw (← c.self.view_is) (
     λ log entry s.
     let D = g.T.Replica.IsDataOf in
@@ -63,7 +64,7 @@ returns-in-Ok-clause-unrefused g c =
 pub returns-in-Err-clause-refused : goal.returns-in-Err-clause-refused
 returns-in-Err-clause-refused g c =
     let member : performed_in c.self.inside.markers c.args.id ≡ false = ap (λ m. performed_in m c.args.id) (same_markers c.self.view_is) ∙ c.requires.member in
-    let fits : g.T.Replica.data_type.fits (g.T.Replica.kind_of c.self.inside.value) c.args.op.now ≡ true = ap (λ v. g.T.Replica.data_type.fits (g.T.Replica.kind_of v) c.args.op.now) (same_value c.self.view_is) ∙ c.requires.fits in
+    let fits : (not (g.T.Replica.is_closed c.self.inside.value) && g.T.Replica.data_type.fits (g.T.Replica.kind_of c.self.inside.value) c.args.op.now) ≡ true = ap (λ v. not (g.T.Replica.is_closed v) && g.T.Replica.data_type.fits (g.T.Replica.kind_of v) c.args.op.now) (same_value c.self.view_is) ∙ c.requires.fits in
     rw (← c.self.view_is) (
     λ log entry s.
     let D = g.T.Replica.IsDataOf in
@@ -81,7 +82,7 @@ returns-in-Ok-clause-kind g c =
 
 pub returns-in-Ok-clause-delta_kind : goal.returns-in-Ok-clause-delta_kind
 returns-in-Ok-clause-delta_kind g c =
-    let fits : g.T.Replica.data_type.fits (g.T.Replica.kind_of c.self.inside.value) c.args.op.now ≡ true = ap (λ v. g.T.Replica.data_type.fits (g.T.Replica.kind_of v) c.args.op.now) (same_value c.self.view_is) ∙ c.requires.fits in
+    let fits : (not (g.T.Replica.is_closed c.self.inside.value) && g.T.Replica.data_type.fits (g.T.Replica.kind_of c.self.inside.value) c.args.op.now) ≡ true = ap (λ v. not (g.T.Replica.is_closed v) && g.T.Replica.data_type.fits (g.T.Replica.kind_of v) c.args.op.now) (same_value c.self.view_is) ∙ c.requires.fits in
     rw (← c.self.view_is) (
     let R = g.T.Replica in
     let one = c.self.inside in

@@ -8,13 +8,13 @@ use Rattle.base_bytes.specs.declared.fault.ReadError.{ReadError}
 use Rattle.base_bytes.specs.Fields.{Fails}
 use Rattle.base_bytes.specs.Spelling.{GivesAt}
 use Rattle.base_vectors.specs.IdSets.{members_in}
-use Rattle.data_value.specs.declared.value.Data.{Data}
-use Rattle.data_value.specs.declared.value.Data.TheVariants.{GCounter, PnCounter, GSet, OrSet, Flag, LwwRegister}
+use Rattle.data_value.specs.declared.value.Value.{Value}
+use Rattle.data_value.specs.declared.value.Value.TheVariants.{GCounter, PnCounter, GSet, OrSet, Flag, LwwRegister}
 use Rattle.data_value.specs.Spelled.{told_as, read_of}
-use Rattle.data_value.proofs.spelled.DataSpelledData.read_data.Goals as goal
+use Rattle.data_value.proofs.spelled.ValueSpelledData.read_data.Goals as goal
 
 -- what reading data of a kind gives, reading data gives
-module _ {X : Type 0} (make : X → Data) (total : ℕ) (own : Result (X × List ℕ) Fault) (all : Result (Data × List ℕ) Fault) (is : all ≡ told_as make own) where
+module _ {X : Type 0} (make : X → Value) (total : ℕ) (own : Result (X × List ℕ) Fault) (all : Result (Value × List ℕ) Fault) (is : all ≡ told_as make own) where
   found_as : (state : X) (next : ℕ) → GivesAt total (Ok (state, next)) own → GivesAt total (Ok (make state, next)) all
   found_as state next h = (h.0, is ∙ ap (told_as make) h.1, h.2)
 
@@ -25,10 +25,10 @@ module _ {X : Type 0} (make : X → Data) (total : ℕ) (own : Result (X × List
   refused_as : (refusal : ReadError) → GivesAt total (Err refusal) own → GivesAt total (Err refusal) all
   refused_as refusal h = (h.0, fails_as h.0 h.1, h.2)
 
-  exits_as : (answer : Result (Data × ℕ) ReadError) (refusal : ReadError) → IsErrAnd answer (λ y. y ≡ refusal) → GivesAt total (Err refusal) own → GivesAt total answer all
+  exits_as : (answer : Result (Value × ℕ) ReadError) (refusal : ReadError) → IsErrAnd answer (λ y. y ≡ refusal) → GivesAt total (Err refusal) own → GivesAt total answer all
   exits_as answer refusal exit h =
       let p = err_from_is_err_and answer exit in
-      subst (λ (r : Result (Data × ℕ) ReadError). GivesAt total r all) (sym (p.1 ∙ ap Err p.2)) (refused_as refusal h)
+      subst (λ (r : Result (Value × ℕ) ReadError). GivesAt total r all) (sym (p.1 ∙ ap Err p.2)) (refused_as refusal h)
 
 pub returns-in_err-state-in-GCounter : goal.returns-in_err-state-in-GCounter
 returns-in_err-state-in-GCounter c =
