@@ -38,5 +38,5 @@ pub sum_all : (f : ℕ → ℕ) (n total : ℕ) → n ≤ identity_limit → ((i
 sum_all f n total few none h = let e : n + (identity_limit - n) ≡ identity_limit = omega arith in
     h.is ∙ sym (sum_past f n (identity_limit - n) none) ∙ ap (λ k. sum_by f (range_with_len 0 k)) e
 
-pub sum_small : (f : ℕ → ℕ) (n total : ℕ) → n ≤ identity_limit → IsSumBelow f n total → total ≤ 2 ^ 70
+pub sum_small : (f : ℕ → ℕ) (n total : ℕ) → n ≤ identity_limit → IsSumBelow f n total → total ≤ 2 ^ 72
 sum_small f n total few h = let s = h.small in omega arith

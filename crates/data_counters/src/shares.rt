@@ -92,7 +92,7 @@ impl GCounter {
     /// The sum of the shares.
     pub(crate) fn sum(&self) -> u128
         ensures value { result ≡ counter_sum self.now }
-        ensures range { result ≤ 2 ^ 70 }
+        ensures range { result ≤ 2 ^ 72 }
     {
         let mut total: u128 = 0;
         for number in 0..self.shares.limit() {

@@ -17,8 +17,8 @@ use std::alloc::Global;
 
 /// What was added, less what was taken away.
 fn less(plus: u128, minus: u128) -> i128
-    requires plus { plus ≤ 2 ^ 70 }
-    requires minus { minus ≤ 2 ^ 70 }
+    requires plus { plus ≤ 2 ^ 72 }
+    requires minus { minus ≤ 2 ^ 72 }
     ensures { result ≡ less plus minus }
 {
     plus as i128 - minus as i128
