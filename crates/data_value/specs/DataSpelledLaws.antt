@@ -80,7 +80,8 @@ read_is_spelled byte barred bytes x rest known fits e = either (nat_lt 128 byte)
     either : (high : Bool) → nat_lt 128 byte ≡ high → (if high then of_value.is_known (byte - 128) else of_value.is_known byte) ≡ true → read_of byte barred bytes high ≡ Ok (x, rest) → IsRead byte barred bytes (x, rest)
     either true is known e =
         let high : 128 < byte = ltb-true 128 byte is in
-        let back : byte_of (Deleted (kind_at (byte - 128))) ≡ byte = (let b = laws.byte_back (byte - 128) known in omega arith) in
+        let whole : byte - 128 + 128 ≡ byte = omega arith in
+        let back : byte_of (Deleted (kind_at (byte - 128))) ≡ byte = ap (λ (n : ℕ). n + 128) (laws.byte_back (byte - 128) known) ∙ whole in
         subst (IsRead byte barred bytes) (ok_is (Deleted (kind_at (byte - 128)), bytes) (x, rest) e) (takes_nothing bytes fits, tt, back, λ i b. refl)
     either false is known e =
         let a = bind_ok (of_value.read_in byte barred bytes) (λ found. Ok (Open found.0, found.1)) (x, rest) e in
