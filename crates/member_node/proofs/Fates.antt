@@ -13,9 +13,9 @@ use Rattle.model_members.specs.Message.{Keyed, Message, Post}
 use Rattle.model_members.specs.Message.Message.{Deltas, Nack, Status, Gossip, Write, WriteAck, WriteNack, Read, ReadAnswer}
 use Rattle.model_members.specs.Node.{KeyDecl, KeyState, Node, Finished, Input, Fate, Level, Reply, with_entry}
 use Rattle.model_members.specs.Node.Fate.{Stored, StoreFailed}
-use Rattle.model_members.specs.Node.Reply.{Done, Pending, WrongKind, NotStored, Taken, NotFromMember, OldView, Installed, NotAPeer, Ticked, TickedNotStored, NotLeader, TimedOut, NoSuchOp}
-use Rattle.model_members.specs.Step.{KeyGap, take_reply, took, to_store, sent, nack_to, status_of, member_count, outcomes_of, entry_after_tick, keyed_option, is_changed, with_answer, value_reply, shown_of}
-use Rattle.model_members.proofs.Cases.{updated, updated_needing, updated_unless, got, got_needing, counted_for}
+use Rattle.model_members.specs.Node.Reply.{Done, Pending, Deleted, WrongKind, NotStored, Taken, NotFromMember, OldView, Installed, NotAPeer, Ticked, TickedNotStored, NotLeader, TimedOut, NoSuchOp}
+use Rattle.model_members.specs.Step.{KeyGap, take_reply, took, to_store, sent, nack_to, status_of, member_count, outcomes_of, entry_after_tick, keyed_option, is_changed, with_answer, value_reply, meaning_of}
+use Rattle.model_members.proofs.Cases.{updated, updated_undeleted, updated_needing, updated_unless, got, got_needing, counted_for}
 
 -- WHAT A FAILED STORE MAKES OF A STEP
 
@@ -122,15 +122,20 @@ module _ {Kind Op Shown : Type 0} (D : Replication Kind Op Shown) (node : Node K
   update_at k op level true = update_needing k op (needed level (member_count later))
   update_at k op level false = quiet (answered later WrongKind) (λ key. refl)
 
+  update_kept : (k : KeyState Kind Op) (op : Op) (level : Level) (b : Bool)
+      → Fails (if b then answered later Deleted else updated_undeleted D later k op level NoStore) (if b then answered later Deleted else updated_undeleted D later k op level StoreFailed)
+  update_kept k op level true = quiet (answered later Deleted) (λ key. refl)
+  update_kept k op level false = update_at k op level (D.data_type.fits k.kind op)
+
   update_by : (o : Option (KeyState Kind Op)) (op : Op) (level : Level) → Fails (updated D later o op level NoStore) (updated D later o op level StoreFailed)
   update_by None op level = quiet (updated D later None op level NoStore) (λ key. refl)
-  update_by (Some k) op level = update_at k op level (D.data_type.fits k.kind op)
+  update_by (Some k) op level = update_kept k op level (D.data_type.deleted k.entry.history)
 
   get_needing : (k : KeyState Kind Op) (o : Option ℕ) → (got_needing D later k o).node.entries ≡ node.entries
   get_needing k None = refl
   get_needing k (Some n) = go (nat_le n 1)
     where
-      go : (b : Bool) → (if b then answered later (value_reply D (shown_of D k)) else opened later k.name true n (Read node.next_op k.name)).node.entries ≡ node.entries
+      go : (b : Bool) → (if b then answered later (value_reply D (meaning_of D k)) else opened later k.name true n (Read node.next_op k.name)).node.entries ≡ node.entries
       go true = refl
       go false = refl
 

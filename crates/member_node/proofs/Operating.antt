@@ -23,6 +23,7 @@ use Rattle.std.proofs.lemmas.Bool.Decides.{eqb_tells, leb_tells}
 use Rattle.std.proofs.lemmas.List.{map-append}
 use Rattle.std.proofs.lemmas.List.Elements.{filter-append}
 use Rattle.std.proofs.lemmas.Result.{IfOk-weaker}
+use Rattle.std.specs.Option.{option_and_then}
 use Rattle.member_node.proofs.Common.{Text, History, OpenOperation, one_step_later, Stepped, key_state, opened, counted, result_of, is_answered_by, Replication, bytes_eq-tells, Shown, Ghosts, Keeping, Message, StandsForMessage, StandsForPost, StandsForPosts, Open, StandForOperations, result_meant, changed_operations, Node, Prepared, peers_of, StandsForNode, IsOpened, is_pending, meant, StandsForOutput, Put}
 use Rattle.model_history.specs.Vector.{alone, members_of, with_member}
 use Rattle.model_members.specs.Node as nodes
@@ -30,7 +31,7 @@ use Rattle.model_members.specs.Node.{Result as Meant}
 use Rattle.model_members.specs.View.{others}
 use Rattle.model_members.specs.Entry.{Entry}
 use Rattle.model_members.specs.Message.{Message as Sent}
-use Rattle.model_members.specs.Step.{with_answer, read_result, shown_of}
+use Rattle.model_members.specs.Step.{with_answer, read_result, meaning_of}
 use Rattle.model_members.proofs.Cases.{counted_for}
 use Rattle.base_vectors.specs.IdSets.{member_count}
 use Rattle.member_messages.specs.declared.message.Post.{Post}
@@ -473,7 +474,7 @@ module _ {Kind Op : Type 0} (D : Replication Kind Op Shown) (operations : List O
       counts_in_model (λ o. not o.reads) c
       (counts_found (λ o. not o.reads) is_write (λ asked. refl) (λ end. end ≡ Wrote) (λ asked end writes wrote. ap result_meant wrote ∙ sym (by asked.reads asked writes)) c is)
     where
-      by : (b : Bool) (asked : Asked) → not b ≡ true → (if b then read_result D (option_map (shown_of D) (key_state stepped.node asked.key)) else Meant.Wrote) ≡ Meant.Wrote
+      by : (b : Bool) (asked : Asked) → not b ≡ true → (if b then read_result D (option_and_then (meaning_of D) (key_state stepped.node asked.key)) else Meant.Wrote) ≡ Meant.Wrote
       by true asked e = absurd (cc e)
       by false asked e = refl
 
@@ -494,9 +495,9 @@ module _ {Kind Op : Type 0} (D : Replication Kind Op Shown) (operations : List O
       both true false so = absurd (cc so)
       both false b so = absurd (cc so)
 
-      read_so : (o : OpenOperation) → o.key ≡ key → o.reads ≡ true → result_of D stepped.node o ≡ read_result D (option_map (shown_of D) (key_state stepped.node key))
+      read_so : (o : OpenOperation) → o.key ≡ key → o.reads ≡ true → result_of D stepped.node o ≡ read_result D (option_and_then (meaning_of D) (key_state stepped.node key))
       read_so o here is_read =
-          ap (λ b. if b then read_result D (option_map (shown_of D) (key_state stepped.node o.key)) else Meant.Wrote) is_read ∙ ap (λ k. read_result D (option_map (shown_of D) (key_state stepped.node k))) here
+          ap (λ b. if b then read_result D (option_and_then (meaning_of D) (key_state stepped.node o.key)) else Meant.Wrote) is_read ∙ ap (λ k. read_result D (option_and_then (meaning_of D) (key_state stepped.node k))) here
 
       same : (other : Asked) → is_read_of key other ≡ true → result_of D stepped.node asked ≡ result_of D stepped.node (asked_meant op other)
       same other passes =

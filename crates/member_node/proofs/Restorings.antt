@@ -433,6 +433,7 @@ module _ {T Kind Op Delta : Type 0} (ghosts : Ghosts T Kind Op Delta) (id given 
   }
 
 module _ {T Kind Op Delta : Type 0} (ghosts : Ghosts T Kind Op Delta) (spelling : Spelling T Kind Op Delta)
+    (byte_means : (state : T) (log : History Op) (held : VersionVector) (gone : IdentitySet) → IsPrunedCut log held gone → ghosts.IsDataOf state log held gone → spelling.byte_of state ≡ spelling.history_byte (ghosts.kind_of state) (cut log held))
     (means : (state : T) (log : History Op) (held : VersionVector) (gone : IdentitySet) → IsPrunedCut log held gone → ghosts.IsDataOf state log held gone → spelling.spelled state ≡ spelling.history_spelled (ghosts.kind_of state) (cut log held))
     (unmentioned : (state : T) (log : History Op) (held : VersionVector) (gone : IdentitySet) (i : ℕ) → ghosts.IsDataOf state log held gone → without gone held i ≡ 0 → ghosts.mentioned state i ≡ false)
     (id given : ℕ) (keys : List (KeyState T Kind Op Delta)) (kinds : Text → Kind) (logs : Text → History Op) (store : Store Op) (have_kinds : HaveKinds kinds keys) (fit : AreFit keys id given store) where
@@ -446,8 +447,8 @@ module _ {T Kind Op Delta : Type 0} (ghosts : Ghosts T Kind Op Delta) (spelling 
         parts = parts;
         durable = (some.0, some.1, some.2, some.3, (some.4.0, some.4.1, sym kind ∙ ap kinds some.4.0 ∙ sym e.kept.of_kind));
         envelope = e.kept.readable;
-        spelled = e.bytes ∙ ap (λ (kind : Kind). entry_spelled spelling.byte_of spelling.history_spelled kind e.entry) (sym e.kept.of_kind)
-            ∙ sym (spelled_is ghosts.IsDataOf ghosts.kind_of spelling.byte_of spelling.spelled spelling.history_spelled means parts (logs stored.key) e.entry e.kept.image);
+        spelled = e.bytes ∙ ap (λ (kind : Kind). entry_spelled spelling.history_byte spelling.history_spelled kind e.entry) (sym e.kept.of_kind)
+            ∙ sym (spelled_is ghosts.IsDataOf ghosts.kind_of spelling.byte_of spelling.spelled spelling.history_byte spelling.history_spelled byte_means means parts (logs stored.key) e.entry e.kept.image);
         names = names_fit ghosts id given unmentioned parts (logs stored.key) e.entry e.kept.image e.kept.readable.spelled.marks f.1;
       }
 
@@ -535,9 +536,10 @@ empty_log {Kind} {Op} {Delta} IsDeltaOf parts log entry id kind held is stands n
     (record { histories = stands.histories; taken = stands.taken; last = sym none; count = refl; kept = λ k own has. absurd (cc has) })
 
 module _ {T Kind Op Delta : Type 0} (ghosts : Ghosts T Kind Op Delta) (spelling : Spelling T Kind Op Delta)
+    (byte_means : (state : T) (log : History Op) (held : VersionVector) (gone : IdentitySet) → IsPrunedCut log held gone → ghosts.IsDataOf state log held gone → spelling.byte_of state ≡ spelling.history_byte (ghosts.kind_of state) (cut log held))
     (means : (state : T) (log : History Op) (held : VersionVector) (gone : IdentitySet) → IsPrunedCut log held gone → ghosts.IsDataOf state log held gone → spelling.spelled state ≡ spelling.history_spelled (ghosts.kind_of state) (cut log held))
     (once : (a b : Parts T) → IsEnvelope spelling.IsSound ghosts.mentioned a → IsEnvelope spelling.IsSound ghosts.mentioned b
-    → envelope_spelled (λ (value : T). spelling.byte_of (ghosts.kind_of value)) spelling.spelled a ≡ envelope_spelled (λ (value : T). spelling.byte_of (ghosts.kind_of value)) spelling.spelled b → a ≡ b)
+    → envelope_spelled spelling.byte_of spelling.spelled a ≡ envelope_spelled spelling.byte_of spelling.spelled b → a ≡ b)
     (kinds : Text → Kind) (logs : Text → History Op) (id : ℕ) (view : View) (table : Table) (store : Store Op) (spells : SpellsStore ghosts spelling kinds logs table store) where
   -- what a key took is what the store has
   record IsOfStore (state : KeyState T Kind Op Delta) : Type 0 where
@@ -552,8 +554,8 @@ module _ {T Kind Op Delta : Type 0} (ghosts : Ghosts T Kind Op Delta) (spelling 
   same_parts : (state : KeyState T Kind Op Delta) (one : HoldsOne ghosts spelling id view table state) (e : SpellsEntry ghosts spelling kinds logs store one.stored) → e.kept.parts ≡ one.parts
   same_parts state one e =
       once e.kept.parts one.parts e.kept.readable one.fit.envelope
-      (spelled_is ghosts.IsDataOf ghosts.kind_of spelling.byte_of spelling.spelled spelling.history_spelled means e.kept.parts (logs one.stored.key) e.entry e.kept.image
-      ∙ ap (λ (kind : Kind). entry_spelled spelling.byte_of spelling.history_spelled kind e.entry) e.kept.of_kind ∙ sym e.bytes ∙ one.fit.spelled)
+      (spelled_is ghosts.IsDataOf ghosts.kind_of spelling.byte_of spelling.spelled spelling.history_byte spelling.history_spelled byte_means means e.kept.parts (logs one.stored.key) e.entry e.kept.image
+      ∙ ap (λ (kind : Kind). entry_spelled spelling.history_byte spelling.history_spelled kind e.entry) e.kept.of_kind ∙ sym e.bytes ∙ one.fit.spelled)
 
   none_in : (parts : Parts T) (log : History Op) (entry : Entry Op) → StandsFor ghosts.IsDataOf parts log entry → NamesEarlier ghosts id view.given parts → at entry.history id ≡ 0
   none_in parts log entry stands names =

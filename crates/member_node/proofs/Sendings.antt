@@ -114,12 +114,12 @@ module _ {T Kind Op Delta : Type 0} (ghosts : Ghosts T Kind Op Delta) (kind_of :
 
 -- DIGESTS OF KEYS
 
-module _ {T Kind Op Delta : Type 0} (byte_of : Kind → ℕ) (history_spelled : Kind → History Op → List ℕ) (kind_of : T → Kind) (IsDataOf : T → History Op → VersionVector → IdentitySet → Type 0) (kinds : Text → Kind) (logs : Text → History Op) (D : Replication Kind Op Shown) where
+module _ {T Kind Op Delta : Type 0} (history_byte : Kind → History Op → ℕ) (history_spelled : Kind → History Op → List ℕ) (kind_of : T → Kind) (IsDataOf : T → History Op → VersionVector → IdentitySet → Type 0) (kinds : Text → Kind) (logs : Text → History Op) (D : Replication Kind Op Shown) where
   -- the digest of a key's entry, as the model says it
-  pub digest_is : D.digest ≡ entry_digest byte_of history_spelled → (node : nodes.Node Kind Op Shown) (state : KeyState T Kind Op Delta) → HoldsKey kind_of IsDataOf kinds logs node state
-      → entry_digest byte_of history_spelled (kind_of state.entry.value) (node.entries state.name) ≡ digest_of D (state_of node (declared_by state))
+  pub digest_is : D.digest ≡ entry_digest history_byte history_spelled → (node : nodes.Node Kind Op Shown) (state : KeyState T Kind Op Delta) → HoldsKey kind_of IsDataOf kinds logs node state
+      → entry_digest history_byte history_spelled (kind_of state.entry.value) (node.entries state.name) ≡ digest_of D (state_of node (declared_by state))
   digest_is same node state holds =
-      ap (λ kind. entry_digest byte_of history_spelled kind (node.entries state.name)) (holds.held.kind ∙ holds.kind) ∙ sym (λ i. same i state.kind (node.entries state.name))
+      ap (λ kind. entry_digest history_byte history_spelled kind (node.entries state.name)) (holds.held.kind ∙ holds.kind) ∙ sym (λ i. same i state.kind (node.entries state.name))
 
 -- A FLUSH
 

@@ -1,7 +1,7 @@
 -- Updates and gets, as they are prepared and carried out.
 -- An update that becomes a record.
 -- What is prepared of updates and gets at any level.
---     told_unfit, told_too_few, told_refused        an update that changes nothing
+--     told_deleted, told_unfit, told_too_few, told_refused        an update that changes nothing
 --     taken_if        the next record is taken from the log, if the update is not refused
 --     prepared_done, prepared_pending        an update that is recorded: it is done, or others are asked
 --     got_too_few, got_value, got_pending        a get
@@ -10,25 +10,27 @@
 --     stores_none        a plan that changes no durable key has nothing to store
 --     keys_still, owned_still        the keys, where memory was refused
 --     owned_in_place, steps_in_place        an update in its place keeps what a member keeps, and is the step that would be prepared
-use Rattle.std.proofs.Common.{◌≡◌, ◌≢◌, ℕ, ◌+◌, ◌<◌, length, get_or, Bool, false, refl, sym, ap, ◌∙◌, subst, None, unwrap_or, if◌then◌else◌, bytes_eq, ◌≤◌, List, [], arith, true, Some, inl, inr, nat_le, Result, Ok, Err, IfOk, set, Option, ◌==◌}
+use Rattle.std.proofs.Common.{◌≡◌, ◌≢◌, ℕ, ◌+◌, ◌<◌, length, get_or, Bool, false, refl, sym, ap, ◌∙◌, subst, None, unwrap_or, if◌then◌else◌, bytes_eq, ◌≤◌, List, [], arith, true, Some, inl, inr, nat_le, Result, Ok, Err, IfOk, set, Option, ◌==◌, ◌&&◌, not}
 use Rattle.std.proofs.lemmas.List.{get_or_default, set-get_or}
 use Rattle.std.proofs.lemmas.Bool.Decides.{leb_tells}
-use Rattle.std.proofs.lemmas.Bool.{cases_eq}
+use Rattle.std.proofs.lemmas.Bool.{cases_eq, and_parts}
 use Rattle.member_node.proofs.Common.{Text, History, IsTakenFrom, with_action, has_records, is_unchanged, one_step_later, HasKey, needed, opened, step, answered, Replication, bytes_eq-tells, View, is_unchanged-same, Shown, Ghosts, Keeping, Envelope, StandsFor, parts_of, entry_digest, NextRecord, StandsForLog, StandsForEntry, level_meant, KeyState, Node, At, Nothing, Prepared, StandsForKey, StandsForNode, changed_operations, StandForOperations, StandsForOutput, IsStepOf, recorded, IsSoundPlan, IsPrepared, LeadsOn, AreOwned, Output, Reply, IsOpened, delta_groups, meant, is_pending, IsSoundFor, Prepares, AreSpelled, StandsAfter}
 use Rattle.model_history.specs.History.Action.{Operation}
 use Rattle.model_members.specs.Entry.{Entry}
+use Rattle.model_members.specs.DataType.{meaning}
 use Rattle.model_members.specs.Message.{Message as Sent}
 use Rattle.model_members.specs.Node as nodes
 use Rattle.model_members.specs.Node.{with_entry, with_text_at}
 use Rattle.model_members.specs.Step.{member_count, value_reply}
-use Rattle.model_members.specs.Node.Reply.{Done, WrongKind, TooFew}
+use Rattle.model_members.specs.Node.Reply.{Done, Deleted, WrongKind, TooFew}
 use Rattle.model_members.proofs.Steps.{with_text_at-same}
 use Rattle.data_lattice.specs.declared.spelled.SpelledData.{Ghosts as Spelling}
 use Rattle.member_messages.specs.declared.message.Message.TheVariants.{Write, Read}
 use Rattle.member_quorum.specs.declared.level.Level.{Level}
 use Rattle.member_node.specs.Members.{AreTakenFrom}
+use Rattle.member_node.specs.Recording.{is_open_to}
 use Rattle.member_node.specs.Planning.{CanRecord, IsRecordable, IsPlanned, entry_in}
-use Rattle.member_node.specs.Updates.{IsOwnRecord, refusal_at, IsRefusal, IsNextOperation, reply_of, IsOwn, MeansUpdate, Becomes, IsApplied}
+use Rattle.member_node.specs.Updates.{IsUndeleted, IsOwnRecord, refusal_at, IsRefusal, IsNextOperation, reply_of, IsOwn, MeansUpdate, Becomes, IsApplied}
 use Rattle.member_node.specs.declared.operations.OperationChange.TheVariants.{Same}
 use Rattle.member_node.specs.declared.reply.Reply.TheVariants as reply
 use Rattle.member_node.specs.declared.input.Input.{Input}
@@ -44,7 +46,7 @@ use Rattle.member_node.proofs.Takings.{other_name}
 use Rattle.member_node.proofs.Planned.{sound_at, leads_at, owned, operates_still, prepared_moved, quiet_output, sound_told, sound_as, prepared_answered}
 use Rattle.member_node.proofs.Lists.{IsFound, position-found}
 use Rattle.member_node.proofs.Standing.{has_key, held_at}
-use Rattle.member_node.proofs.Updating.{update_unfit, update_too_few, update_refused, update_accepted, update_entry, get_too_few, get_needing}
+use Rattle.member_node.proofs.Updating.{update_deleted, update_unfit, update_too_few, update_refused, update_accepted, update_entry, get_too_few, get_needing}
 use Rattle.member_node.proofs.Operating.{opened_operates, opened_answers}
 use Rattle.member_node.proofs.Making.{makes_step, stored_not, stored_same, put_none, put_all_keys}
 
@@ -129,6 +131,21 @@ module _ {T K Kind Op Delta : Type 0} {ghosts : Ghosts T Kind Op Delta} {keeping
 
 -- AT ANY LEVEL
 
+-- what is told of an envelope is so of each entry for which it stands
+pub deleted_as : {T Kind Op Delta : Type 0} (ghosts : Ghosts T Kind Op Delta) (told entry : Envelope T Kind Op Delta) (answer b : Bool) → told ≡ entry
+    → ((log : History Op) (held : Entry Op) → StandsFor ghosts.IsDataOf (parts_of told) log held → answer ≡ ghosts.data_type.deleted held.history) → answer ≡ b
+    → (log : History Op) (held : Entry Op) → StandsFor ghosts.IsDataOf (parts_of entry) log held → ghosts.data_type.deleted held.history ≡ b
+deleted_as {T} {Kind} {Op} {Delta} ghosts told entry answer b same tells is log held s =
+    sym (tells log held (subst (λ (e : Envelope T Kind Op Delta). StandsFor ghosts.IsDataOf (parts_of e) log held) (sym same) s)) ∙ is
+
+-- what is open to an operation is of its kind
+pub open_fits : {T Kind Op Delta : Type 0} (ghosts : Ghosts T Kind Op Delta) (value : T) (op : Op) → is_open_to ghosts value op ≡ true → ghosts.data_type.fits (ghosts.kind_of value) op ≡ true
+open_fits ghosts value op is = (and_parts (not (ghosts.is_closed value)) (ghosts.data_type.fits (ghosts.kind_of value) op) is).1
+
+-- what is not deleted, and not open to it, is of another kind
+pub unfit_of : {T Kind Op Delta : Type 0} (ghosts : Ghosts T Kind Op Delta) (value : T) (op : Op) → ghosts.is_closed value ≡ false → is_open_to ghosts value op ≡ false → ghosts.data_type.fits (ghosts.kind_of value) op ≡ false
+unfit_of ghosts value op kept is = ap (λ b. not b && ghosts.data_type.fits (ghosts.kind_of value) op) (sym kept) ∙ is
+
 -- two facts of a result that give a third
 pub if_both : {A E : Type 0} (P Q S : A → Type 0) (r : Result A E) → ((x : A) → P x → Q x → S x) → IfOk r P → IfOk r Q → IfOk r S
 if_both P Q S (Ok x) gives p q = gives x p q
@@ -161,18 +178,21 @@ module _ {T K Kind Op Delta : Type 0} {ghosts : Ghosts T Kind Op Delta} {keeping
     stepped_so : step (delta_groups ghosts.data_type digest) node input nodes.Fate.NoStore ≡ step (delta_groups ghosts.data_type digest) node (nodes.Input.Update at.name op level) nodes.Fate.NoStore
     stepped_so = ap (λ i. step D node i nodes.Fate.NoStore) (sent ∙ ap (λ (name : Text). nodes.Input.Update name op level) (sym named))
 
-    pub told_unfit : ghosts.data_type.fits (ghosts.kind_of at.entry.value) op ≡ false → step (delta_groups ghosts.data_type digest) node input nodes.Fate.NoStore ≡ answered (one_step_later node) WrongKind
-    told_unfit unfit = stepped_so ∙ update_unfit D node at.name level (ghosts.kind_of at.entry.value) has op unfit
+    pub told_deleted : ghosts.data_type.deleted (node.entries at.name).history ≡ true → step (delta_groups ghosts.data_type digest) node input nodes.Fate.NoStore ≡ answered (one_step_later node) Deleted
+    told_deleted deleted = stepped_so ∙ update_deleted D node at.name level (ghosts.kind_of at.entry.value) has op deleted
 
-    module _ (fits : ghosts.data_type.fits (ghosts.kind_of at.entry.value) op ≡ true) where
+    pub told_unfit : ghosts.data_type.deleted (node.entries at.name).history ≡ false → ghosts.data_type.fits (ghosts.kind_of at.entry.value) op ≡ false → step (delta_groups ghosts.data_type digest) node input nodes.Fate.NoStore ≡ answered (one_step_later node) WrongKind
+    told_unfit kept unfit = stepped_so ∙ update_unfit D node at.name level (ghosts.kind_of at.entry.value) has op kept unfit
+
+    module _ (kept : ghosts.data_type.deleted (node.entries at.name).history ≡ false) (fits : ghosts.data_type.fits (ghosts.kind_of at.entry.value) op ≡ true) where
       pub told_too_few : needed level (member_count node) ≡ None → step (delta_groups ghosts.data_type digest) node input nodes.Fate.NoStore ≡ answered (one_step_later node) TooFew
-      told_too_few none = stepped_so ∙ update_too_few D node at.name level (ghosts.kind_of at.entry.value) has op fits none
+      told_too_few none = stepped_so ∙ update_too_few D node at.name level (ghosts.kind_of at.entry.value) has op kept fits none
 
       module _ (n : ℕ) (number : needed level (member_count node) ≡ Some n) where
         pub told_refused : (told : Reply) → IsRefusal ghosts code.id op at (node.entries at.name) told → step (delta_groups ghosts.data_type digest) node input nodes.Fate.NoStore ≡ answered (one_step_later node) (meant told)
         told_refused told u =
             stepped_so
-            ∙ update_refused D node at.name level (ghosts.kind_of at.entry.value) has op fits n number u.refusal (ap (λ i. ghosts.data_type.refusal (ghosts.kind_of at.entry.value) i op (node.entries at.name).history) s.identity ∙ u.refuses)
+            ∙ update_refused D node at.name level (ghosts.kind_of at.entry.value) has op kept fits n number u.refusal (ap (λ i. ghosts.data_type.refusal (ghosts.kind_of at.entry.value) i op (node.entries at.name).history) s.identity ∙ u.refuses)
             ∙ ap (answered later) (sym u.told)
 
         unrefused_so : refusal_at ghosts code.id op at (node.entries at.name) ≡ None → ghosts.data_type.refusal (ghosts.kind_of at.entry.value) node.identity op (node.entries at.name).history ≡ None
@@ -180,7 +200,7 @@ module _ {T K Kind Op Delta : Type 0} {ghosts : Ghosts T Kind Op Delta} {keeping
 
         pub taken_if : AreTakenFrom logs (step (delta_groups ghosts.data_type digest) node input nodes.Fate.NoStore).node → refusal_at ghosts code.id op at (node.entries at.name) ≡ None → IsTakenFrom (logs at.name) (with_action (node.entries at.name) code.id (Operation op)).history
         taken_if taken unrefused =
-            let here = ap (λ st. st.node.entries at.name) stepped_so ∙ update_entry D node at.name level (ghosts.kind_of at.entry.value) has op fits n number (unrefused_so unrefused)
+            let here = ap (λ st. st.node.entries at.name) stepped_so ∙ update_entry D node at.name level (ghosts.kind_of at.entry.value) has op kept fits n number (unrefused_so unrefused)
             ∙ ap (λ i. with_action (node.entries at.name) i (Operation op)) s.identity in
             subst (λ (e : Entry Op). IsTakenFrom (logs at.name) e.history) here (taken at.name)
 
@@ -205,7 +225,7 @@ module _ {T K Kind Op Delta : Type 0} {ghosts : Ghosts T Kind Op Delta} {keeping
               ≡ (if b then answered (with_entry (one_step_later node) at.name (with_action (node.entries at.name) node.identity (Operation op))) Done
               else opened (with_entry (one_step_later node) at.name (with_action (node.entries at.name) node.identity (Operation op))) at.name false n (Sent.Write node.next_op at.name (with_action (node.entries at.name) node.identity (Operation op))))
           stepped_by b test =
-              stepped_so ∙ update_accepted D node at.name level (ghosts.kind_of at.entry.value) has op fits n number (unrefused_so u.unrefused)
+              stepped_so ∙ update_accepted D node at.name level (ghosts.kind_of at.entry.value) has op kept fits n number (unrefused_so u.unrefused)
               ∙ ap (λ b. if b then answered (with_entry (one_step_later node) at.name (with_action (node.entries at.name) node.identity (Operation op))) Done
               else opened (with_entry (one_step_later node) at.name (with_action (node.entries at.name) node.identity (Operation op))) at.name false n (Sent.Write node.next_op at.name (with_action (node.entries at.name) node.identity (Operation op)))) test
 
@@ -243,14 +263,14 @@ module _ {T K Kind Op Delta : Type 0} {ghosts : Ghosts T Kind Op Delta} {keeping
 
     module _ (n : ℕ) (number : needed level (member_count node) ≡ Some n) where
       got_by : (b : _) → nat_le n 1 ≡ b → step (delta_groups ghosts.data_type digest) node input nodes.Fate.NoStore
-          ≡ (if b then answered (one_step_later node) (value_reply (delta_groups ghosts.data_type digest) (if has_records (node.entries at.name) then Some (ghosts.data_type.shown (ghosts.kind_of at.entry.value) (node.entries at.name).history) else None))
+          ≡ (if b then answered (one_step_later node) (value_reply (delta_groups ghosts.data_type digest) (if has_records (node.entries at.name) then Some (meaning ghosts.data_type (ghosts.kind_of at.entry.value) (node.entries at.name).history) else None))
           else opened (one_step_later node) at.name true n (Sent.Read node.next_op at.name))
       got_by b test =
           got_so ∙ get_needing D node at.name level (ghosts.kind_of at.entry.value) has n number
-          ∙ ap (λ b. if b then answered (one_step_later node) (value_reply (delta_groups ghosts.data_type digest) (if has_records (node.entries at.name) then Some (ghosts.data_type.shown (ghosts.kind_of at.entry.value) (node.entries at.name).history) else None))
+          ∙ ap (λ b. if b then answered (one_step_later node) (value_reply (delta_groups ghosts.data_type digest) (if has_records (node.entries at.name) then Some (meaning ghosts.data_type (ghosts.kind_of at.entry.value) (node.entries at.name).history) else None))
           else opened (one_step_later node) at.name true n (Sent.Read node.next_op at.name)) test
 
-      pub got_value : n ≤ 1 → (told : Reply) → meant told ≡ value_reply (delta_groups ghosts.data_type digest) (if has_records (node.entries at.name) then Some (ghosts.data_type.shown (ghosts.kind_of at.entry.value) (node.entries at.name).history) else None)
+      pub got_value : n ≤ 1 → (told : Reply) → meant told ≡ value_reply (delta_groups ghosts.data_type digest) (if has_records (node.entries at.name) then Some (meaning ghosts.data_type (ghosts.kind_of at.entry.value) (node.entries at.name).history) else None)
           → step (delta_groups ghosts.data_type digest) node input nodes.Fate.NoStore ≡ answered (one_step_later node) (meant told)
       got_value few told same = got_by true (is_one n few) ∙ ap (answered later) (sym same)
 
@@ -269,35 +289,35 @@ module _ {T K Kind Op Delta : Type 0} {ghosts : Ghosts T Kind Op Delta} {keeping
 
 module _ {T K Kind Op Delta : Type 0} {ghosts : Ghosts T Kind Op Delta} {keeping : Keeping K} (spelling : Spelling T Kind Op Delta) (code : Node T K Kind Op Delta ghosts keeping) (key : Text) (op : Op) (level : Level)
     (index : ℕ) (at : KeyState T Kind Op Delta) (found : IsFound (λ (state : KeyState T Kind Op Delta). bytes_eq state.name key) code.keys.items index) (is : at ≡ get_or code.keys.items index at)
-    (fits : ghosts.data_type.fits (ghosts.kind_of at.entry.value) op ≡ true) (n : ℕ) (number : needed (level_meant level) (length code.view.members) ≡ Some n) (prepared : Prepared T Kind Op Delta ghosts) (none : prepared.view ≡ None) where
+    (kept : IsUndeleted ghosts at.entry) (fits : ghosts.data_type.fits (ghosts.kind_of at.entry.value) op ≡ true) (n : ℕ) (number : needed (level_meant level) (length code.view.members) ≡ Some n) (prepared : Prepared T Kind Op Delta ghosts) (none : prepared.view ≡ None) where
   -- a refusal
   pub prepares_refused : (told : Reply) → MeansUpdate ghosts code.id op at (Refused told) → prepared.plan ≡ Nothing → prepared.operations ≡ Same → prepared.output ≡ record { reply = told; posts = []; finished = None }
       → Prepares spelling code (input.Update key op level) prepared
   prepares_refused told means nothing same output = λ kinds logs node sent s sent_is safe.
-      let digest = entry_digest spelling.byte_of spelling.history_spelled in
+      let digest = entry_digest spelling.history_byte spelling.history_spelled in
       let count = ap (λ (v : View). needed (level_meant level) (length v.members)) s.view ∙ number in
       let held = held_at ghosts.kind_of ghosts.IsDataOf kinds logs code node s index at found.within is in
-      let u = means (logs at.name) (node.entries at.name) held.held.image held.logged (taken_if kinds logs code node s digest key (level_meant level) index at found is sent op sent_is fits n count safe.taken) in
-      prepared_answered kinds logs code node s prepared told none nothing same output _ (told_refused kinds logs code node s digest key (level_meant level) index at found is sent op sent_is fits n count told u)
+      let u = means (logs at.name) (node.entries at.name) held.held.image held.logged (taken_if kinds logs code node s digest key (level_meant level) index at found is sent op sent_is (kept (logs at.name) (node.entries at.name) held.held.image) fits n count safe.taken) in
+      prepared_answered kinds logs code node s prepared told none nothing same output _ (told_refused kinds logs code node s digest key (level_meant level) index at found is sent op sent_is (kept (logs at.name) (node.entries at.name) held.held.image) fits n count told u)
 
   module _ (entry : Envelope T Kind Op Delta) (next : NextRecord Delta) (own : IsOwnRecord ghosts code.id at entry next) (means : MeansUpdate ghosts code.id op at (Recorded entry next)) (plan : prepared.plan ≡ At index entry next) where
     -- a record that this member alone has to have
     pub prepares_done : n ≤ 1 → prepared.operations ≡ Same → prepared.output ≡ record { reply = reply.Done; posts = []; finished = None } → Prepares spelling code (input.Update key op level) prepared
     prepares_done few same output = λ kinds logs node sent s sent_is safe.
-        let digest = entry_digest spelling.byte_of spelling.history_spelled in
+        let digest = entry_digest spelling.history_byte spelling.history_spelled in
         let count = ap (λ (v : View). needed (level_meant level) (length v.members)) s.view ∙ number in
         let held = held_at ghosts.kind_of ghosts.IsDataOf kinds logs code node s index at found.within is in
-        let u = means (logs at.name) (node.entries at.name) held.held.image held.logged (taken_if kinds logs code node s digest key (level_meant level) index at found is sent op sent_is fits n count safe.taken) in
-        prepared_done kinds logs code node s digest key (level_meant level) index at found is sent op sent_is fits n count entry next own u prepared none plan few same output
+        let u = means (logs at.name) (node.entries at.name) held.held.image held.logged (taken_if kinds logs code node s digest key (level_meant level) index at found is sent op sent_is (kept (logs at.name) (node.entries at.name) held.held.image) fits n count safe.taken) in
+        prepared_done kinds logs code node s digest key (level_meant level) index at found is sent op sent_is (kept (logs at.name) (node.entries at.name) held.held.image) fits n count entry next own u prepared none plan few same output
 
     -- one that others have to have
     pub prepares_pending : 1 < n → IsOpened code at.name false n (Write (length code.operations) at.name entry) prepared → Prepares spelling code (input.Update key op level) prepared
     prepares_pending more o = λ kinds logs node sent s sent_is safe.
-        let digest = entry_digest spelling.byte_of spelling.history_spelled in
+        let digest = entry_digest spelling.history_byte spelling.history_spelled in
         let count = ap (λ (v : View). needed (level_meant level) (length v.members)) s.view ∙ number in
         let held = held_at ghosts.kind_of ghosts.IsDataOf kinds logs code node s index at found.within is in
-        let u = means (logs at.name) (node.entries at.name) held.held.image held.logged (taken_if kinds logs code node s digest key (level_meant level) index at found is sent op sent_is fits n count safe.taken) in
-        prepared_pending kinds logs code node s digest key (level_meant level) index at found is sent op sent_is fits n count entry next own u prepared none plan more o
+        let u = means (logs at.name) (node.entries at.name) held.held.image held.logged (taken_if kinds logs code node s digest key (level_meant level) index at found is sent op sent_is (kept (logs at.name) (node.entries at.name) held.held.image) fits n count safe.taken) in
+        prepared_pending kinds logs code node s digest key (level_meant level) index at found is sent op sent_is (kept (logs at.name) (node.entries at.name) held.held.image) fits n count entry next own u prepared none plan more o
 
 -- WHAT IS STORED
 
@@ -348,7 +368,7 @@ module _ {T K Kind Op Delta : Type 0} {ghosts : Ghosts T Kind Op Delta} {keeping
       let output : output_of became ≡ record { reply = told; posts = []; finished = None } = ap (λ r. record { reply = r; posts = []; finished = None }) becomes.1 in
       record {
         sound = sound_told old (as_planned Nothing) told refl refl output own;
-        prepares = prepares_refused spelling old key op level index here.at found here.there here.fits here.number here.enough (as_planned Nothing) refl told means refl refl output;
+        prepares = prepares_refused spelling old key op level index here.at found here.there here.undeleted (open_fits ghosts here.at.entry.value op here.fits) here.number here.enough (as_planned Nothing) refl told means refl refl output;
         planned = ap (set old.keys.items index) (becomes.0 ∙ here.there) ∙ set-get_or old.keys.items index here.at;
         stores = stores_none ghosts spelling old.keys.items Nothing (λ k d entry within is. absurd (cc is));
       }
@@ -368,7 +388,7 @@ module _ {T K Kind Op Delta : Type 0} {ghosts : Ghosts T Kind Op Delta} {keeping
       let output = ap (λ b. record { reply = reply_of b; posts = []; finished = None }) becomes.1 in
       record {
         sound = sound_as old (as_planned (At index entry next)) (sound_recorded old index here.at entry next found.within here.there own) refl (ap (λ b. is_pending (reply_of b)) becomes.1);
-        prepares = prepares_done spelling old key op level index here.at found here.there here.fits here.number here.enough (as_planned (At index entry next)) refl entry next own means refl here.alone refl output;
+        prepares = prepares_done spelling old key op level index here.at found here.there here.undeleted (open_fits ghosts here.at.entry.value op here.fits) here.number here.enough (as_planned (At index entry next)) refl entry next own means refl here.alone refl output;
         planned = (here.at, here.there, ap (set old.keys.items index) becomes.0);
         stores = stores_none ghosts spelling old.keys.items (At index entry next) (volatile entry next);
       }

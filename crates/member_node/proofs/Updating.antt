@@ -1,19 +1,21 @@
 -- Updates and gets in the model.
 -- What the model makes of an update and of a get, by the key and the number of members that have to answer.
+-- What an entry means, by whether it has records and whether one of them deletes.
 -- An own operation that was made a record of its entry, or refused, is what the model makes of the entry.
 use Rattle.std.proofs.Common.{◌≡◌, ℕ, refl, ap, ◌∙◌, true, false, Bool, Option, Some, None, nat_le, if◌then◌else◌, option_map, find, bytes_eq, inl, inr, sym, ◌+◌, ◌<◌, ◌^◌, subst, arith}
-use Rattle.member_node.proofs.Common.{Text, History, at, IsTakenFrom, with_action, Replication, HasKey, needed, state_of, one_step_later, NoStore, step, answered, opened, number_at, Ghosts, Envelope, StandsFor, parts_of, NextRecord, StandsForLog, KeyState, Reply, meant}
+use Rattle.member_node.proofs.Common.{Text, History, at, IsTakenFrom, with_action, Replication, HasKey, needed, state_of, one_step_later, NoStore, step, answered, opened, has_records, Shown, number_at, Ghosts, Envelope, StandsFor, parts_of, NextRecord, StandsForLog, KeyState, Reply, meant}
 use Rattle.model_history.specs.History.Action.{Operation}
 use Rattle.model_meanings.specs.Refusal.{Refusal}
 use Rattle.model_meanings.specs.Refusal.Refusal.{Overflow, ClockSpent, SetFull}
 use Rattle.model_members.specs.Entry.{Entry}
+use Rattle.model_members.specs.DataType.{Meaning, IsDeleted, Shows, meaning}
 use Rattle.model_members.specs.Node as nodes
 use Rattle.model_members.specs.Node.{KeyDecl, Node, Input, Level, with_entry, Reply as Meant}
-use Rattle.model_members.specs.Node.Reply.{Done, UnknownKey, WrongKind, TooFew}
+use Rattle.model_members.specs.Node.Reply.{Done, UnknownKey, Deleted, WrongKind, TooFew}
 use Rattle.model_members.specs.Message.Message.{Write}
 use Rattle.model_members.specs.Step.{member_count}
 use Rattle.model_members.proofs.Steps.{with_text_at-same}
-use Rattle.model_members.proofs.Cases.{accepted, updated, updated_unless, updated_needing, got, got_needing}
+use Rattle.model_members.proofs.Cases.{accepted, updated, updated_undeleted, updated_unless, updated_needing, got, got_needing}
 use Rattle.data_lattice.specs.declared.answers.ApplyError.{ApplyError}
 use Rattle.data_lattice.specs.declared.answers.ApplyError.TheVariants.{Memory}
 use Rattle.data_lattice.specs.Refusals.{error_of, IsApplyRefusal}
@@ -22,6 +24,7 @@ use Rattle.data_deltalog.proofs.Keeping.{stands_operation}
 use Rattle.member_node.specs.declared.key.Updated.TheVariants.{Refused, Recorded}
 use Rattle.member_node.specs.Own.{IsLogged}
 use Rattle.member_node.specs.Recording.{IsRecorded, StandsForRecorded}
+use Rattle.member_node.specs.Showing.{meaning_of}
 use Rattle.member_node.specs.Updates.{IsOwnRecord, refusal_at, MeansUpdate}
 
 -- BY THE KEY AND THE NUMBER OF MEMBERS
@@ -69,9 +72,18 @@ module _ {Kind Op Shown : Type 0} (D : Replication Kind Op Shown) (node : Node K
     state = state_of (one_step_later node) (record { name = key; kind = kind; durable = has.0 })
 
     module _ (op : Op) where
+      by_delete : (b : Bool) → D.data_type.deleted (node.entries key).history ≡ b → step D node (Input.Update key op level) NoStore ≡ (if b then answered (one_step_later node) Deleted else updated_undeleted D (one_step_later node) state op level NoStore)
+      by_delete b is =
+          ap (λ o. updated D (one_step_later node) (option_map (state_of (one_step_later node)) o) op level NoStore) has.1
+          ∙ ap (λ b. if b then answered (one_step_later node) Deleted else updated_undeleted D (one_step_later node) state op level NoStore) is
+
+      pub update_deleted : D.data_type.deleted (node.entries key).history ≡ true → step D node (Input.Update key op level) NoStore ≡ answered (one_step_later node) Deleted
+      update_deleted deleted = by_delete true deleted
+
+    module _ (op : Op) (kept : D.data_type.deleted (node.entries key).history ≡ false) where
       by_kind : (b : Bool) → D.data_type.fits kind op ≡ b → step D node (Input.Update key op level) NoStore ≡ (if b then updated_needing D (one_step_later node) state op (needed level (member_count node)) NoStore else answered (one_step_later node) WrongKind)
       by_kind b is =
-          ap (λ o. updated D (one_step_later node) (option_map (state_of (one_step_later node)) o) op level NoStore) has.1
+          by_delete op false kept
           ∙ ap (λ b. if b then updated_needing D (one_step_later node) state op (needed level (member_count node)) NoStore else answered (one_step_later node) WrongKind) is
 
       pub update_unfit : D.data_type.fits kind op ≡ false → step D node (Input.Update key op level) NoStore ≡ answered (one_step_later node) WrongKind
@@ -109,6 +121,22 @@ module _ {Kind Op Shown : Type 0} (D : Replication Kind Op Shown) (node : Node K
     pub get_needing : (n : ℕ) → needed level (member_count node) ≡ Some n → step D node (Input.Get key level) NoStore ≡ got_needing D (one_step_later node) state (Some n)
     get_needing n number =
         ap (λ o. got D (one_step_later node) (option_map (state_of (one_step_later node)) o) level) has.1 ∙ ap (got_needing D (one_step_later node) state) number
+
+-- WHAT AN ENTRY MEANS
+
+module _ {T Kind Op Delta : Type 0} (ghosts : Ghosts T Kind Op Delta) (kind : Kind) (held : Entry Op) where
+  pub means_nothing : false ≡ has_records held → None ≡ meaning_of ghosts kind held
+  means_nothing none = ap (λ b. if b then Some (meaning ghosts.data_type kind held.history) else None) none
+
+  means_more : true ≡ has_records held → Some (meaning ghosts.data_type kind held.history) ≡ meaning_of ghosts kind held
+  means_more some = ap (λ b. if b then Some (meaning ghosts.data_type kind held.history) else None) some
+
+  pub means_deleted : true ≡ has_records held → true ≡ ghosts.data_type.deleted held.history → Some IsDeleted ≡ meaning_of ghosts kind held
+  means_deleted some deleted = ap (λ b. Some (if b then IsDeleted else Shows (ghosts.data_type.shown kind held.history))) deleted ∙ means_more some
+
+  pub means_shown : true ≡ has_records held → false ≡ ghosts.data_type.deleted held.history → (shown : Shown) → shown ≡ ghosts.data_type.shown kind held.history → Some (Shows shown) ≡ meaning_of ghosts kind held
+  means_shown some kept shown is =
+      ap (λ shown. Some (Shows shown)) is ∙ ap (λ b. Some (if b then IsDeleted else Shows (ghosts.data_type.shown kind held.history))) kept ∙ means_more some
 
 -- OF AN ENTRY
 

@@ -94,7 +94,7 @@ module _ {T Kind Op Delta E : Type 0} {ghosts : Ghosts T Kind Op Delta} where
   abbrev pub ComparesIfOk : Spelling T Kind Op Delta → (id from : ℕ) → List (KeyState T Kind Op Delta) → List (Keyed (List ℕ)) → Result (MessageTaken T Kind Op Delta ghosts) E → Type 0
   ComparesIfOk spelling id from keys digests result =
       (kinds : Text → Kind) (logs : Text → History Op) (node : nodes.Node Kind Op Shown) → AreHeld ghosts.kind_of ghosts.IsDataOf kinds logs id keys node.entries → node.keys ≡ map declared_by keys
-      → let next = step_of_take (spelled_groups ghosts.data_type spelling.byte_of spelling.history_spelled) node from nodes.Fate.NoStore (Sent.Status (map digest_told digests)) in
+      → let next = step_of_take (spelled_groups ghosts.data_type spelling.history_byte spelling.history_spelled) node from nodes.Fate.NoStore (Sent.Status (map digest_told digests)) in
       IfOk result (IsTaken ghosts.kind_of ghosts.IsDataOf kinds logs keys node next)
 
   -- so is a message of groups, entries or nacks, whatever the digests are
@@ -110,5 +110,5 @@ module _ {T Kind Op Delta E : Type 0} {ghosts : Ghosts T Kind Op Delta} where
   TakesIfOk spelling id view from keys message result =
       (kinds : Text → Kind) (logs : Text → History Op) (node : nodes.Node Kind Op Shown) (sent : Sent Op)
       → AreHeldBy ghosts.kind_of ghosts.IsDataOf kinds logs id keys view node → StandsForTaken kinds logs keys message sent → is_exchange message ≡ true
-      → AreExactAt keys (step_of_take (spelled_groups ghosts.data_type spelling.byte_of spelling.history_spelled) node from nodes.Fate.NoStore sent).node.entries
-      → IfOk result (IsTaken ghosts.kind_of ghosts.IsDataOf kinds logs keys node (step_of_take (spelled_groups ghosts.data_type spelling.byte_of spelling.history_spelled) node from nodes.Fate.NoStore sent))
+      → AreExactAt keys (step_of_take (spelled_groups ghosts.data_type spelling.history_byte spelling.history_spelled) node from nodes.Fate.NoStore sent).node.entries
+      → IfOk result (IsTaken ghosts.kind_of ghosts.IsDataOf kinds logs keys node (step_of_take (spelled_groups ghosts.data_type spelling.history_byte spelling.history_spelled) node from nodes.Fate.NoStore sent))

@@ -8,4 +8,4 @@ use Rattle.data_codec.specs.Entries.{entry_digest}
 
 -- that of the spelling, by the kind of the envelope
 abbrev pub spelled_digest : {T Kind Op Delta : Type 0} → Ghosts T Kind Op Delta → Spelling T Kind Op Delta → Envelope T Kind Op Delta → Entry Op → List ℕ
-spelled_digest ghosts spelling envelope entry = entry_digest spelling.byte_of spelling.history_spelled (ghosts.kind_of envelope.value) entry
+spelled_digest ghosts spelling envelope entry = entry_digest spelling.history_byte spelling.history_spelled (ghosts.kind_of envelope.value) entry

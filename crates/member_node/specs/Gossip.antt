@@ -80,13 +80,13 @@ module _ {T Kind Op Delta : Type 0} (ghosts : Ghosts T Kind Op Delta) (spelling 
 
   abbrev pub MeansComparison : KeyState T Kind Op Delta → List (Keyed (List ℕ)) → Comparison → Type 0
   MeansComparison state digests comparison =
-      (D : Replication Kind Op Shown) (kinds : Text → Kind) (logs : Text → History Op) (node : nodes.Node Kind Op Shown) → D.digest ≡ entry_digest spelling.byte_of spelling.history_spelled
+      (D : Replication Kind Op Shown) (kinds : Text → Kind) (logs : Text → History Op) (node : nodes.Node Kind Op Shown) → D.digest ≡ entry_digest spelling.history_byte spelling.history_spelled
       → HoldsKey ghosts.kind_of ghosts.IsDataOf kinds logs node state → IsComparison D (map digest_told digests) (state_of node (declared_by state)) comparison
 
   -- of all members of the model that hold the keys, where the digests are those of spellings
   abbrev pub ForHolders : List (KeyState T Kind Op Delta) → ((D : Replication Kind Op Shown) (kinds : Text → Kind) (logs : Text → History Op) → nodes.Node Kind Op Shown → Type 0) → Type 0
   ForHolders keys P =
-      (D : Replication Kind Op Shown) (kinds : Text → Kind) (logs : Text → History Op) (node : nodes.Node Kind Op Shown) → D.digest ≡ entry_digest spelling.byte_of spelling.history_spelled
+      (D : Replication Kind Op Shown) (kinds : Text → Kind) (logs : Text → History Op) (node : nodes.Node Kind Op Shown) → D.digest ≡ entry_digest spelling.history_byte spelling.history_spelled
       → All (HoldsKey ghosts.kind_of ghosts.IsDataOf kinds logs node) keys → node.keys ≡ map declared_by keys → P D kinds logs node
 
   -- the entries that the model answers to digests, and the keys that it wants

@@ -11,15 +11,17 @@ use Rattle.member_node.specs.declared.key.KeyState.{KeyState}
 use Rattle.member_node.specs.declared.node.Node.{Node}
 use Rattle.member_node.specs.declared.in_place.Applied.{Applied}
 use Rattle.member_node.specs.declared.reply.Output.{Output}
-use Rattle.member_node.specs.Updates.{reply_of}
+use Rattle.member_node.specs.Recording.{is_open_to}
+use Rattle.member_node.specs.Updates.{reply_of, IsUndeleted}
 
 module _ {T K Kind Op Delta : Type 0} {ghosts : Ghosts T Kind Op Delta} {keeping : Keeping K} where
-  -- the key stands there, the operation is one of its kind, nothing of it is stored, and no other member is asked
+  -- the key stands there and is not deleted, the operation is one of its kind, nothing of it is stored, and no other member is asked
   pub record IsInPlace (code : Node T K Kind Op Delta ghosts keeping) (key : Text) (op : Op) (level : Level) (index : ℕ) : Type 0 where
     pub at : KeyState T Kind Op Delta
     pub found : Some index ≡ position (λ (state : KeyState T Kind Op Delta). bytes_eq state.name key) code.keys.items
     pub there : at ≡ slice_index_or code.keys.items index at
-    pub fits : ghosts.data_type.fits (ghosts.kind_of at.entry.value) op ≡ true
+    pub undeleted : IsUndeleted ghosts at.entry
+    pub fits : is_open_to ghosts at.entry.value op ≡ true
     pub volatile : at.durable ≡ false
     pub number : ℕ
     pub enough : needed (level_meant level) (length code.view.members) ≡ Some number

@@ -50,7 +50,7 @@ module _ {T Kind Op Delta : Type 0} (ghosts : Ghosts T Kind Op Delta) (spelling 
     pub parts : Parts T
     pub durable : Any (λ state. (state.name ≡ stored.key) × (state.durable ≡ true) × (state.kind ≡ ghosts.kind_of parts.value)) keys
     pub envelope : IsEnvelope spelling.IsSound ghosts.mentioned parts
-    pub spelled : stored.bytes ≡ envelope_spelled (λ value. spelling.byte_of (ghosts.kind_of value)) spelling.spelled parts
+    pub spelled : stored.bytes ≡ envelope_spelled spelling.byte_of spelling.spelled parts
     pub names : NamesEarlier ghosts id given parts
 
   abbrev pub AreSound : Table → Type 0

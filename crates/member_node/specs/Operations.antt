@@ -13,7 +13,7 @@ use Rattle.member_node.specs.declared.operation.Finished as ended
 use Rattle.member_node.specs.declared.operation.Operation.{Operation}
 use Rattle.member_node.specs.declared.operation.Operation.TheVariants.{Open, Finished, TimedOut}
 use Rattle.member_node.specs.declared.operation.OperationResult.{OperationResult}
-use Rattle.member_node.specs.declared.operation.OperationResult.TheVariants.{Wrote, Read, ReadNothing}
+use Rattle.member_node.specs.declared.operation.OperationResult.TheVariants.{Wrote, Read, ReadDeleted, ReadNothing}
 use Rattle.member_node.specs.declared.operations.NextOperation.{NextOperation}
 use Rattle.member_node.specs.declared.operations.OperationChange.{OperationChange}
 use Rattle.member_node.specs.declared.operations.OperationChange.TheVariants.{Same, Opened, Put}
@@ -51,6 +51,7 @@ CanChange operations (Put op operation) = op < length operations
 abbrev pub result_meant : OperationResult → Meant Shown
 result_meant Wrote = Meant.Wrote
 result_meant (Read shown) = Meant.ReadValue shown
+result_meant ReadDeleted = Meant.ReadDeleted
 result_meant ReadNothing = Meant.ReadNothing
 
 abbrev pub finished_meant : ended.Finished → nodes.Finished Shown

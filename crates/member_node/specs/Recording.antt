@@ -1,7 +1,8 @@
 -- What a member's own operation makes of an entry, and the record of it for the log.
+--     is_open_to        whether the data take an operation
 --     IsRecorded        one own record more
 --     MeansRecorded, IsUnrefused, TellsRefusal        it is recorded or refused as in the model, in all logs
-use Rattle.std.specs.Prelude.{◌≡◌, ℕ, ◌+◌, Some, None}
+use Rattle.std.specs.Prelude.{◌≡◌, ℕ, ◌+◌, Bool, ◌&&◌, not, Some, None}
 use Rattle.model_history.specs.History.{History, at}
 use Rattle.model_history.specs.History.Action.{Operation}
 use Rattle.model_history.specs.Log.{IsTakenFrom}
@@ -18,6 +19,10 @@ use Rattle.data_deltalog.specs.Contents.{LogParts, IsDeltaFor}
 use Rattle.data_deltalog.specs.Words.{HasRoom}
 
 module _ {T Kind Op Delta : Type 0} (ghosts : Ghosts T Kind Op Delta) where
+  -- the key is not deleted, and the operation is one of its kind
+  abbrev pub is_open_to : T → Op → Bool
+  is_open_to value op = not (ghosts.is_closed value) && ghosts.data_type.fits (ghosts.kind_of value) op
+
   -- one more own record, the same marks and kind, and a delta of both, for which the log has room
   pub record IsRecorded (id : ℕ) (log : LogParts Kind Delta) (old new : Envelope T Kind Op Delta) (next : NextRecord Delta) : Type 0 where
     pub number : number_at (parts_of new).versions id ≡ number_at (parts_of old).versions id + 1

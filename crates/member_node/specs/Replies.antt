@@ -22,8 +22,8 @@ abbrev pub delta_groups : {Kind Op : Type 0} → DataType Kind Op Shown → (Kin
 delta_groups data_type digest = record { data_type = data_type; digest = digest; log_length = most_kept }
 
 -- and whose digests are those of the entries' spellings
-abbrev pub spelled_groups : {Kind Op : Type 0} → DataType Kind Op Shown → (Kind → ℕ) → (Kind → History Op → List ℕ) → Replication Kind Op Shown
-spelled_groups data_type byte_of history_spelled = delta_groups data_type (entry_digest byte_of history_spelled)
+abbrev pub spelled_groups : {Kind Op : Type 0} → DataType Kind Op Shown → (Kind → History Op → ℕ) → (Kind → History Op → List ℕ) → Replication Kind Op Shown
+spelled_groups data_type history_byte history_spelled = delta_groups data_type (entry_digest history_byte history_spelled)
 
 abbrev pub meant_outcome : Outcome → Told
 meant_outcome outcome.Marked = Told.Marked
@@ -39,6 +39,7 @@ abbrev pub meant : Reply → Meant Shown
 meant reply.Done = Meant.Done
 meant (reply.Pending op) = Meant.Pending op
 meant (reply.Value shown) = Meant.Value shown
+meant reply.Deleted = Meant.Deleted
 meant reply.NotFound = Meant.NotFound
 meant reply.UnknownKey = Meant.UnknownKey
 meant reply.WrongKind = Meant.WrongKind

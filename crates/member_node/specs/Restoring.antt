@@ -62,7 +62,7 @@ module _ {T Kind Op Delta : Type 0} (ghosts : Ghosts T Kind Op Delta) (spelling 
     pub durable : state.durable ≡ true
     pub kind : state.kind ≡ ghosts.kind_of parts.value
     pub envelope : IsEnvelope spelling.IsSound ghosts.mentioned parts
-    pub spelled : bytes ≡ envelope_spelled (λ value. spelling.byte_of (ghosts.kind_of value)) spelling.spelled parts
+    pub spelled : bytes ≡ envelope_spelled spelling.byte_of spelling.spelled parts
     pub names : NamesEarlier ghosts id given parts
 
   -- so it is for the key of this name, which stands there

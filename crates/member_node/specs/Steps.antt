@@ -81,7 +81,7 @@ module _ {T Kind Op Delta K : Type 0} (spelling : Spelling T Kind Op Delta) (kee
 
 -- what the members follow: their digests are those of the entries' spellings
 abbrev pub replication : {T Kind Op Delta : Type 0} → Ghosts T Kind Op Delta → Spelling T Kind Op Delta → Replication Kind Op Shown
-replication ghosts spelling = spelled_groups ghosts.data_type spelling.byte_of spelling.history_spelled
+replication ghosts spelling = spelled_groups ghosts.data_type spelling.history_byte spelling.history_spelled
 
 -- THE STEP
 

@@ -25,6 +25,10 @@ use Rattle.member_node.specs.Sending.{own_number}
 use Rattle.member_node.specs.Planning.{recorded, IsRecordable}
 
 module _ {T Kind Op Delta : Type 0} (ghosts : Ghosts T Kind Op Delta) where
+  -- no entry for which the envelope stands has a delete
+  abbrev pub IsUndeleted : Envelope T Kind Op Delta → Type 0
+  IsUndeleted entry = (log : History Op) (held : Entry Op) → StandsFor ghosts.IsDataOf (parts_of entry) log held → ghosts.data_type.deleted held.history ≡ false
+
   -- one own record more, in the entry and for the log, of the same kind and with the same marks
   pub record IsOwnRecord (id : ℕ) (state : KeyState T Kind Op Delta) (entry : Envelope T Kind Op Delta) (next : NextRecord Delta) : Type 0 where
     pub recordable : IsRecordable ghosts state next

@@ -130,6 +130,9 @@ fn read_result<T: Replica>(alloc: Global, entry: &Envelope<T>) -> Result<Operati
     if !entry.has_records() {
         return Ok(OperationResult::ReadNothing);
     }
+    if entry.closed() {
+        return Ok(OperationResult::ReadDeleted);
+    }
     let shown = entry.show(alloc)?;
     Ok(OperationResult::Read(shown))
 }

@@ -5,6 +5,7 @@ ghost use Rattle.data_envelope.specs.Words.{parts_of};
 ghost use Rattle.member_node.specs.declared.input.Input.TheVariants as input;
 ghost use Rattle.member_node.specs.declared.reply.Fate.TheVariants as fate;
 ghost use Rattle.member_node.specs.Own.{IsLogged};
+ghost use Rattle.member_node.specs.Recording.{is_open_to};
 ghost use Rattle.member_node.specs.Steps.{IsStepOf, IsUnchanged};
 ghost use Rattle.member_node.specs.Updates.{reply_of, IsApplied};
 ghost use Rattle.member_node.specs.InPlace.{IsInPlace, output_of};
@@ -58,7 +59,7 @@ impl Applied {
 impl<T: Replica> KeyState<T> {
     /// Makes the member's own operation, in the entry and in the log.
     pub(crate) fn apply(&mut self, alloc: Global, id: Id, op: &T::Op) -> Result<Applied, Memory>
-        requires fits { T.data_type.fits (T.kind_of self.old.entry.value) op.now ≡ true }
+        requires fits { is_open_to T.Replica self.old.entry.value op.now ≡ true }
         requires member { performed_in (parts_of self.old.entry).marks id ≡ false }
         requires room { number_at (parts_of self.old.entry).versions id < 2 ^ 62 }
         requires logged { IsLogged T.kind_of id self.old }
@@ -79,8 +80,8 @@ impl<T: Replica> KeyState<T> {
 }
 
 impl<T: SpelledData, K: Keeper + Drop> Node<T, K> {
-    /// Where the key of an update stands, if its entry may change in its place: the operation is one of its kind, nothing has
-    /// to be stored, and no other member is asked.
+    /// Where the key of an update stands, if its entry may change in its place: the key is not deleted, the operation is
+    /// one of its kind, nothing has to be stored, and no other member is asked.
     fn in_place(&self, key: &Text, op: &T::Op, level: Level) -> Option<usize>
         ensures { IfSome result (IsInPlace self.now key.now op.now level) }
     {
@@ -89,7 +90,7 @@ impl<T: SpelledData, K: Keeper + Drop> Node<T, K> {
             return None;
         };
         let state = &self.keys[index];
-        if state.durable || !state.fits(op) {
+        if state.durable || state.entry().closed() || !state.fits(op) {
             return None;
         }
         match needed(level, members.len()) {

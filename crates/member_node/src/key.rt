@@ -41,6 +41,7 @@ impl<T: Replica> KeyState<T> {
     ghost use Rattle.member_node.specs.Keys.{declared, declared_by};
     ghost use Rattle.member_node.specs.Fresh.{IsFresh};
     ghost use Rattle.member_node.specs.Showing.{MeansShown};
+    ghost use Rattle.member_node.specs.Recording.{is_open_to};
     ghost use Rattle.member_node.specs.Updates.{IsOwn, MeansUpdate};
 
     /// A key without records.
@@ -97,16 +98,16 @@ impl<T: Replica> KeyState<T> {
         self.entry.envelope()
     }
 
-    /// Whether the operation is one of the key's kind.
+    /// Whether the operation is one of the key's kind, and the key is not deleted.
     pub(crate) fn fits(&self, op: &T::Op) -> bool
-        ensures { result ≡ T.data_type.fits (T.kind_of self.now.entry.value) op.now }
+        ensures { result ≡ is_open_to T.Replica self.now.entry.value op.now }
     {
         self.entry.envelope().value().fits(op)
     }
 
     /// The member's own operation.
     pub(crate) fn update(&self, alloc: Global, id: Id, op: &T::Op) -> Result<Updated<T>, Memory>
-        requires fits { T.data_type.fits (T.kind_of self.now.entry.value) op.now ≡ true }
+        requires fits { is_open_to T.Replica self.now.entry.value op.now ≡ true }
         requires member { performed_in (parts_of self.now.entry).marks id ≡ false }
         requires room { number_at (parts_of self.now.entry).versions id < 2 ^ 62 }
         requires logged { IsLogged T.kind_of id self.now }
@@ -125,7 +126,7 @@ impl<T: Replica> KeyState<T> {
         }
     }
 
-    /// The value as it is shown, or that there is none.
+    /// The value as it is shown, or that the key is deleted, or that there is none.
     pub(crate) fn show(&self, alloc: Global) -> Result<Reply, Memory>
         ensures quiet { IfOk result (λ reply. is_pending reply ≡ false) }
         ensures image { IfOk result (MeansShown T.Replica self.now.entry) }
@@ -133,6 +134,9 @@ impl<T: Replica> KeyState<T> {
         let entry = self.entry.envelope();
         if !entry.has_records() {
             return Ok(Reply::NotFound);
+        }
+        if entry.closed() {
+            return Ok(Reply::Deleted);
         }
         let shown = entry.show(alloc)?;
         Ok(Reply::Value(shown))

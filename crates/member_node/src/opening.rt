@@ -95,6 +95,9 @@ impl<T: SpelledData, K: Keeper + Drop> Node<T, K> {
             return Ok(Prepared::reply(self.alloc, Reply::UnknownKey));
         };
         let state = &self.keys[index];
+        if state.entry().closed() {
+            return Ok(Prepared::reply(self.alloc, Reply::Deleted));
+        }
         if !state.fits(op) {
             return Ok(Prepared::reply(self.alloc, Reply::WrongKind));
         }

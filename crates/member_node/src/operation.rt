@@ -13,6 +13,8 @@ pub enum OperationResult {
     Wrote,
     /// What the key shows after the answers were merged.
     Read(Shown),
+    /// The key is deleted, once the answers were merged.
+    ReadDeleted,
     /// The key has no record after the answers were merged.
     ReadNothing,
 }
@@ -25,6 +27,7 @@ impl OperationResult {
         match self {
             OperationResult::Wrote => Ok(OperationResult::Wrote),
             OperationResult::Read(shown) => Ok(OperationResult::Read(copy_shown(alloc, shown)?)),
+            OperationResult::ReadDeleted => Ok(OperationResult::ReadDeleted),
             OperationResult::ReadNothing => Ok(OperationResult::ReadNothing),
         }
     }

@@ -2,7 +2,7 @@ ghost use Rattle.std.specs.Prelude.{◌≡◌, ◌<◌, ◌^◌, true, false, If
 ghost use Rattle.base_vectors.specs.Vectors.{number_at};
 ghost use Rattle.data_markers.specs.Marks.{performed_in};
 ghost use Rattle.data_envelope.specs.Words.{parts_of};
-ghost use Rattle.member_node.specs.Recording.{IsRecorded, MeansRecorded, IsUnrefused, TellsRefusal};
+ghost use Rattle.member_node.specs.Recording.{is_open_to, IsRecorded, MeansRecorded, IsUnrefused, TellsRefusal};
 
 use base_vectors::Id;
 use data_deltalog::{DeltaLog, NextRecord};
@@ -19,7 +19,7 @@ pub(crate) fn next_record<T: Replica>(
     op: &T::Op,
     id: Id,
 ) -> Result<NextRecord<T::Delta>, ApplyError>
-    requires fits { T.data_type.fits (T.kind_of entry.old.value) op.now ≡ true }
+    requires fits { is_open_to T.Replica entry.old.value op.now ≡ true }
     requires member { performed_in (parts_of entry.old).marks id ≡ false }
     requires room { number_at (parts_of entry.old).versions id < 2 ^ 62 }
     ensures recorded { IfOk result (IsRecorded T.Replica id log.now entry.old entry.new) }

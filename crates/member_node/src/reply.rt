@@ -20,6 +20,8 @@ pub enum Reply {
     Pending(u64),
     /// The value of the key.
     Value(Shown),
+    /// The key is deleted. An update changed nothing.
+    Deleted,
     /// The key has no record.
     NotFound,
     /// The key is not declared.
@@ -76,6 +78,7 @@ impl Reply {
             Reply::Done => Ok(Reply::Done),
             Reply::Pending(op) => Ok(Reply::Pending(*op)),
             Reply::Value(shown) => Ok(Reply::Value(copy_shown(alloc, shown)?)),
+            Reply::Deleted => Ok(Reply::Deleted),
             Reply::NotFound => Ok(Reply::NotFound),
             Reply::UnknownKey => Ok(Reply::UnknownKey),
             Reply::WrongKind => Ok(Reply::WrongKind),

@@ -20,5 +20,6 @@ pub(crate) fn copy_shown(alloc: Global, shown: &Shown) -> Result<Shown, Memory>
         }
         Shown::Switch(on) => Ok(Shown::Switch(*on)),
         Shown::Written(text) => Ok(Shown::Written(text.copied())),
+        Shown::Deleted => Ok(Shown::Deleted),
     }
 }

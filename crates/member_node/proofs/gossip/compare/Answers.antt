@@ -12,8 +12,8 @@ returns g c = λ D kinds logs node same holds.
     let k = state_of node (declared_by state) in
     let ds = map digest_told c.args.digests.now in
     let has : c.has_records-has_records.result ≡ has_records k.entry = c.has_records-has_records.ensures.image (logs state.name) (node.entries state.name) (subst (λ entry. StandsFor g.T.Replica.IsDataOf (parts_of entry) (logs state.name) (node.entries state.name)) (sym c.envelope.ensures) holds.held.image) in
-    let own : entry_digest S.byte_of S.history_spelled (g.T.Replica.kind_of state.entry.value) (node.entries state.name) ≡ digest_of D k =
-    digest_is S.byte_of S.history_spelled g.T.Replica.kind_of g.T.Replica.IsDataOf kinds logs D same node state holds in
+    let own : entry_digest S.history_byte S.history_spelled (g.T.Replica.kind_of state.entry.value) (node.entries state.name) ≡ digest_of D k =
+    digest_is S.history_byte S.history_spelled g.T.Replica.kind_of g.T.Replica.IsDataOf kinds logs D same node state holds in
     let told : c.told_of-told.result ≡ named_digest D ds state.name = c.told_of-told.ensures ∙ told_named D c.args.digests.now state.name in
     let alike : c.in_ok-is_alike.is_alike ≡ is_alike D ds k = c.in_ok-is_alike.ensures (logs state.name) (node.entries state.name) holds.held.image ∙ (λ i. is_told (told i) (own i)) ∙ is_told_is D (named_digest D ds state.name) (digest_of D k) in
     record {

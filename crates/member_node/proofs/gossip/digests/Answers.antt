@@ -23,7 +23,7 @@ loop-state-preserved g c = λ D kinds logs node same holds.
     let more = ap (λ ks. digests_of D (map (λ state. state_of node (declared_by state)) ks)) (one_more keys i state within c.state-item.is) in
     elim c.if-has_records.branch [
       | then-has_records+in_ok-item+in_ok-push w ↦
-          let own = w.in_ok-item.ensures (logs state.name) (node.entries state.name) here.held.image ∙ digest_is S.byte_of S.history_spelled R.kind_of R.IsDataOf kinds logs D same node state here in
+          let own = w.in_ok-item.ensures (logs state.name) (node.entries state.name) here.held.image ∙ digest_is S.history_byte S.history_spelled R.kind_of R.IsDataOf kinds logs D same node state here in
           ap (map digest_told) (w.digests-is ∙ w.in_ok-push.ensures.ok) ∙ map-append digest_told c.loop-state.digests _
           ∙ (λ j. so_far j ++ record { key = w.copied-key.ensures j; item = own j } ∷ [])
           ∙ sym (more ∙ chosen_one (λ state. state_of node (declared_by state)) (λ k. has_records k.entry) (λ k. record { key = k.name; item = digest_of D k }) (take i keys) state (sym has ∙ w.if-has_records.true))

@@ -6,5 +6,5 @@ use Rattle.member_node.proofs.gossip.digests.Given as goal
 
 abbrev pub invariant-loop-state : goal.invariant-loop-state
 invariant-loop-state g l = (D : Replication g.row.T-Kind.Denot g.row.T-Op.Denot Shown) (kinds : Text → g.row.T-Kind.Denot) (logs : Text → History g.row.T-Op.Denot) (node : Member g.row.T-Kind.Denot g.row.T-Op.Denot Shown)
-    → D.digest ≡ entry_digest g.T.SpelledData.byte_of g.T.SpelledData.history_spelled → All (HoldsKey g.T.Replica.kind_of g.T.Replica.IsDataOf kinds logs node) l.keys
+    → D.digest ≡ entry_digest g.T.SpelledData.history_byte g.T.SpelledData.history_spelled → All (HoldsKey g.T.Replica.kind_of g.T.Replica.IsDataOf kinds logs node) l.keys
     → map digest_told l.digests ≡ digests_of D (map (λ state. state_of node (declared_by state)) (take l.state-index l.keys))

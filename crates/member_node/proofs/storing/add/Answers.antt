@@ -32,9 +32,9 @@ returns-clause-spelled g c = λ log old new s t.
     let state = c.args.state.now in
     let other : is_unchanged old new ≡ false = sym (c.is_unchanged.ensures.image log old new (subst (λ entry. StandsFor g.T.Replica.IsDataOf (parts_of entry) log old) (sym c.envelope.ensures) s) t) ∙ c.if-is_unchanged.false in
     let one = stored_one state old new c.if-not-state.false other in
-    let bytes = c.from_vec-bytes.ensures ∙ c.in_ok-spell.ensures.image log new t ∙ ap (λ kind. entry_spelled g.T.SpelledData.byte_of g.T.SpelledData.history_spelled kind new) c.requires in
+    let bytes = c.from_vec-bytes.ensures ∙ c.in_ok-spell.ensures.image log new t ∙ ap (λ kind. entry_spelled g.T.SpelledData.history_byte g.T.SpelledData.history_spelled kind new) c.requires in
     let item : Stored = record { key = c.copied-key.result; bytes = c.from_vec-bytes.result } in
-    let same : record { key = c.copied-key.result; bytes = c.from_vec-bytes.result } ≡ record { key = state.name; bytes = entry_spelled g.T.SpelledData.byte_of g.T.SpelledData.history_spelled state.kind new } = λ i. record { key = c.copied-key.ensures i; bytes = bytes i } in
+    let same : record { key = c.copied-key.result; bytes = c.from_vec-bytes.result } ≡ record { key = state.name; bytes = entry_spelled g.T.SpelledData.history_byte g.T.SpelledData.history_spelled state.kind new } = λ i. record { key = c.copied-key.ensures i; bytes = bytes i } in
     on_ok c.push.result (λ pushed. pushed ∙ ap (λ x. c.args.stores.now ++ x ∷ []) same ∙ sym (ap (λ ks. c.args.stores.now ++ map (spelled_entry g.T.SpelledData) ks) one)) c.push.ensures.ok
 
 pub returns-clause-kept : goal.returns-clause-kept

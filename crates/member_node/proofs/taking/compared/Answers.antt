@@ -13,7 +13,7 @@ returns-clause-kept g c = kept_first g.T.Replica.kind_of c.args.id c.args.keys.n
 pub returns-clause-image : goal.returns-clause-image
 returns-clause-image g c = λ kinds logs node held declares.
     let R = g.T.Replica in
-    let D = spelled_groups R.data_type g.T.SpelledData.byte_of g.T.SpelledData.history_spelled in
+    let D = spelled_groups R.data_type g.T.SpelledData.history_byte g.T.SpelledData.history_spelled in
     let keys = c.args.keys.now in
     record {
       only = refl;

@@ -57,7 +57,7 @@ returns g c =
           ∙ ap (list_any (λ state. not (is_unchanged (node.entries state.name) (after.entries state.name)))) c.deref-2.ensures.value
           ∙ sym (changed_is later after code.keys.items (ap (λ n. n.keys) only ∙ s.keys)) in
           let asked : OpenOperation = record { op = op; key = key; reads = true; needed = 0; counted = alone from } in
-          let is = c.in_ok-counted.ensures.image (entry_digest S.byte_of S.history_spelled) kinds logs node.entries after asked (held_first R.kind_of R.IsDataOf kinds logs code node s)
+          let is = c.in_ok-counted.ensures.image (entry_digest S.history_byte S.history_spelled) kinds logs node.entries after asked (held_first R.kind_of R.IsDataOf kinds logs code node s)
           (subst (AreMade (IsKept R.kind_of code.id) code.keys.items) (sym c.deref-4.ensures.value) kept)
           (subst (AreMade (LeadsTo R.IsDataOf logs node.entries after.entries) code.keys.items) (sym c.deref-4.ensures.value) leads) (ap (λ n. n.keys) only ∙ s.keys) refl refl in
           let stands = operates_same code.operations node after s.operations (ap (λ n. n.open_operations) only) (ap (λ n. n.finished) only) (ap (λ n. n.next_op) only) in

@@ -1,8 +1,10 @@
 use Rattle.std.proofs.Common.{◌≡◌, Some, None, if◌then◌else◌, bytes_eq, ℕ, List, get_or, sym, ap, ◌∙◌, subst, true, map, find, option_map, position}
+use Rattle.std.specs.Option.{option_and_then}
 use Rattle.std.proofs.lemmas.Result.{IfOk-weaker}
 use Rattle.member_node.proofs.Common.{Text, VersionVector, IdentitySet, History, has_records, result_of, Replication, OpenOperation, key_state, state_of, Shown, Envelope, StandsFor, parts_of, StandsForEntry, result_meant, delta_groups, KeyState, Change, declared_by, AreMade, current_of, IsKept, LeadsTo, AreHeld}
 use Rattle.model_members.specs.Entry as model
-use Rattle.model_members.specs.Step.{read_result, shown_of}
+use Rattle.model_members.specs.DataType.{meaning}
+use Rattle.model_members.specs.Step.{read_result, meaning_of}
 use Rattle.model_members.specs.Node as nodes
 use Rattle.model_members.specs.Node.{Result as Meant}
 use Rattle.member_node.specs.declared.operation.OperationResult.{OperationResult}
@@ -14,14 +16,14 @@ use Rattle.member_node.proofs.node.Node.end_of_read.Goals as goal
 module _ {T Kind Op Delta : Type 0} (D : Replication Kind Op Shown) (kind_of : T → Kind) (IsDataOf : T → History Op → VersionVector → IdentitySet → Type 0) (kinds : Text → Kind) (logs : Text → History Op) (id : ℕ) (keys : List (KeyState T Kind Op Delta))
     (before : Text → model.Entry Op) (held : AreHeld kind_of IsDataOf kinds logs id keys before) (changes : List (Change T Kind Op Delta)) (kept : AreMade (IsKept kind_of id) keys changes)
     (node : nodes.Node Kind Op Shown) (leads : AreMade (LeadsTo IsDataOf logs before node.entries) keys changes) (declares : node.keys ≡ map declared_by keys) (key : Text) (asked : OpenOperation) (at_key : asked.key ≡ key) (reads : asked.reads ≡ true) where
-  by_key : result_of D node asked ≡ read_result D (option_map (shown_of D) (key_state node key))
+  by_key : result_of D node asked ≡ read_result D (option_and_then (meaning_of D) (key_state node key))
   by_key =
-      ap (λ b. if b then read_result D (option_map (shown_of D) (key_state node asked.key)) else Meant.Wrote) reads ∙ ap (λ k. read_result D (option_map (shown_of D) (key_state node k))) at_key
+      ap (λ b. if b then read_result D (option_and_then (meaning_of D) (key_state node asked.key)) else Meant.Wrote) reads ∙ ap (λ k. read_result D (option_and_then (meaning_of D) (key_state node k))) at_key
 
   read_undeclared : None ≡ position (λ (state : KeyState T Kind Op Delta). bytes_eq state.name key) keys → Meant.ReadNothing ≡ result_of D node asked
   read_undeclared none =
       let undeclared = undeclared_in node keys key declares (position-none (λ (state : KeyState T Kind Op Delta). bytes_eq state.name key) keys none) in
-      sym (by_key ∙ ap (λ o. read_result D (option_map (shown_of D) (option_map (state_of node) o))) undeclared)
+      sym (by_key ∙ ap (λ o. read_result D (option_and_then (meaning_of D) (option_map (state_of node) o))) undeclared)
 
   -- the key at its place, after its change
   module _ (index : ℕ) (at : KeyState T Kind Op Delta) (change : Change T Kind Op Delta) (found : IsFound (λ (state : KeyState T Kind Op Delta). bytes_eq state.name key) keys index) (is : at ≡ get_or keys index at) (is' : change ≡ get_or changes index change)
@@ -44,10 +46,10 @@ module _ {T Kind Op Delta : Type 0} (D : Replication Kind Op Shown) (kind_of : T
         (ap (find (λ (decl : nodes.KeyDecl Kind). bytes_eq decl.name key)) declares ∙ find-map (λ (decl : nodes.KeyDecl Kind). bytes_eq decl.name key) declared_by keys
         ∙ ap (option_map declared_by) (found.found at) ∙ ap (λ (state : KeyState T Kind Op Delta). Some (declared_by state)) (sym is))
 
-    read_found : (end : Meant Shown) → end ≡ read_result D (Some (if has_records (node.entries at.name) then Some (D.data_type.shown (kind_of mine.value) (node.entries at.name).history) else None)) → end ≡ result_of D node asked
+    read_found : (end : Meant Shown) → end ≡ read_result D (if has_records (node.entries at.name) then Some (meaning D.data_type (kind_of mine.value) (node.entries at.name).history) else None) → end ≡ result_of D node asked
     read_found end ends =
-        ends ∙ ap (λ kind. read_result D (Some (if has_records (node.entries at.name) then Some (D.data_type.shown kind (node.entries at.name).history) else None))) kind_now
-        ∙ sym (by_key ∙ ap (λ o. read_result D (option_map (shown_of D) o)) declared_so)
+        ends ∙ ap (λ kind. read_result D (if has_records (node.entries at.name) then Some (meaning D.data_type kind (node.entries at.name).history) else None)) kind_now
+        ∙ sym (by_key ∙ ap (λ o. read_result D (option_and_then (meaning_of D) o)) declared_so)
 
 pub returns-in_default : goal.returns-in_default
 returns-in_default g c = λ digest kinds logs before node asked held kept leads declares at_key reads.
@@ -69,7 +71,7 @@ returns g c = λ digest kinds logs before node asked held kept leads declares at
     let found = position-found (λ state. bytes_eq state.name key) keys index c.in-Some.ensures in
     let stands = read_stands D R.kind_of R.IsDataOf kinds logs id keys before held changes kept node leads declares key asked at_key reads index at change found c.index.ensures c.index-changes-index.is mine c.current-entry.ensures in
     IfOk-weaker c.read_result.result
-    (λ (end : OperationResult). result_meant end ≡ read_result D (Some (if has_records (node.entries at.name) then Some (R.data_type.shown (R.kind_of mine.value) (node.entries at.name).history) else None)))
+    (λ (end : OperationResult). result_meant end ≡ read_result D (if has_records (node.entries at.name) then Some (meaning R.data_type (R.kind_of mine.value) (node.entries at.name).history) else None))
     (λ (end : OperationResult). result_meant end ≡ result_of D node asked)
     (λ end is. read_found D R.kind_of R.IsDataOf kinds logs id keys before held changes kept node leads declares key asked at_key reads index at change found c.index.ensures c.index-changes-index.is mine c.current-entry.ensures (result_meant end) is)
     (c.read_result.ensures digest (logs at.name) (node.entries at.name) stands)

@@ -62,13 +62,13 @@ pub returns-in-Ok-restored-clause-stands : goal.returns-in-Ok-restored-clause-st
 returns-in-Ok-restored-clause-stands g c = λ kinds logs table store e have_kinds histories spells.
     let R = g.T.Replica in
     let S = g.T.SpelledData in
-    let once = once_spelled S.is_known S.read_in (λ value. S.byte_of (R.kind_of value)) S.spelled S.IsSound R.mentioned
-    (record { takes = g.met.T.SpelledData.read_is_spelled; again = g.met.T.SpelledData.spelled_is_read; known = λ x. g.met.T.SpelledData.kind_is_known (R.kind_of x) }) in
+    let once = once_spelled S.is_known S.read_in S.byte_of S.spelled S.IsSound R.mentioned
+    (record { takes = g.met.T.SpelledData.read_is_spelled; again = g.met.T.SpelledData.spelled_is_read; known = g.met.T.SpelledData.byte_is_known }) in
     let states = c.in-Ok-restored.keys.items in
     let same = c.in-Ok-restored.ensures.declared ∙ ap (map declared_by) c.deref.ensures.value in
     let loaded = told (g.K.Keeper.table c.args.old.keeper) c.in-Ok.loaded.items table c.in-Ok.ensures.loaded e in
     let holds : All (HoldsKept R S c.args.id c.args.view table) states = subst (λ (kept : List Stored). All (HoldsKept R S c.args.id c.args.view kept) states) loaded c.in-Ok-restored.ensures.holds in
-    stands_loaded R S g.met.T.SpelledData.spelling_means once kinds logs c.args.id c.args.view table store spells c.args.old.keys.items _ c.args.old.distinct same holds histories have_kinds refl refl c.new.ensures refl
+    stands_loaded R S g.met.T.SpelledData.byte_means g.met.T.SpelledData.spelling_means once kinds logs c.args.id c.args.view table store spells c.args.old.keys.items _ c.args.old.distinct same holds histories have_kinds refl refl c.new.ensures refl
 
 pub returns-in-Ok-restored-clause-sound : goal.returns-in-Ok-restored-clause-sound
 returns-in-Ok-restored-clause-sound g c = λ table e.
@@ -88,4 +88,4 @@ returns-in-Err-Damaged-clause-undamaged g c = λ kinds logs table store e have_k
     let here : IsFirstUnsound R S c.args.old.keys.items c.args.id c.args.view.given table c.in-Err-Damaged.key =
     subst (λ keys. IsFirstUnsound R S keys c.args.id c.args.view.given table c.in-Err-Damaged.key) c.deref.ensures.value
     (subst (λ (items : List Stored). IsFirstUnsound R S c.deref.result.now c.args.id c.args.view.given items c.in-Err-Damaged.key) loaded first) in
-    never_unsound R S g.met.T.SpelledData.spelling_means g.met.T.Replica.data_unmentioned c.args.id c.args.view.given c.args.old.keys.items kinds logs store have_kinds fit table c.in-Err-Damaged.key spells here
+    never_unsound R S g.met.T.SpelledData.byte_means g.met.T.SpelledData.spelling_means g.met.T.Replica.data_unmentioned c.args.id c.args.view.given c.args.old.keys.items kinds logs store have_kinds fit table c.in-Err-Damaged.key spells here

@@ -26,7 +26,7 @@ returns-clause-image g c = λ kinds logs node input s i safe.
     let next = sent later Taken (answer_to D from answer) in
     let member = member_is R.kind_of R.IsDataOf kinds logs code node s from ∙ c.requires in
     let same = step_taken D node from input i.told i.is member ∙ ap (step_of_take D later from NoStore) i.message_stands in
-    let stands = c.in_ok-message.ensures (entry_digest S.byte_of S.history_spelled) kinds logs node s in
+    let stands = c.in_ok-message.ensures (entry_digest S.history_byte S.history_spelled) kinds logs node s in
     let prepared : Prepared g.row.T.Denot g.row.T-Kind.Denot g.row.T-Op.Denot g.row.T-Delta.Denot R =
     record { view = None; plan = Nothing; operations = Same; output = record { reply = reply.Taken; posts = c.in_ok-posts.posts; finished = None } } in
     subst (λ st. IsPrepared {ghosts = R} kinds logs code.keys.items code.operations node st prepared) (sym same)

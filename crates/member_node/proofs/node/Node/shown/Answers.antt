@@ -31,7 +31,7 @@ pub returns-in_default-needed-clause-image : goal.returns-in_default-needed-clau
 returns-in_default-needed-clause-image g c = λ kinds logs node sent s is safe.
     let R = g.T.Replica in
     let S = g.T.SpelledData in
-    let digest = entry_digest S.byte_of S.history_spelled in
+    let digest = entry_digest S.history_byte S.history_spelled in
     let code = c.args.self.now in
     let key = c.args.key.now in
     let level = level_meant c.args.level in
@@ -48,7 +48,7 @@ pub returns-then-number-le1-clause-image : goal.returns-then-number-le1-clause-i
 returns-then-number-le1-clause-image g c = λ kinds logs node sent s is safe.
     let R = g.T.Replica in
     let S = g.T.SpelledData in
-    let digest = entry_digest S.byte_of S.history_spelled in
+    let digest = entry_digest S.history_byte S.history_spelled in
     let code = c.args.self.now in
     let key = c.args.key.now in
     let level = level_meant c.args.level in
@@ -76,7 +76,7 @@ returns g c =
           (Prepares g.T.SpelledData code (input.Get c.args.key.now c.args.level)) c.read.result
           (λ prepared plan o kinds logs node sent s is safe.
           let S = g.T.SpelledData in
-          let digest = entry_digest S.byte_of S.history_spelled in
+          let digest = entry_digest S.history_byte S.history_spelled in
           let key = c.args.key.now in
           let level = level_meant c.args.level in
           let index = c.in-Some.index in
