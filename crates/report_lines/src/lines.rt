@@ -120,6 +120,7 @@ fn push_reply(alloc: Global, text: &mut String, reply: &Reply) -> Result<(), Mem
             text.push_str("value ")?;
             push_shown(alloc, text, shown)?;
         }
+        Reply::Deleted => text.push_str("deleted")?,
         Reply::NotFound => text.push_str("not found")?,
         Reply::UnknownKey => text.push_str("unknown key")?,
         Reply::WrongKind => text.push_str("wrong kind")?,
@@ -204,6 +205,7 @@ fn push_result(alloc: Global, text: &mut String, finished: &Finished) -> Result<
             text.push_str("value ")?;
             push_shown(alloc, text, shown)?;
         }
+        OperationResult::ReadDeleted => text.push_str("deleted")?,
         OperationResult::ReadNothing => text.push_str("not found")?,
     }
     Ok(())

@@ -58,7 +58,7 @@ fn push_elements(alloc: Global, text: &mut String, elements: &[Text]) -> Result<
     Ok(())
 }
 
-/// Adds a value as reports show it: numbers in decimal, texts as JSON strings, a set in braces.
+/// Adds a value as reports show it: numbers in decimal, texts as JSON strings, a set in braces, a deleted key by that word.
 pub fn push_shown(alloc: Global, text: &mut String, shown: &Shown) -> Result<(), Memory>
     ensures { OnOk result (string_bytes text.new ≡ string_bytes text.old ++ shown_text shown.now) }
 {
@@ -72,6 +72,7 @@ pub fn push_shown(alloc: Global, text: &mut String, shown: &Shown) -> Result<(),
         }
         Shown::Switch(on) => write!(text, "{on}")?,
         Shown::Written(written) => push_quoted(alloc, text, written)?,
+        Shown::Deleted => text.push_str("deleted")?,
     }
     Ok(())
 }

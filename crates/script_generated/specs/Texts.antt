@@ -70,6 +70,7 @@ update_members at key (op.Add element) = at_said at ∷ do_said (codes "update")
 update_members at key (op.Remove element) = at_said at ∷ do_said (codes "update") ∷ (codes "element", string element) ∷ key_said key ∷ op_said (codes "remove") ∷ []
 update_members at key op.Enable = at_said at ∷ do_said (codes "update") ∷ key_said key ∷ op_said (codes "enable") ∷ []
 update_members at key (op.Assign text now) = at_said at ∷ do_said (codes "update") ∷ key_said key ∷ (codes "now", whole now) ∷ op_said (codes "assign") ∷ (codes "text", string text) ∷ []
+update_members at key op.Delete = at_said at ∷ do_said (codes "update") ∷ key_said key ∷ op_said (codes "delete") ∷ []
 
 -- what a member is asked in generated scripts
 abbrev pub ask_members : ℕ → asked → List (List ℕ × Data)

@@ -66,6 +66,7 @@ impl Names {
             "remove" => Some(Names::update(r#"an update with "remove""#, &["element"])),
             "enable" => Some(Names::update(r#"an update with "enable""#, &[])),
             "assign" => Some(Names::update(r#"an update with "assign""#, &["text", "now"])),
+            "delete" => Some(Names::update(r#"an update with "delete""#, &[])),
             _ => None,
         }
     }

@@ -15,7 +15,7 @@ const MOST_TEXT_BYTES: usize = 64;
 
 const STEP: Wanted = Wanted::Named("the name of a step");
 
-const OPERATION: Wanted = Wanted::Named("increment, decrement, add, remove, enable or assign");
+const OPERATION: Wanted = Wanted::Named("increment, decrement, add, remove, enable, assign or delete");
 
 const LEVEL: Wanted = Wanted::Named(r#"local, majority, all, {"majority":c} or {"to":n}"#);
 

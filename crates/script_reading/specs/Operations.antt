@@ -7,7 +7,7 @@ use Rattle.model_kinds.specs.declared.operation.Op.{Op}
 use Rattle.model_kinds.specs.declared.operation.Op.TheVariants as op
 use Rattle.script_reading.specs.declared.fault.Rule.{Rule}
 use Rattle.script_reading.specs.declared.operations.OpName.{OpName}
-use Rattle.script_reading.specs.declared.operations.OpName.TheVariants.{Increment, Decrement, Add, Remove, Enable, Assign}
+use Rattle.script_reading.specs.declared.operations.OpName.TheVariants.{Increment, Decrement, Add, Remove, Enable, Assign, Delete}
 use Rattle.script_reading.specs.Fields.{rule, ◌>>=◌, amount_of, moment_of, text_of, if_short}
 
 -- the operation of a name
@@ -18,8 +18,9 @@ op_named name =
     if bytes_eq name (codes "add") then Some Add else (
     if bytes_eq name (codes "remove") then Some Remove else (
     if bytes_eq name (codes "enable") then Some Enable else (
-    if bytes_eq name (codes "assign") then Some Assign else
-    None)))))
+    if bytes_eq name (codes "assign") then Some Assign else (
+    if bytes_eq name (codes "delete") then Some Delete else
+    None))))))
 
 -- the names of an update with this operation
 abbrev pub update_names : OpName → List (List ℕ)
@@ -29,6 +30,7 @@ update_names Add = codes "at" ∷ codes "do" ∷ codes "element" ∷ codes "key"
 update_names Remove = codes "at" ∷ codes "do" ∷ codes "element" ∷ codes "key" ∷ codes "op" ∷ []
 update_names Enable = codes "at" ∷ codes "do" ∷ codes "key" ∷ codes "op" ∷ []
 update_names Assign = codes "at" ∷ codes "do" ∷ codes "key" ∷ codes "now" ∷ codes "op" ∷ codes "text" ∷ []
+update_names Delete = codes "at" ∷ codes "do" ∷ codes "key" ∷ codes "op" ∷ []
 
 -- the element that an update names: a text, and then a short one
 unfoldable pub element_of : ℕ → Data → Result (List ℕ) Rule
@@ -50,3 +52,4 @@ op_of step Add d = element_of step d >>= (λ element. Ok (op.Add element))
 op_of step Remove d = element_of step d >>= (λ element. Ok (op.Remove element))
 op_of step Enable d = Ok op.Enable
 op_of step Assign d = assign_of step d
+op_of step Delete d = Ok op.Delete

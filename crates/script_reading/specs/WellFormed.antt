@@ -2,7 +2,7 @@
 use Rattle.std.specs.Prelude.{◌≢◌, ℕ, ◌-◌, ◌^◌, ◌<◌, ◌≤◌, List, length, All, AllPairs, ⊤}
 use Rattle.model_history.specs.Table.{identity_limit}
 use Rattle.model_kinds.specs.declared.operation.Op.{Op}
-use Rattle.model_kinds.specs.declared.operation.Op.TheVariants.{Increment, Decrement, Add, Remove, Enable, Assign}
+use Rattle.model_kinds.specs.declared.operation.Op.TheVariants.{Increment, Decrement, Add, Remove, Enable, Assign, Delete}
 use Rattle.member_quorum.specs.declared.level.Level.{Level}
 use Rattle.member_quorum.specs.declared.level.Level.TheVariants as level
 use Rattle.script_reading.specs.Clients.{count_of}
@@ -38,6 +38,7 @@ IsOperation (Add element) = IsShort element
 IsOperation (Remove element) = IsShort element
 IsOperation Enable = ⊤
 IsOperation (Assign text now) = IsShort text × IsMoment now
+IsOperation Delete = ⊤
 
 -- so many members, or a cap
 abbrev pub IsLevel : Level → Type 0

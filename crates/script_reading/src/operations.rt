@@ -19,6 +19,7 @@ pub enum OpName {
     Remove,
     Enable,
     Assign,
+    Delete,
 }
 
 /// The operation of a name.
@@ -32,6 +33,7 @@ pub fn op_named(name: &str) -> Option<OpName>
         "remove" => Some(OpName::Remove),
         "enable" => Some(OpName::Enable),
         "assign" => Some(OpName::Assign),
+        "delete" => Some(OpName::Delete),
         _ => None,
     }
 }
@@ -59,7 +61,9 @@ pub fn update_names(value: &Value, form: OpName, more: &[&str], step: u32) -> Re
                 step,
             )
         }
-        OpName::Enable => step_names(value, &["at", "do", "key", "op"], &["level"], more, step),
+        OpName::Enable | OpName::Delete => {
+            step_names(value, &["at", "do", "key", "op"], &["level"], more, step)
+        }
         OpName::Assign => {
             step_names(
                 value,
@@ -107,5 +111,6 @@ pub fn operation(step: u32, form: OpName, value: &Value) -> Result<Op, Rule>
         OpName::Remove => Ok(Op::Remove(element(step, value)?)),
         OpName::Enable => Ok(Op::Enable),
         OpName::Assign => assign(step, value),
+        OpName::Delete => Ok(Op::Delete),
     }
 }

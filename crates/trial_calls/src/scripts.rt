@@ -234,6 +234,7 @@ fn operation_line(alloc: Global, op: &Op) -> Result<String, Fail> {
         Op::Remove(element) => word_with(alloc, "remove", &element.as_str()),
         Op::Enable => word(alloc, "enable"),
         Op::Assign { text, now } => assign_line(alloc, text, *now),
+        Op::Delete => word(alloc, "delete"),
     }
 }
 

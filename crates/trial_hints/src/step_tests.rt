@@ -13,7 +13,7 @@ const FORMS: &str = r#"{}
 {"do":"update","at":255}
 1: "op" is missing (rule 5)
 {"do":"update","op":"disable"}
-1: "op" is "disable", not increment, decrement, add, remove, enable or assign (rule 5)
+1: "op" is "disable", not increment, decrement, add, remove, enable, assign or delete (rule 5)
 {"do":"update","op":"increment","at":0,"key":"n"}
 1: "by" is missing (rule 6)
 {"do":"update","op":"increment","at":0,"key":"n","amount":1}
@@ -28,6 +28,8 @@ const FORMS: &str = r#"{}
 1: "on" is no name of an update with "enable", and "at" is missing (rule 6)
 {"do":"update","op":"assign","at":0,"key":"n","text":"a","clock":1}
 1: "clock" is no name of an update with "assign", and "now" is missing (rule 6)
+{"do":"update","op":"delete","at":0,"key":"n","element":"a"}
+1: "element" is no name of an update with "delete" (rule 6)
 {"do":"get","at":0,"to":1}
 1: "to" is no name of a get, and "key" is missing (rule 6)
 {"do":"flush"}
