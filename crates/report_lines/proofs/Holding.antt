@@ -42,7 +42,7 @@ module _ {X : Type 0} (p : X → Bool) where
 
 module _ {T Delta : Type 0} (ghosts : Ghosts T Kind Op Delta) (spelling : Spelling T Kind Op Delta) (kinds : Text → Kind) (logs : Text → History Op) (table : Table) (store : Store Op) (spells : SpellsStore ghosts spelling kinds logs table store) where
   abbrev spelled : Kind → Entry Op → List ℕ
-  spelled = entry_spelled spelling.byte_of spelling.history_spelled
+  spelled = entry_spelled spelling.history_byte spelling.history_spelled
 
   -- what stands at a name is the spelling of what the store has there
   holds_at : (name : Text) → bytes_at table name ≡ option_map (spelled (kinds name)) (store name)
@@ -63,7 +63,7 @@ module _ {T Delta : Type 0} (ghosts : Ghosts T Kind Op Delta) (spelling : Spelli
               absurd (find_none (λ (stored : Stored). bytes_eq stored.key name) table is (any.0, any.1, any.2, any.3, ap (λ key. bytes_eq key name) any.4 ∙ bytes_eq-same name))
 
   pub holds_store : (keys : List ScriptKey) → All (λ (key : ScriptKey). kinds key.key ≡ key.kind) keys → ((name : Text) (entry : Entry Op) → store name ≡ Some entry → Any (λ (key : ScriptKey). (key.key ≡ name) × (key.durable ≡ true)) keys)
-      → HoldsStore spelling.byte_of spelling.history_spelled keys table store
+      → HoldsStore spelling.history_byte spelling.history_spelled keys table store
   holds_store keys of_kinds declared =
       record {
         durable = λ k d less durable. holds_at (get_or keys k d).key ∙ ap (λ kind. option_map (spelled kind) (store (get_or keys k d).key)) (of_kinds k d less);

@@ -129,24 +129,24 @@ begins_one D p steps text plain begun =
     let way = one_way D p (until_restart steps) (until_plain steps plain) begun.lines begun.last begun.plays in
     (begun.rest, begun.told ∙ ap (λ ls. lines_text shown_text 1 ls ++ begun.rest) way.0 ∙ ap (λ t. t ++ begun.rest) (same_text D shown_text 1 (lines_of D p (steps_of (until_restart steps)))))
 
-module _ (data_type : DataType Kind Op Shown) (byte_of : Kind → ℕ) (history_spelled : Kind → History Op → List ℕ) where
+module _ (data_type : DataType Kind Op Shown) (history_byte : Kind → History Op → ℕ) (history_spelled : Kind → History Op → List ℕ) where
   abbrev D : Replication Kind Op Shown
-  D = spelled_groups data_type byte_of history_spelled
+  D = spelled_groups data_type history_byte history_spelled
 
   -- what is a report of a script without clients is the one report
-  the_report : (answers : KeeperAnswers) (script : Script) (text : List ℕ) → HasNoClients script → IsReport data_type byte_of history_spelled answers script text → IsTheReport data_type byte_of history_spelled answers script text
+  the_report : (answers : KeeperAnswers) (script : Script) (text : List ℕ) → HasNoClients script → IsReport data_type history_byte history_spelled answers script text → IsTheReport data_type history_byte history_spelled answers script text
   the_report answers script text plain h =
       is_report D shown_text answers script.members (map decl_of (in_order script.keys)) (steps_of script.steps) text
       (subst (λ ss. HasReport D shown_text answers script.members (map decl_of (in_order script.keys)) ss text) (plain_steps script.steps plain) h)
 
   the_run : {K : Type 0} (keeping : Keeping K) (answers : KeeperAnswers) (script : Script) (lines : Lines) (last : Playing Kind Op Shown) → 1 ≤ script.members → script.members ≤ identity_limit → All IsRunStep script.steps → HasNoClients script
-      → PlaysAll D (beginning answers script) (map run_step_of script.steps) lines last → IsTheRun data_type byte_of history_spelled keeping answers script last
+      → PlaysAll D (beginning answers script) (map run_step_of script.steps) lines last → IsTheRun data_type history_byte history_spelled keeping answers script last
   the_run keeping answers script lines last some few ok plain plays =
       let within = model_steps script.steps ok in
       record {
         ends = (one_way D (beginning answers script) script.steps plain lines last plays).1;
         majorities = gets_include D answers script.members (map decl_of (in_order script.keys)) (steps_of script.steps) some few within;
-        settles = λ stays. agree_by_digests D byte_of history_spelled refl stays answers script.members (map decl_of (in_order script.keys)) (steps_of script.steps) some few within;
+        settles = λ stays. agree_by_digests D history_byte history_spelled refl stays answers script.members (map decl_of (in_order script.keys)) (steps_of script.steps) some few within;
       }
 
 -- THE KEEPERS
@@ -302,7 +302,7 @@ module _ {T K Delta : Type 0} {ghosts : Ghosts T Kind Op Delta} {keeping : Keepi
         pub called_so : (place : ℕ) → place < 8 → length (whole_given place) ≡ end.calls place
         called_so place less = let more = calls place in let n = ap length (at_place place less) in omega (arith, more, n)
 
-        stored_at : (place : ℕ) (after : K) → slice_get new place ≡ Some after → (table : Table) → keeping.table after ≡ Some table → HoldsStore spelling.byte_of spelling.history_spelled script_keys table (end.world.stores place)
+        stored_at : (place : ℕ) (after : K) → slice_get new place ≡ Some after → (table : Table) → keeping.table after ≡ Some table → HoldsStore spelling.history_byte spelling.history_spelled script_keys table (end.world.stores place)
         stored_at place after is table told =
             let D = replication ghosts spelling in
             let run = means.run in
@@ -313,7 +313,7 @@ module _ {T K Delta : Type 0} {ghosts : Ghosts T Kind Op Delta} {keeping : Keepi
             holds_store ghosts spelling kinds logs.0 table (end.world.stores place) spells script_keys key_kinds
             (λ name entry has. durable_key name (run_stores_declared D decls members end.events end.world run place name entry has))
 
-        pub stored_so : AtEachPlace (λ place before after. (table : Table) → keeping.table after ≡ Some table → HoldsStore spelling.byte_of spelling.history_spelled script_keys table (end.world.stores place)) old new
+        pub stored_so : AtEachPlace (λ place before after. (table : Table) → keeping.table after ≡ Some table → HoldsStore spelling.history_byte spelling.history_spelled script_keys table (end.world.stores place)) old new
         stored_so = record { count = kept_so.count; each = λ place before after was is. stored_at place after is }
 
 -- HOW IT ENDED
@@ -393,49 +393,49 @@ module _ {T K Delta : Type 0} {ghosts : Ghosts T Kind Op Delta} {keeping : Keepi
 
     -- some run of the script, and what it says of a text
     module _ (says : Lines → Playing Kind Op Shown → List ℕ → Type 0) (text : List ℕ) (some : TellsSome spelling (kind_among opens.keys) script.members names begin given says script.steps last text) where
-      ends_over : EndsOver ghosts.data_type spelling.byte_of spelling.history_spelled keeping over script some.last old new
+      ends_over : EndsOver ghosts.data_type spelling.history_byte spelling.history_spelled keeping over script some.last old new
       ends_over = record {
         called = called_so spelling script.members script.keys opens.keys old first eight opens.made apart opens.starts (eight_of first).0 (eight_of first).1 new last (eight_of last).0 (eight_of last).1 back given kept some.last some.means some.calls;
         stored = stored_so spelling script.members script.keys opens.keys old first eight opens.made apart opens.starts (eight_of first).0 (eight_of first).1 new last (eight_of last).0 (eight_of last).1 back given kept some.last some.means some.calls;
       }
 
-      is_the_run : HasNoClients script → IsTheRun ghosts.data_type spelling.byte_of spelling.history_spelled keeping (answers_by over) script some.last
-      is_the_run plain = the_run ghosts.data_type spelling.byte_of spelling.history_spelled keeping (answers_by over) script some.lines some.last some.means.run.some some.means.run.few formed.steps plain some.plays
+      is_the_run : HasNoClients script → IsTheRun ghosts.data_type spelling.history_byte spelling.history_spelled keeping (answers_by over) script some.last
+      is_the_run plain = the_run ghosts.data_type spelling.history_byte spelling.history_spelled keeping (answers_by over) script some.lines some.last some.means.run.some some.means.run.few formed.steps plain some.plays
 
     -- THE REPORT
 
-    whole_report : (text : List ℕ) → TellsSome spelling (kind_among opens.keys) script.members names begin given (IsWhole (replication ghosts spelling)) script.steps last text → IsWholeReport ghosts.data_type spelling.byte_of spelling.history_spelled keeping over script old new text
+    whole_report : (text : List ℕ) → TellsSome spelling (kind_among opens.keys) script.members names begin given (IsWhole (replication ghosts spelling)) script.steps last text → IsWholeReport ghosts.data_type spelling.history_byte spelling.history_spelled keeping over script old new text
     whole_report text some =
-        let report : IsReport ghosts.data_type spelling.byte_of spelling.history_spelled (answers_by over) script text = record { lines = some.lines; last = some.last; plays = some.plays; told = some.told } in
+        let report : IsReport ghosts.data_type spelling.history_byte spelling.history_spelled (answers_by over) script text = record { lines = some.lines; last = some.last; plays = some.plays; told = some.told } in
         record {
           reported = record { lines = some.lines; last = some.last; plays = some.plays; told = some.told };
           over = ends_over (IsWhole (replication ghosts spelling)) text some;
-          unfailing = unfailing (λ answers. IsReport ghosts.data_type spelling.byte_of spelling.history_spelled answers script text) report;
+          unfailing = unfailing (λ answers. IsReport ghosts.data_type spelling.history_byte spelling.history_spelled answers script text) report;
           plain = λ plain. record {
             run = is_the_run (IsWhole (replication ghosts spelling)) text some plain;
-            reported = the_report ghosts.data_type spelling.byte_of spelling.history_spelled (answers_by over) script text plain report;
-            unfailing = unfailing (λ answers. IsTheReport ghosts.data_type spelling.byte_of spelling.history_spelled answers script text) (the_report ghosts.data_type spelling.byte_of spelling.history_spelled (answers_by over) script text plain report);
+            reported = the_report ghosts.data_type spelling.history_byte spelling.history_spelled (answers_by over) script text plain report;
+            unfailing = unfailing (λ answers. IsTheReport ghosts.data_type spelling.history_byte spelling.history_spelled answers script text) (the_report ghosts.data_type spelling.history_byte spelling.history_spelled (answers_by over) script text plain report);
           };
         }
 
     -- THE FINAL BLOCK ALONE
 
-    whole_summary : HasNoClients script → (text : List ℕ) → TellsSome spelling (kind_among opens.keys) script.members names begin given (IsEnd (replication ghosts spelling)) script.steps last text → IsWholeSummary ghosts.data_type spelling.byte_of spelling.history_spelled keeping over script old new text
+    whole_summary : HasNoClients script → (text : List ℕ) → TellsSome spelling (kind_among opens.keys) script.members names begin given (IsEnd (replication ghosts spelling)) script.steps last text → IsWholeSummary ghosts.data_type spelling.history_byte spelling.history_spelled keeping over script old new text
     whole_summary plain text some =
         let run = is_the_run (IsEnd (replication ghosts spelling)) text some plain in
-        let told : IsSummary ghosts.data_type spelling.byte_of spelling.history_spelled (answers_by over) script text = some.told ∙ ap (λ (last : Playing Kind Op Shown). final_block (replication ghosts spelling) shown_text last.world) run.ends in
+        let told : IsSummary ghosts.data_type spelling.history_byte spelling.history_spelled (answers_by over) script text = some.told ∙ ap (λ (last : Playing Kind Op Shown). final_block (replication ghosts spelling) shown_text last.world) run.ends in
         record {
           reported = told;
-          over = subst (λ last. EndsOver ghosts.data_type spelling.byte_of spelling.history_spelled keeping over script last old new) run.ends (ends_over (IsEnd (replication ghosts spelling)) text some);
-          run = subst (IsTheRun ghosts.data_type spelling.byte_of spelling.history_spelled keeping (answers_by over) script) run.ends run;
-          unfailing = unfailing (λ answers. IsSummary ghosts.data_type spelling.byte_of spelling.history_spelled answers script text) told;
+          over = subst (λ last. EndsOver ghosts.data_type spelling.history_byte spelling.history_spelled keeping over script last old new) run.ends (ends_over (IsEnd (replication ghosts spelling)) text some);
+          run = subst (IsTheRun ghosts.data_type spelling.history_byte spelling.history_spelled keeping (answers_by over) script) run.ends run;
+          unfailing = unfailing (λ answers. IsSummary ghosts.data_type spelling.history_byte spelling.history_spelled answers script text) told;
         }
 
   module _ (new : List K) (last : World T K Kind Op Delta ghosts keeping) (text : List ℕ) (tells : TellsSteps spelling script.steps first last text) (back : new ≡ keepers_of last.nodes.items last.spare.items) where
     abbrev all_given : Given
     all_given = over new last back tells.given tells.kept
 
-    report_over : (block text' : List ℕ) → IsBlockOf spelling last block → text' ≡ text ++ block → IsReportOver ghosts.data_type spelling.byte_of spelling.history_spelled keeping script old new text'
+    report_over : (block text' : List ℕ) → IsBlockOf spelling last block → text' ≡ text ++ block → IsReportOver ghosts.data_type spelling.history_byte spelling.history_spelled keeping script old new text'
     report_over block text' told grown =
         let D = replication ghosts spelling in
         let p = beginning (answers_by all_given) script in
@@ -452,7 +452,7 @@ module _ {T K Delta : Type 0} {ghosts : Ghosts T Kind Op Delta} {keeping : Keepi
               (loads_all new last back tells.given tells.kept load) (kind_among opens.keys) script.members (map decl_of (in_order script.keys)) p set);
         }
 
-    summary_over : HasNoClients script → (block text' : List ℕ) → IsBlockOf spelling last block → text' ≡ block → IsSummaryOver ghosts.data_type spelling.byte_of spelling.history_spelled keeping script old new text'
+    summary_over : HasNoClients script → (block text' : List ℕ) → IsBlockOf spelling last block → text' ≡ block → IsSummaryOver ghosts.data_type spelling.history_byte spelling.history_spelled keeping script old new text'
     summary_over plain block text' told grown =
         let D = replication ghosts spelling in
         let p = beginning (answers_by all_given) script in
@@ -468,18 +468,18 @@ module _ {T K Delta : Type 0} {ghosts : Ghosts T Kind Op Delta} {keeping : Keepi
               (loads_all new last back tells.given tells.kept load) (kind_among opens.keys) script.members (map decl_of (in_order script.keys)) p set);
         }
 
-    pub ends_report : (end : Ending) → EndsWithBlock spelling last text end → IsPlayed keeping (IsReportOver ghosts.data_type spelling.byte_of spelling.history_spelled keeping) script old new end
+    pub ends_report : (end : Ending) → EndsWithBlock spelling last text end → IsPlayed keeping (IsReportOver ghosts.data_type spelling.history_byte spelling.history_spelled keeping) script old new end
     ends_report end ends = record { ends = by_end end ends; kept = all_are_kept new last back tells.given tells.kept }
       where
-        by_end : (end : Ending) → EndsWithBlock spelling last text end → EndsSo keeping (IsReportOver ghosts.data_type spelling.byte_of spelling.history_spelled keeping) end script old new
+        by_end : (end : Ending) → EndsWithBlock spelling last text end → EndsSo keeping (IsReportOver ghosts.data_type spelling.history_byte spelling.history_spelled keeping) end script old new
         by_end (Told told) adds = report_over adds.0 (string_bytes told) adds.1 adds.2
         by_end (NotCleared place) ends = absurd ends
         by_end Memory ends = tt
 
-    pub ends_summary : HasNoClients script → (before : List ℕ) (end : Ending) → before ≡ [] → EndsWithBlock spelling last before end → IsPlayed keeping (IsSummaryOver ghosts.data_type spelling.byte_of spelling.history_spelled keeping) script old new end
+    pub ends_summary : HasNoClients script → (before : List ℕ) (end : Ending) → before ≡ [] → EndsWithBlock spelling last before end → IsPlayed keeping (IsSummaryOver ghosts.data_type spelling.history_byte spelling.history_spelled keeping) script old new end
     ends_summary plain before end none ends = record { ends = by_end end ends; kept = all_are_kept new last back tells.given tells.kept }
       where
-        by_end : (end : Ending) → EndsWithBlock spelling last before end → EndsSo keeping (IsSummaryOver ghosts.data_type spelling.byte_of spelling.history_spelled keeping) end script old new
+        by_end : (end : Ending) → EndsWithBlock spelling last before end → EndsSo keeping (IsSummaryOver ghosts.data_type spelling.history_byte spelling.history_spelled keeping) end script old new
         by_end (Told told) adds = summary_over plain adds.0 (string_bytes told) adds.1 (adds.2 ∙ ap (λ t. t ++ adds.0) none)
         by_end (NotCleared place) ends = absurd ends
         by_end Memory ends = tt

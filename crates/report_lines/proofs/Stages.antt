@@ -315,7 +315,7 @@ module _ {T K Delta : Type 0} {ghosts : Ghosts T Kind Op Delta} {keeping : Keepi
       let D = replication ghosts spelling in
       let some = tells.whole load kinds members decls p sets in
       let logs = logs_throughout D members decls some.last.events some.last.world some.means.run in
-      let is = told (entry_digest spelling.byte_of spelling.history_spelled) kinds logs.0 some.last.world (some.means.stands logs.0 (record { histories = logs.1.last.histories; logged = logs.1.throughout })) in
+      let is = told (entry_digest spelling.history_byte spelling.history_spelled) kinds logs.0 some.last.world (some.means.stands logs.0 (record { histories = logs.1.last.histories; logged = logs.1.throughout })) in
       record {
         lines = some.lines;
         last = some.last;

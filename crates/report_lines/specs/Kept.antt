@@ -35,10 +35,10 @@ answers_by given place call = get_or (given place) call true
 abbrev pub bytes_at : Table → Text → Option (List ℕ)
 bytes_at table name = option_map (λ stored. stored.bytes) (find (λ stored. bytes_eq stored.key name) table)
 
-module _ (byte_of : Kind → ℕ) (history_spelled : Kind → History Op → List ℕ) where
+module _ (history_byte : Kind → History Op → ℕ) (history_spelled : Kind → History Op → List ℕ) where
   -- at each durable key stands the spelling of what the store has there, and nothing stands at another name
   pub record HoldsStore (keys : List ScriptKey) (table : Table) (store : Store Op) : Type 0 where
-    pub durable : All (λ key. key.durable ≡ true → bytes_at table key.key ≡ option_map (entry_spelled byte_of history_spelled key.kind) (store key.key)) keys
+    pub durable : All (λ key. key.durable ≡ true → bytes_at table key.key ≡ option_map (entry_spelled history_byte history_spelled key.kind) (store key.key)) keys
     pub others : All (λ stored. Any (λ key. (key.key ≡ stored.key) × (key.durable ≡ true)) keys) table
 
 module _ {K : Type 0} (keeping : Keeping K) where
@@ -50,46 +50,46 @@ module _ {K : Type 0} (keeping : Keeping K) where
   abbrev pub NoneRose : List K → List K → Type 0
   NoneRose old new = AtEachPlace (λ place before after. Rose (keeping.faults before) (keeping.faults after) → ⊥) old new
 
-module _ (data_type : DataType Kind Op Shown) (byte_of : Kind → ℕ) (history_spelled : Kind → History Op → List ℕ) {K : Type 0} (keeping : Keeping K) where
+module _ (data_type : DataType Kind Op Shown) (history_byte : Kind → History Op → ℕ) (history_spelled : Kind → History Op → List ℕ) {K : Type 0} (keeping : Keeping K) where
   -- The keepers were called as often as in a run that ended here, and each told table holds its place's store then
   pub record EndsOver (given : Given) (script : Script) (last : Playing Kind Op Shown) (old new : List K) : Type 0 where
     pub called : (place : ℕ) → place < 8 → length (given place) ≡ last.calls place
-    pub stored : AtEachPlace (λ place before after. (table : Table) → keeping.table after ≡ Some table → HoldsStore byte_of history_spelled script.keys table (last.world.stores place)) old new
+    pub stored : AtEachPlace (λ place before after. (table : Table) → keeping.table after ≡ Some table → HoldsStore history_byte history_spelled script.keys table (last.world.stores place)) old new
 
   -- The run of a script without clients: its one end, its majority gets and what its settles tell
   pub record IsTheRun (answers : KeeperAnswers) (script : Script) (last : Playing Kind Op Shown) : Type 0 where
-    pub ends : last ≡ ending data_type byte_of history_spelled answers script
+    pub ends : last ≡ ending data_type history_byte history_spelled answers script
     -- majority gets include the majority updates before them
-    pub majorities : GetsIncludeUpdates data_type byte_of history_spelled answers script
+    pub majorities : GetsIncludeUpdates data_type history_byte history_spelled answers script
     -- and what its settles tell is so
-    pub settles : SettlesAreAsTold data_type byte_of history_spelled answers script
+    pub settles : SettlesAreAsTold data_type history_byte history_spelled answers script
 
   -- The text is the report of that run, and where no call failed it is a function of the script
   pub record IsPlainReport (given : Given) (script : Script) (last : Playing Kind Op Shown) (old new : List K) (text : List ℕ) : Type 0 where
     pub run : IsTheRun (answers_by given) script last
-    pub reported : IsTheReport data_type byte_of history_spelled (answers_by given) script text
-    pub unfailing : NoneRose keeping old new → IsTheReport data_type byte_of history_spelled none_fails script text
+    pub reported : IsTheReport data_type history_byte history_spelled (answers_by given) script text
+    pub unfailing : NoneRose keeping old new → IsTheReport data_type history_byte history_spelled none_fails script text
 
   -- The text is the report of a run with these answers, in which the keepers were called
   pub record IsWholeReport (given : Given) (script : Script) (old new : List K) (text : List ℕ) : Type 0 where
-    pub reported : IsReport data_type byte_of history_spelled (answers_by given) script text
+    pub reported : IsReport data_type history_byte history_spelled (answers_by given) script text
     pub over : EndsOver given script reported.last old new
     -- where no call failed it is that of a run without failures
-    pub unfailing : NoneRose keeping old new → IsReport data_type byte_of history_spelled none_fails script text
+    pub unfailing : NoneRose keeping old new → IsReport data_type history_byte history_spelled none_fails script text
     -- of a script without clients it is the one report
     pub plain : HasNoClients script → IsPlainReport given script reported.last old new text
 
   -- The text is the final block of the run of a script without clients
   pub record IsWholeSummary (given : Given) (script : Script) (old new : List K) (text : List ℕ) : Type 0 where
-    pub reported : IsSummary data_type byte_of history_spelled (answers_by given) script text
-    pub over : EndsOver given script (ending data_type byte_of history_spelled (answers_by given) script) old new
-    pub run : IsTheRun (answers_by given) script (ending data_type byte_of history_spelled (answers_by given) script)
-    pub unfailing : NoneRose keeping old new → IsSummary data_type byte_of history_spelled none_fails script text
+    pub reported : IsSummary data_type history_byte history_spelled (answers_by given) script text
+    pub over : EndsOver given script (ending data_type history_byte history_spelled (answers_by given) script) old new
+    pub run : IsTheRun (answers_by given) script (ending data_type history_byte history_spelled (answers_by given) script)
+    pub unfailing : NoneRose keeping old new → IsSummary data_type history_byte history_spelled none_fails script text
 
   -- The text begins as the report of a run, and of the one run where there are no clients
   pub record Begins (answers : KeeperAnswers) (script : Script) (text : List ℕ) : Type 0 where
-    pub begun : BeginsReport data_type byte_of history_spelled answers script text
-    pub plain : HasNoClients script → BeginsTheReport data_type byte_of history_spelled answers script text
+    pub begun : BeginsReport data_type history_byte history_spelled answers script text
+    pub plain : HasNoClients script → BeginsTheReport data_type history_byte history_spelled answers script text
 
   -- The keepers gave these answers, and the text begins so. It tells of the whole run, if the keepers load what they took
   pub record IsRunOver (begins : KeeperAnswers → Script → List ℕ → Type 0) (tells : Given → Script → List K → List K → List ℕ → Type 0) (script : Script) (old new : List K) (text : List ℕ) : Type 0 where

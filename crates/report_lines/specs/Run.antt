@@ -85,45 +85,45 @@ pub record BeginsRun (D : Replication Kind Op Shown) (p : Playing Kind Op Shown)
   pub plays : PlaysAll D p (map run_step_of (until_restart steps)) lines last
   pub told : text ≡ lines_text shown_text 1 lines ++ rest
 
-module _ (data_type : DataType Kind Op Shown) (byte_of : Kind → ℕ) (history_spelled : Kind → History Op → List ℕ) where
+module _ (data_type : DataType Kind Op Shown) (history_byte : Kind → History Op → ℕ) (history_spelled : Kind → History Op → List ℕ) where
   -- a run of the script has this report
   abbrev pub IsReport : KeeperAnswers → Script → List ℕ → Type 0
   IsReport answers script text =
-      HasReport (spelled_groups data_type byte_of history_spelled) shown_text answers script.members (map decl_of (in_order script.keys)) (map run_step_of script.steps) text
+      HasReport (spelled_groups data_type history_byte history_spelled) shown_text answers script.members (map decl_of (in_order script.keys)) (map run_step_of script.steps) text
 
   -- the text begins as such a report does, up to the first restart
   abbrev pub BeginsReport : KeeperAnswers → Script → List ℕ → Type 0
-  BeginsReport answers script text = BeginsRun (spelled_groups data_type byte_of history_spelled) (beginning answers script) script.steps text
+  BeginsReport answers script text = BeginsRun (spelled_groups data_type history_byte history_spelled) (beginning answers script) script.steps text
 
   -- SCRIPTS WITHOUT CLIENTS HAVE ONE RUN
 
   -- the script after its last step
   abbrev pub ending : KeeperAnswers → Script → Playing Kind Op Shown
-  ending answers script = played_all (spelled_groups data_type byte_of history_spelled) (beginning answers script) (steps_of script.steps)
+  ending answers script = played_all (spelled_groups data_type history_byte history_spelled) (beginning answers script) (steps_of script.steps)
 
   -- the text is the report of that run, which is a function of the script and of what the keepers answer
   abbrev pub IsTheReport : KeeperAnswers → Script → List ℕ → Type 0
   IsTheReport answers script text =
-      text ≡ report (spelled_groups data_type byte_of history_spelled) shown_text answers script.members (map decl_of (in_order script.keys)) (steps_of script.steps)
+      text ≡ report (spelled_groups data_type history_byte history_spelled) shown_text answers script.members (map decl_of (in_order script.keys)) (steps_of script.steps)
 
   -- its final block alone
   abbrev pub IsSummary : KeeperAnswers → Script → List ℕ → Type 0
-  IsSummary answers script text = text ≡ final_block (spelled_groups data_type byte_of history_spelled) shown_text (ending answers script).world
+  IsSummary answers script text = text ≡ final_block (spelled_groups data_type history_byte history_spelled) shown_text (ending answers script).world
 
   -- while membership stays unchanged, each majority get whose answer is told includes every majority update of its key whose success was told before
   abbrev pub GetsIncludeUpdates : KeeperAnswers → Script → Type 0
-  GetsIncludeUpdates answers script = GetsInclude (spelled_groups data_type byte_of history_spelled) answers script.members (map decl_of (in_order script.keys)) (steps_of script.steps)
+  GetsIncludeUpdates answers script = GetsInclude (spelled_groups data_type history_byte history_spelled) answers script.members (map decl_of (in_order script.keys)) (steps_of script.steps)
 
   -- What settles tell is so, and those that are done leave settled worlds, where digests are distinct until then. For this, what blocks a prune has to go on blocking it
   abbrev pub SettlesAreAsTold : KeeperAnswers → Script → Type 0
   SettlesAreAsTold answers script =
-      BlockedStays (spelled_groups data_type byte_of history_spelled)
-      → SettlesAgreeByDigests (spelled_groups data_type byte_of history_spelled) byte_of history_spelled answers script.members (map decl_of (in_order script.keys)) (steps_of script.steps)
+      BlockedStays (spelled_groups data_type history_byte history_spelled)
+      → SettlesAgreeByDigests (spelled_groups data_type history_byte history_spelled) history_byte history_spelled answers script.members (map decl_of (in_order script.keys)) (steps_of script.steps)
 
   -- the lines of the steps before the first restart
   abbrev pub first_lines : KeeperAnswers → Script → List ℕ
   first_lines answers script =
-      steps_text (spelled_groups data_type byte_of history_spelled) shown_text 1 (lines_of (spelled_groups data_type byte_of history_spelled) (beginning answers script) (steps_of (until_restart script.steps)))
+      steps_text (spelled_groups data_type history_byte history_spelled) shown_text 1 (lines_of (spelled_groups data_type history_byte history_spelled) (beginning answers script) (steps_of (until_restart script.steps)))
 
   -- the text begins with them
   abbrev pub BeginsTheReport : KeeperAnswers → Script → List ℕ → Type 0

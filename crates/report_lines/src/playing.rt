@@ -174,7 +174,7 @@ pub fn report<T: SpelledData<Kind = Kind, Op = Op>, K: Keeper + Drop>(
     requires script { IsWellFormed script.now }
     requires plain { HasNoClients script.now }
     requires keepers { length keepers.items ≡ 8 }
-    ensures { IsPlayed K.Keeper.own (IsReportOver T.data_type T.byte_of T.history_spelled K.Keeper.own) script.now keepers.items result.keepers.items result.ending }
+    ensures { IsPlayed K.Keeper.own (IsReportOver T.data_type T.history_byte T.history_spelled K.Keeper.own) script.now keepers.items result.keepers.items result.ending }
 {
     let mut world = match first_world::<T, K>(alloc, script.members, &script.keys, keepers) {
         Ok(world) => world,
@@ -197,7 +197,7 @@ pub fn summary<T: SpelledData<Kind = Kind, Op = Op>, K: Keeper + Drop>(
     requires script { IsWellFormed script.now }
     requires plain { HasNoClients script.now }
     requires keepers { length keepers.items ≡ 8 }
-    ensures { IsPlayed K.Keeper.own (IsSummaryOver T.data_type T.byte_of T.history_spelled K.Keeper.own) script.now keepers.items result.keepers.items result.ending }
+    ensures { IsPlayed K.Keeper.own (IsSummaryOver T.data_type T.history_byte T.history_spelled K.Keeper.own) script.now keepers.items result.keepers.items result.ending }
 {
     let mut world = match first_world::<T, K>(alloc, script.members, &script.keys, keepers) {
         Ok(world) => world,

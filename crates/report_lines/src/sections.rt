@@ -143,7 +143,7 @@ where
     T::Delta: Send,
     requires script { IsWellFormed script.now }
     requires keepers { length keepers.items ≡ 8 }
-    ensures { IsPlayed K.Keeper.own (IsReportOver T.data_type T.byte_of T.history_spelled K.Keeper.own) script.now keepers.items result.keepers.items result.ending }
+    ensures { IsPlayed K.Keeper.own (IsReportOver T.data_type T.history_byte T.history_spelled K.Keeper.own) script.now keepers.items result.keepers.items result.ending }
 {
     let world = match first_world::<T, K>(alloc, script.members, &script.keys, keepers) {
         Ok(world) => world,

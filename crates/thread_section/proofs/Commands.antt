@@ -115,6 +115,7 @@ module _ {T K Kind Delta : Type 0} {ghosts : Ghosts T Kind Op Delta} {keeping : 
   follows reply.Done s = goes_on refl s.0 s.1
   follows (reply.Pending op) s = waits op refl s.0 s.1 s.2
   follows (reply.Value shown) s = goes_on refl s.0 s.1
+  follows reply.Deleted s = goes_on refl s.0 s.1
   follows reply.NotFound s = goes_on refl s.0 s.1
   follows reply.UnknownKey s = goes_on refl s.0 s.1
   follows reply.WrongKind s = goes_on refl s.0 s.1

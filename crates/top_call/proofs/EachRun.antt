@@ -9,7 +9,7 @@ use Rattle.model_members.specs.World.{Event, IsRun, IsLawful, AreLawful, start}
 use Rattle.model_kinds.specs.declared.kind.Kind.{Kind}
 use Rattle.model_kinds.specs.declared.operation.Op.{Op}
 use Rattle.model_kinds.specs.declared.shown.Shown.{Shown}
-use Rattle.data_value.specs.Spelled.{byte_of, history_spelled}
+use Rattle.data_value.specs.DataSpelled.{history_byte, history_spelled}
 use Rattle.theorem_runs.proofs.Playing.{no_events, step_is_run}
 use Rattle.theorem_runs.proofs.Safety.{run_before}
 use Rattle.theorem_operations.specs.Quorum.{WriteThenRead, IsUnchanged, all_events, at_end}
@@ -66,7 +66,7 @@ module _ (answers : KeeperAnswers) (members : ℕ) (keys : List (KeyDecl Kind)) 
         few = λ messages blocked answer. sends_few six members keys p is_run messages blocked answer;
         second_number = λ messages blocked answer. counts_blocked six members keys p is_run messages blocked answer;
         settled = λ messages blocked answer distinct.
-            leaves_settled six members keys p is_run messages blocked answer (distinct_tell six byte_of history_spelled refl members keys (settle six p).events (settle six p).world ends distinct) six_stays;
+            leaves_settled six members keys p is_run messages blocked answer (distinct_tell six history_byte history_spelled refl members keys (settle six p).events (settle six p).world ends distinct) six_stays;
       }
 
   pub tells_settle : (front rest : List (RunStep Op)) → AllByRecursion IsRunStep front → (lines : Lines) (last : Playing Kind Op Shown) → PlaysAll six (opening answers members keys) (front ++ RunStep.Plain ScriptStep.Settle ∷ rest) lines last → TellsSettle members keys answers front lines

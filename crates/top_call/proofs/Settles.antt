@@ -3,7 +3,7 @@ use Rattle.std.proofs.Common.{ℕ, List, string_bytes}
 use Rattle.model_kinds.specs.SixKinds.{six_kinds}
 use Rattle.member_keeper.specs.declared.keeper.Keeper.{Ghosts as Keeping}
 use Rattle.script_reading.specs.declared.script.Script.{Script}
-use Rattle.data_value.specs.Spelled.{byte_of, history_spelled}
+use Rattle.data_value.specs.DataSpelled.{history_byte, history_spelled}
 use Rattle.theorem_settling_kinds.proofs.SixKindsBlocked.{six_stay}
 use Rattle.report_lines.specs.Kept as kept
 use Rattle.report_lines.specs.Kept.{EndsSo, IsPlayed}
@@ -12,10 +12,10 @@ use Rattle.report_lines.specs.declared.playing.Ending.TheVariants.{Told, NotClea
 use Rattle.top_call.specs.Answers.{IsReportOver, IsSummaryOver}
 
 module _ {K : Type 0} (keeping : Keeping K) (script : Script) (before after : List K) where
-  report_over : (text : List ℕ) → kept.IsReportOver six_kinds byte_of history_spelled keeping script before after text → IsReportOver keeping script before after text
+  report_over : (text : List ℕ) → kept.IsReportOver six_kinds history_byte history_spelled keeping script before after text → IsReportOver keeping script before after text
   report_over text h = record { run = h; settles = λ plain loads. ((h.whole loads).plain plain).run.settles (λ kind owner r other entry apart. six_stay kind owner r other entry) }
 
-  summary_over : (text : List ℕ) → kept.IsSummaryOver six_kinds byte_of history_spelled keeping script before after text → IsSummaryOver keeping script before after text
+  summary_over : (text : List ℕ) → kept.IsSummaryOver six_kinds history_byte history_spelled keeping script before after text → IsSummaryOver keeping script before after text
   summary_over text h = record { run = h; settles = λ loads. (h.whole loads).run.settles (λ kind owner r other entry apart. six_stay kind owner r other entry) }
 
   -- a run that ends so ends so too, if what is said of its text follows
@@ -25,8 +25,8 @@ module _ {K : Type 0} (keeping : Keeping K) (script : Script) (before after : Li
   ends_so P Q follows (NotCleared place) h = h
   ends_so P Q follows Memory h = tt
 
-  pub report_played : (end : Ending) → IsPlayed keeping (kept.IsReportOver six_kinds byte_of history_spelled keeping) script before after end → IsPlayed keeping (IsReportOver keeping) script before after end
-  report_played end h = record { ends = ends_so (kept.IsReportOver six_kinds byte_of history_spelled keeping) (IsReportOver keeping) report_over end h.ends; kept = h.kept }
+  pub report_played : (end : Ending) → IsPlayed keeping (kept.IsReportOver six_kinds history_byte history_spelled keeping) script before after end → IsPlayed keeping (IsReportOver keeping) script before after end
+  report_played end h = record { ends = ends_so (kept.IsReportOver six_kinds history_byte history_spelled keeping) (IsReportOver keeping) report_over end h.ends; kept = h.kept }
 
-  pub summary_played : (end : Ending) → IsPlayed keeping (kept.IsSummaryOver six_kinds byte_of history_spelled keeping) script before after end → IsPlayed keeping (IsSummaryOver keeping) script before after end
-  summary_played end h = record { ends = ends_so (kept.IsSummaryOver six_kinds byte_of history_spelled keeping) (IsSummaryOver keeping) summary_over end h.ends; kept = h.kept }
+  pub summary_played : (end : Ending) → IsPlayed keeping (kept.IsSummaryOver six_kinds history_byte history_spelled keeping) script before after end → IsPlayed keeping (IsSummaryOver keeping) script before after end
+  summary_played end h = record { ends = ends_so (kept.IsSummaryOver six_kinds history_byte history_spelled keeping) (IsSummaryOver keeping) summary_over end h.ends; kept = h.kept }

@@ -10,7 +10,7 @@ use Rattle.script_reading.specs.declared.script.Script.{Script}
 use Rattle.script_reading.specs.declared.fault.Rule.{Rule}
 use Rattle.script_reading.specs.Reading.{Spells, Breaks, HasNoReading}
 use Rattle.script_reading.specs.WellFormed.{HasNoClients, IsAllowed}
-use Rattle.data_value.specs.Spelled.{byte_of, history_spelled}
+use Rattle.data_value.specs.DataSpelled.{history_byte, history_spelled}
 use Rattle.script_generated.specs.Generated.{generated_script}
 use Rattle.script_generated.specs.Texts.{generated_text}
 use Rattle.report_lines.specs.Kept as kept
@@ -79,16 +79,16 @@ module _ {K : Type 0} (keeping : Keeping K) where
   -- What the settles of a script's run tell is so, and they leave settled worlds, where digests tell apart what members have. The keepers gave these answers.
   abbrev pub SettlesAgree : Script → List K → (ℕ → List Bool) → Type 0
   SettlesAgree script before given = LoadWhatTheyTook keeping script before
-      → SettlesAgreeByDigests (spelled_groups six_kinds byte_of history_spelled) byte_of history_spelled (answers_by given) script.members (map decl_of (in_order script.keys)) (steps_of script.steps)
+      → SettlesAgreeByDigests (spelled_groups six_kinds history_byte history_spelled) history_byte history_spelled (answers_by given) script.members (map decl_of (in_order script.keys)) (steps_of script.steps)
 
   -- The text is the report of a script's run over the keepers.
   pub record IsReportOver (script : Script) (before after : List K) (text : List ℕ) : Type 0 where
-    pub run : kept.IsReportOver six_kinds byte_of history_spelled keeping script before after text
+    pub run : kept.IsReportOver six_kinds history_byte history_spelled keeping script before after text
     pub settles : HasNoClients script → SettlesAgree script before run.given
 
   -- The text is the final block of a script's run over the keepers.
   pub record IsSummaryOver (script : Script) (before after : List K) (text : List ℕ) : Type 0 where
-    pub run : kept.IsSummaryOver six_kinds byte_of history_spelled keeping script before after text
+    pub run : kept.IsSummaryOver six_kinds history_byte history_spelled keeping script before after text
     pub settles : SettlesAgree script before run.given
 
   -- The source was read to its end, its bytes spell a script, and this is the report of the script's run over the keepers.

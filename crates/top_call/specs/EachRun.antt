@@ -12,7 +12,7 @@ use Rattle.model_kinds.specs.SixKinds.{six_kinds}
 use Rattle.model_kinds.specs.declared.kind.Kind.{Kind}
 use Rattle.model_kinds.specs.declared.operation.Op.{Op}
 use Rattle.model_kinds.specs.declared.shown.Shown.{Shown}
-use Rattle.data_value.specs.Spelled.{byte_of, history_spelled}
+use Rattle.data_value.specs.DataSpelled.{history_byte, history_spelled}
 use Rattle.member_node.specs.Members.{spelled_groups}
 use Rattle.theorem_operations.specs.Quorum.{WriteThenRead, AllInstalled, KeepsMembers, HasSucceeded, Finishes, ShowsWrite, all_events, read_event, reply_in, at_write, at_read, at_end}
 use Rattle.theorem_sections.specs.Sections.{Line}
@@ -22,7 +22,7 @@ use Rattle.theorem_digests.specs.Digests.{DistinctDigests}
 
 -- values of the six kinds, whose digests are the SHA-1 of their spellings
 abbrev pub six : Replication Kind Op Shown
-six = spelled_groups six_kinds byte_of history_spelled
+six = spelled_groups six_kinds history_byte history_spelled
 
 abbrev pub Lines : Type 0
 Lines = List (List (Line Op Shown))
@@ -39,7 +39,7 @@ module _ (members : ℕ) (keys : List (KeyDecl Kind)) where
     pub few : (messages blocked : ℕ) → settle_answer six p ≡ Answer.Settled messages blocked → messages ≤ 12 * (length p.world.view.members - 1)
     pub second_number : (messages blocked : ℕ) → settle_answer six p ≡ Answer.Settled messages blocked → HasBlocked six p blocked
     pub settled : (messages blocked : ℕ) → settle_answer six p ≡ Answer.Settled messages blocked
-        → DistinctDigests six byte_of history_spelled (start members keys) (settle six p).events → IsSettled six (settle six p).world
+        → DistinctDigests six history_byte history_spelled (start members keys) (settle six p).events → IsSettled six (settle six p).world
 
   -- behind the lines of these steps of a run stands the line of a settle, and what it tells is so
   pub record TellsSettle (answers : KeeperAnswers) (front : List (RunStep Op)) (lines : Lines) : Type 0 where

@@ -22,9 +22,9 @@ use Rattle.model_members.specs.DataType.{Replication}
 use Rattle.model_members.specs.Message.{Keyed, Message, Post}
 use Rattle.model_members.specs.Message.Message.{Deltas, Nack, Status, Gossip, Write, WriteAck, WriteNack, Read, ReadAnswer}
 use Rattle.model_members.specs.Node.{KeyState, Node, OpenOperation, Input, Level, Fate, Stepped, one_step_later, key_state, key_states, with_entry, needed}
-use Rattle.model_members.specs.Node.Reply.{NotFromMember, OldView, NotAPeer, Done, NotStored, Installed, Ticked, TickedNotStored, NotLeader, UnknownKey, WrongKind, TooFew, Refused, Taken, TimedOut, NoSuchOp}
-use Rattle.model_members.specs.Step.{KeyGap, step, step_of_take, has_failed, answered, sent, took, answer_to, status_of, gossip_to, nack_to, is_behind, deltas_for, outcomes_of, entry_after_tick, to_others, opened, member_count, value_reply, shown_of, after_entries, keyed_option, is_answered_by, with_answer}
-use Rattle.model_members.proofs.Cases.{accepted, updated, updated_needing, updated_unless, got, got_needing, counted_for}
+use Rattle.model_members.specs.Node.Reply.{NotFromMember, OldView, NotAPeer, Done, NotStored, Installed, Ticked, TickedNotStored, NotLeader, UnknownKey, Deleted, WrongKind, TooFew, Refused, Taken, TimedOut, NoSuchOp}
+use Rattle.model_members.specs.Step.{KeyGap, step, step_of_take, has_failed, answered, sent, took, answer_to, status_of, gossip_to, nack_to, is_behind, deltas_for, outcomes_of, entry_after_tick, to_others, opened, member_count, value_reply, meaning_of, after_entries, keyed_option, is_answered_by, with_answer}
+use Rattle.model_members.proofs.Cases.{accepted, updated, updated_undeleted, updated_needing, updated_unless, got, got_needing, counted_for}
 use Rattle.theorem_runs.proofs.Keeping.{if_holds}
 use Rattle.data_lattice.specs.declared.replica.Replica.{Ghosts}
 use Rattle.member_messages.specs.declared.message.Post.{Post as CodePost}
@@ -191,14 +191,15 @@ module _ {Kind Op Shown : Type 0} (D : Replication Kind Op Shown) (node : Node K
   few_updated (Some k) op level fate =
       let number = needed level (member_count later) in
       let most = most_asked_of node.view level in
-      if_holds (IsFew to_members most) (D.data_type.fits k.kind op) (updated_needing D later k op number fate) (answered later WrongKind) (few_needing k op number fate most (asked_most level)) (no_posts to_members most (answered later WrongKind) refl)
+      if_holds (IsFew to_members most) (D.data_type.deleted k.entry.history) (answered later Deleted) (updated_undeleted D later k op level fate) (no_posts to_members most (answered later Deleted) refl)
+      (if_holds (IsFew to_members most) (D.data_type.fits k.kind op) (updated_needing D later k op number fate) (answered later WrongKind) (few_needing k op number fate most (asked_most level)) (no_posts to_members most (answered later WrongKind) refl))
 
   few_got_needing : (k : KeyState Kind Op) (o : Option ℕ) (most : ℕ) → ((n : ℕ) → o ≡ Some n → asked n ≤ most) → IsFew to_members most (got_needing D later k o)
   few_got_needing k None most h = no_posts to_members most (answered later TooFew) refl
   few_got_needing k (Some n) most h = let few = by_number (nat_le n 1) in let more = h n refl in (omega (arith, few.0), few.1)
     where
-      by_number : (b : Bool) → IsFew to_members (if b then 0 else count) (if b then answered later (value_reply D (shown_of D k)) else opened later k.name true n (Read node.next_op k.name))
-      by_number true = no_posts to_members 0 (answered later (value_reply D (shown_of D k))) refl
+      by_number : (b : Bool) → IsFew to_members (if b then 0 else count) (if b then answered later (value_reply D (meaning_of D k)) else opened later k.name true n (Read node.next_op k.name))
+      by_number true = no_posts to_members 0 (answered later (value_reply D (meaning_of D k))) refl
       by_number false = few_asked (Read node.next_op k.name)
 
   few_got : (o : Option (KeyState Kind Op)) (level : Level) → IsFew to_members (most_asked_of node.view level) (got D later o level)

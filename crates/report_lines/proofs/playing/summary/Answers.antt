@@ -15,5 +15,5 @@ returns-in-Ok-untold_steps g c =
 pub returns-in-Err-untold_steps : goal.returns-in-Err-untold_steps
 returns-in-Err-untold_steps g c =
     gave_up g.T.SpelledData c.args.script.now c.requires.script c.args.keepers.items c.in-Ok.world c.requires.keepers c.in-Ok.ensures
-    (IsSummaryOver g.T.Replica.data_type g.T.SpelledData.byte_of g.T.SpelledData.history_spelled g.K.Keeper) c.ended.result.keepers.items c.untold_steps.new.world c.ended.result.ending
+    (IsSummaryOver g.T.Replica.data_type g.T.SpelledData.history_byte g.T.SpelledData.history_spelled g.K.Keeper) c.ended.result.keepers.items c.untold_steps.new.world c.ended.result.ending
     c.in-Err-untold_steps.ensures c.ended.ensures.keepers c.ended.ensures.ending

@@ -15,4 +15,4 @@ returns-in-Ok-steps_told g c =
 pub returns-in-Err-steps_told : goal.returns-in-Err-steps_told
 returns-in-Err-steps_told g c =
     gave_back g.T.SpelledData c.args.script.now c.requires.script c.args.keepers.items c.in-Ok.world c.requires.keepers c.in-Ok.ensures
-    (IsReportOver g.T.Replica.data_type g.T.SpelledData.byte_of g.T.SpelledData.history_spelled g.K.Keeper) c.in-Err-steps_told.keepers.items c.in-Err-steps_told.ensures
+    (IsReportOver g.T.Replica.data_type g.T.SpelledData.history_byte g.T.SpelledData.history_spelled g.K.Keeper) c.in-Err-steps_told.keepers.items c.in-Err-steps_told.ensures
