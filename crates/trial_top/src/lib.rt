@@ -5,6 +5,8 @@
 #[cfg(test)]
 mod carts_tests;
 #[cfg(test)]
+mod deleted_tests;
+#[cfg(test)]
 mod everywhere_tests;
 #[cfg(test)]
 mod failing_tests;
