@@ -59,6 +59,7 @@ step 1 rule 6: {"do":"restart","place":0}
 step 1 rule 6: {"do":"install","at":255}
 step 1 rule 6: {"do":"settle","at":0}
 step 1 rule 6: {"do":"update","op":"enable","at":0,"key":"n","by":1}
+step 1 rule 6: {"do":"update","op":"delete","at":0,"key":"n","element":"a"}
 step 1 rule 6: {"do":"update","op":"decrement","at":0,"key":"n","element":"a"}
 step 1 rule 6: {"do":"update","op":"assign","at":255,"key":"n","text":7}
 step 1 rule 6: {"do":"update","op":"add","at":0,"key":"n","element":"a","levels":"all"}
@@ -139,6 +140,7 @@ update 0 n decrement 1: {"at":0,"by":1,"do":"update","key":"n","op":"decrement"}
 update 0 n add 0123456789abcdef0123456789abcdef0123456789abcdef0123456789abcdef: {"at":0,"do":"update","element":"0123456789abcdef0123456789abcdef0123456789abcdef0123456789abcdef","key":"n","op":"add"}
 update 0 n remove é "x": {"at":0,"do":"update","element":"\u00e9 \"x\"","key":"n","op":"remove"}
 update 0 n enable: {"at":0,"do":"update","key":"n","op":"enable"}
+update 0 n delete: {"at":0,"do":"update","key":"n","op":"delete"}
 update 0 n assign a now 9223372036854775807: {"at":0,"do":"update","key":"n","now":9223372036854775807,"op":"assign","text":"a"}
 update 0 n assign  now 0: {"at":0,"do":"update","key":"n","now":0,"op":"assign","text":""}
 update 0 n increment 1: {"at":0,"by":1,"do":"update","key":"n","level":"local","op":"increment"}
