@@ -1,17 +1,17 @@
 -- A prune changes nothing that is shown at its moment.
 use Rattle.std.proofs.Common.{◌≡◌, ◌≢◌, ℕ, zero, suc, ◌+◌, ◌<◌, ◌≤◌, max, List, [], ◌∷◌, ◌++◌, length, map, take, refl, sym, ap, subst, ◌∙◌, append_assoc, arith, Bool, true, false, not, ◌&&◌, ◌||◌, Option, Some, None, inl, inr}
-use Rattle.std.proofs.lemmas.Bool.{cases_eq, cases_Bool, and_parts, and_right, or_right, eq-eqb, ne_eqb, lt-leb, le-leb}
+use Rattle.std.proofs.lemmas.Bool.{cases_eq, and_parts, and_right, or_right, eq-eqb, ne_eqb, lt-leb, le-leb}
 use Rattle.std.proofs.lemmas.List.{map-append, take-append-le}
 use Rattle.std.proofs.lemmas.List.Elements.{filter_map-append}
 use Rattle.std.proofs.lemmas.List.Folds.{list_any-append}
 use Rattle.std.proofs.lemmas.List.Sums.{sum_by-append, sum_by-cons}
-use Rattle.std.specs.Prelude.{slice_get, if◌then◌else◌, ◌==◌, nat_le, sum_by, fold, find, filter, filter_map, flat_map, option_map, unwrap_or}
+use Rattle.std.specs.Prelude.{if◌then◌else◌, ◌==◌, sum_by, fold, find, filter, filter_map, flat_map, option_map, unwrap_or}
 use Rattle.std.specs.List.{list_any, range_with_len}
 use mathlib.Core.Bool.{and-true}
-use Rattle.model_history.specs.Table.{identity_limit, identities, with_at}
+use Rattle.model_history.specs.Table.{identity_limit, identities}
 use Rattle.model_history.specs.Texts.{Text, text_set}
 use Rattle.model_history.specs.Vector.{VersionVector, Covers}
-use Rattle.model_history.specs.History.{Action, Record, History, Stamped, at, versions, cut, with_record, stamped_from, all_records, precedes, IsHistory}
+use Rattle.model_history.specs.History.{Action, Record, History, Stamped, at, versions, cut, stamped_from, all_records, precedes, IsHistory}
 use Rattle.model_history.specs.History.Action.{Operation, Prune}
 use Rattle.model_history.proofs.HistoryLaws.{with_at_same, with_at_other, cut_versions}
 use Rattle.model_history.proofs.PartLaws.{take_whole, history-with_record}

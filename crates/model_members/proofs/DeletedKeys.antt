@@ -1,13 +1,13 @@
 -- A deleted key is told as deleted, and no other is.
 use Rattle.std.proofs.Common.{◌≡◌, ℕ, ◌<◌, refl, sym, ap, ◌∙◌, Bool, true, false, Option, Some, None}
-use Rattle.std.specs.Prelude.{◌↔◌, if◌then◌else◌, option_map, nat_le, length}
+use Rattle.std.specs.Prelude.{◌↔◌, if◌then◌else◌, option_map, nat_le}
 use Rattle.model_history.specs.Texts.{Text}
 use Rattle.model_history.specs.History.{Action}
 use Rattle.model_meanings.specs.Refusal.{Refusal}
 use Rattle.model_members.specs.Entry.{Entry, with_action, has_records}
 use Rattle.model_members.specs.DataType.{Replication, IsDeleted, Shows}
 use Rattle.model_members.specs.Message.Message.{Write}
-use Rattle.model_members.specs.Node.{KeyState, Node, Input, Fate, Level, Reply, Stepped, HasKey, state_of, with_entry, needed, one_step_later}
+use Rattle.model_members.specs.Node.{KeyState, Node, Input, Fate, Level, Stepped, HasKey, state_of, with_entry, needed, one_step_later}
 use Rattle.model_members.specs.Node.Reply.{Done, Deleted, WrongKind, NotStored}
 use Rattle.model_members.specs.Step.{step, value_reply, answered, opened, has_failed, member_count}
 use Rattle.model_members.proofs.Cases.{accepted, updated, updated_undeleted, updated_needing, updated_unless, got, got_needing}

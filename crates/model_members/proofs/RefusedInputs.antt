@@ -5,7 +5,7 @@ use Rattle.std.specs.List.{list_any}
 use Rattle.model_history.specs.Texts.{Text}
 use Rattle.model_history.specs.Vector.{members_of}
 use Rattle.model_meanings.specs.Refusal.{Refusal}
-use Rattle.model_members.specs.View.{View, is_member, leader}
+use Rattle.model_members.specs.View.{is_member, leader}
 use Rattle.model_members.specs.Entry.{Entry}
 use Rattle.model_members.specs.DataType.{Replication}
 use Rattle.model_members.specs.Message.{Message}

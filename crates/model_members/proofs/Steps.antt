@@ -1,19 +1,12 @@
 -- Texts that are equal, what stands at one, and steps that send nothing.
-use Rattle.std.proofs.Common.{◌≡◌, ℕ, ◌<◌, refl, ap, ◌∙◌, arith, true, false, Some, None}
-use Rattle.std.specs.Prelude.{if◌then◌else◌, option_map, nat_le, find, [], Option, Bool}
+use Rattle.std.proofs.Common.{◌≡◌, ℕ, ◌<◌, refl, ap, arith, true, Some, None}
+use Rattle.std.specs.Prelude.{if◌then◌else◌, nat_le, []}
 use Rattle.std.specs.Str.{bytes_eq}
 use Rattle.std.proofs.lemmas.Bool.Decides.{nat_tests, Decides-eqb}
 use Rattle.std.proofs.lemmas.Slice.Eq.{slice_eq-Decides}
 use Rattle.model_history.specs.Texts.{Text}
-use Rattle.model_history.specs.History.Action.{Operation}
-use Rattle.model_meanings.specs.Refusal.{Refusal}
-use Rattle.model_members.specs.Entry.{with_action}
-use Rattle.model_members.specs.DataType.{Replication}
-use Rattle.model_members.specs.Node.{KeyDecl, KeyState, Node, Input, Fate, Level, HasKey, key_state, state_of, with_entry, with_text_at, one_step_later, needed}
-use Rattle.model_members.specs.Node.Reply.{Done, UnknownKey, Deleted, WrongKind, Refused, NotStored}
+use Rattle.model_members.specs.Node.{Level, with_text_at, needed}
 use Rattle.model_members.specs.Node.{Stepped}
-use Rattle.model_members.specs.Step.{step, meaning_of, value_reply, answered, has_failed, member_count}
-use Rattle.model_members.proofs.Cases.{updated, updated_undeleted, updated_needing, updated_unless, got, got_needing}
 
 pub bytes_eq-same : (xs : Text) → bytes_eq xs xs ≡ true
 bytes_eq-same xs = (slice_eq-Decides Decides-eqb xs xs _ refl).1 refl
