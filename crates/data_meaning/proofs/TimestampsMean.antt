@@ -1,5 +1,5 @@
 -- The timestamps that the list has are those that the history means, and so is the write that wins.
-use Rattle.std.proofs.Common.{◌≡◌, ℕ, zero, suc, ◌<◌, max, List, [], ◌∷◌, length, map, Bool, true, false, cond, ◌&&◌, not, Option, None, Some, refl, ap, sym, ◌∙◌, subst, arith, if◌then◌else◌, fold, filter, find, option_map}
+use Rattle.std.proofs.Common.{◌≡◌, ℕ, zero, suc, ◌<◌, max, List, [], ◌∷◌, length, map, Bool, true, false, cond, ◌&&◌, not, Option, None, Some, refl, ap, sym, ◌∙◌, subst, arith, lt_of_lt_of_le, le_of_suc-le-suc, if◌then◌else◌, fold, filter, find, option_map}
 use Rattle.std.proofs.lemmas.List.{length-map, length-replicate}
 use Rattle.std.specs.Prelude.{slice_get, ◌==◌, unwrap_or}
 use Rattle.std.specs.List.{zip}
@@ -66,7 +66,7 @@ module _ (H : History Op) (history : IsHistory H) where
         greatest_of_some (T (cut H past)) (counted past) 0 all (λ k j at counts.
         let there = is_counted H history (stamped r) belongs (st j) (listed_in k j at) counts in
         let shorter = (earlier H history (stamped r) belongs (st j) there).shorter in
-        known.right k j at (omega arith) ∙ sym (timestamp_in_past (stamped r) belongs (st j) there))
+        known.right k j at (lt_of_lt_of_le shorter (le_of_suc-le-suc short)) ∙ sym (timestamp_in_past (stamped r) belongs (st j) there))
         ∙ ap (λ xs. greatest (map (T (cut H past)) (filter (counted past) xs))) known.listed
         ∙ ap (λ xs. greatest (map (T (cut H past)) xs)) (sym (records_of_past H past)))
         ∙ sym (timestamp_equation assigned H history (stamped r) belongs)
@@ -127,4 +127,4 @@ module _ (H : History Op) (history : IsHistory H) where
         let long : depth ≡ size H = sym (length-map records stamped) ∙ ap length spelled ∙ length-all H in
         text_means all depth known (λ k j at.
         let shorter = past_shorter H history (st j) (k, subst (λ xs. slice_get xs k ≡ Some (st j)) known.listed (slice_get-map st all k j at)) in
-        known.right k j at (omega arith))
+        known.right k j at (subst (λ (n : ℕ). size (cut H (st j).past) < n) (sym long) shorter))

@@ -1,5 +1,5 @@
 -- What the list says of an element is what the history means: which records touch it, and whether it has a live adding record.
-use Rattle.std.proofs.Common.{◌≡◌, ℕ, zero, suc, ◌<◌, List, length, map, replicate, Bool, true, false, ◌&&◌, not, Option, None, Some, refl, ap, sym, ◌∙◌, subst, arith}
+use Rattle.std.proofs.Common.{◌≡◌, ℕ, zero, suc, ◌<◌, List, length, map, replicate, Bool, true, false, ◌&&◌, not, Option, None, Some, refl, ap, sym, ◌∙◌, subst, arith, lt_of_lt_of_le, le_of_suc-le-suc}
 use Rattle.std.proofs.lemmas.List.{length-map, length-replicate}
 use Rattle.std.specs.Prelude.{slice_get, ◌==◌}
 use Rattle.std.specs.List.{list_any, zip}
@@ -83,7 +83,7 @@ module _ (e : Text) (H : History Op) (history : IsHistory H) where
       right_in_past k j at counts =
           let there = is_counted H history x belongs (st j) (listed_in k j at) counts in
           let shorter = (earlier H history x belongs (st j) there).shorter in
-          known.right k j at (omega arith) ∙ sym (touches_in_past x belongs (st j) there)
+          known.right k j at (lt_of_lt_of_le shorter (le_of_suc-le-suc short)) ∙ sym (touches_in_past x belongs (st j) there)
 
       live_in_past : (past : Numbers) → number_at past ≡ x.past → (k : ℕ) (j : Judged) → slice_get all k ≡ Some j → counted x.past (st j) ≡ true
           → listed.is_live all (Some past) e j.0 j.1 ≡ is_live_by set_operations T e (cut H x.past) (st j)
@@ -176,4 +176,4 @@ module _ (e : Text) (H : History Op) (history : IsHistory H) where
         let long : depth ≡ size H = sym (length-map records stamped) ∙ ap length spelled ∙ length-all H in
         has_live_means all depth known (λ k j at.
         let shorter = past_shorter H history (st j) (k, subst (λ xs. slice_get xs k ≡ Some (st j)) known.listed (slice_get-map st all k j at)) in
-        known.right k j at (omega arith))
+        known.right k j at (subst (λ (n : ℕ). size (cut H (st j).past) < n) (sym long) shorter))

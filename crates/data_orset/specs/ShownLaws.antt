@@ -1,5 +1,5 @@
 -- What the set shows and refuses is what its history means.
-use Rattle.std.proofs.Common.{◌≡◌, ℕ, zero, suc, ◌+◌, ◌<◌, List, [], ◌∷◌, Bool, true, false, ◌&&◌, ◌||◌, Option, None, Some, map, arith, refl, ap, sym, ◌∙◌, subst}
+use Rattle.std.proofs.Common.{◌≡◌, ℕ, zero, suc, ◌+◌, ◌<◌, List, [], ◌∷◌, Bool, true, false, ◌&&◌, ◌||◌, Option, None, Some, map, arith, refl, ap, sym, ◌∙◌, subst, lt_of_lt_of_le, le_of_suc-le-suc, lt-suc_self}
 use Rattle.std.specs.Prelude.{slice_get, filter, filter_map, if◌then◌else◌}
 use Rattle.std.specs.List.{list_any}
 use Rattle.std.specs.Str.{bytes_eq}
@@ -96,7 +96,7 @@ add_of (suc n) log e held h less i k l = go (action_of log i k) refl
     let has = in_cut log held i k l.within (let a = h.made i in let w = l.within in omega arith) in
     let again = cut_again log held (past_of log i k) (λ j. h.closed i k j l.within) in
     let shorter : size (cut log (past_of log i k)) < size (cut log held) = subst (λ (H : History Op). size H < size (cut log held)) again (past_is_shorter (cut log held) history i k (record_at log i k) has) in
-    add_of n log e (past_of log i k) (past_cut log held i k h l.within) (omega arith) r m live)
+    add_of n log e (past_of log i k) (past_cut log held i k h l.within) (lt_of_lt_of_le shorter (le_of_suc-le-suc less)) r m live)
   where
     go : (action : Action Op) → action_of log i k ≡ action
         → ((r m : ℕ) → IsLive log e (past_of log i k) r m → (o : ℕ) × (j : ℕ) × (j < past_of log i k o) × (found added (action_of log o j) ≡ Some e))
@@ -120,7 +120,7 @@ module _ (state : Dots) (log : History Op) (held : VersionVector) (gone : Identi
 
   live_added : (e : Text) (i k : ℕ) → IsLive log e held i k → contains_text (filter_map added_in (all_records (cut log held))) e ≡ true
   live_added e i k l =
-      let a = add_of (suc (size (cut log held))) log e held pruned.cut (omega arith) i k l in
+      let a = add_of (suc (size (cut log held))) log e held pruned.cut (lt-suc_self (size (cut log held))) i k l in
       let at = at_all log held pruned.cut a.0 a.1 a.2 in
       contains_found added_in e (all_records (cut log held)) at.0 (stamped log a.0 a.1) at.1 a.3
 
