@@ -1,4 +1,6 @@
-use Rattle.std.proofs.Common.{◌≡◌, ◌≢◌, ℕ, true, false, ap, sym, ◌∙◌, subst, arith, refl}
+use Rattle.std.proofs.Common.{◌≡◌, ◌≢◌, ℕ, true, false, ap, sym, ◌∙◌, subst, arith, refl, Result, Ok, Err, OnOk}
+use Rattle.std.specs.Prelude.{IsErr}
+use Rattle.std.proofs.lemmas.Bool.{false≢true}
 use mathlib.Core.Logic.{∥∥₁_elim}
 use mathlib.Core.Bool.{Bool-set}
 use Rattle.model_history.specs.Table.{with_at}
@@ -14,6 +16,17 @@ use Rattle.data_envelope.proofs.Forgetting.{forgotten_grown}
 use Rattle.data_envelope.proofs.envelope.Envelope.take.Given as given
 use Rattle.data_envelope.proofs.Opened.{same_value, same_markers}
 use Rattle.data_envelope.proofs.envelope.Envelope.take.Goals as goal
+
+-- after a refusal nothing is said of success
+refused : {X E : Type 0} (r : Result X E) (P : Type 0) → IsErr r → OnOk r P
+refused (Ok x) P e = absurd (false≢true e)
+refused (Err y) P e = tt
+
+pub returns-in_err-raise-clause-image : goal.returns-in_err-raise-clause-image
+returns-in_err-raise-clause-image g c = λ log entry records _ _ _. refused c.from_residual-in_err-raise.result _ c.from_residual-in_err-raise.ensures.0
+
+pub returns-in_err-absorb-clause-image : goal.returns-in_err-absorb-clause-image
+returns-in_err-absorb-clause-image g c = λ log entry records _ _ _. refused c.from_residual-in_err-absorb.result _ c.from_residual-in_err-absorb.ensures.0
 
 pub returns-clause-image : goal.returns-clause-image
 returns-clause-image g c =
