@@ -248,6 +248,10 @@ module _ {T K Delta : Type 0} {ghosts : Ghosts T Kind Op Delta} {keeping : Keepi
       unfolding whole_given
       at_place place less = let yes : nat_lt place 8 ≡ true = grind (arith, nat_tests) in ap (λ b. if b then true ∷ given place else []) yes
 
+      -- the clear at the start didn't fail
+      pub cleared_so : (place : ℕ) → place < length old → slice_get (whole_given place) 0 ≡ Some true
+      cleared_so place less = ap (λ answers. slice_get answers 0) (at_place place (omega (arith, less, eight)))
+
       past_places : (place : ℕ) → 8 ≤ place → whole_given place ≡ []
       unfolding whole_given
       past_places place more = let not' : nat_lt place 8 ≡ false = grind (arith, nat_tests) in ap (λ b. if b then true ∷ given place else []) not'
@@ -381,6 +385,9 @@ module _ {T K Delta : Type 0} {ghosts : Ghosts T Kind Op Delta} {keeping : Keepi
     none_others : (place : ℕ) → length old ≤ place → over place ≡ []
     none_others = others_so spelling script.members script.keys opens.keys old first eight opens.made apart opens.starts (eight_of first).0 (eight_of first).1 new last (eight_of last).0 (eight_of last).1 back given kept
 
+    all_cleared : (place : ℕ) → place < length old → slice_get (over place) 0 ≡ Some true
+    all_cleared = cleared_so spelling script.members script.keys opens.keys old first eight opens.made apart opens.starts (eight_of first).0 (eight_of first).1 new last (eight_of last).0 (eight_of last).1 back given kept
+
     all_are_kept : AreKept keeping old new
     all_are_kept = kept_over spelling script.members script.keys opens.keys old first eight opens.made apart opens.starts (eight_of first).0 (eight_of first).1 new last (eight_of last).0 (eight_of last).1 back given kept
 
@@ -445,6 +452,7 @@ module _ {T K Delta : Type 0} {ghosts : Ghosts T Kind Op Delta} {keeping : Keepi
           given = all_given;
           kept = each_kept new last back tells.given tells.kept;
           others = none_others new last back tells.given tells.kept;
+          cleared = all_cleared new last back tells.given tells.kept;
           begun = record { begun = begun; plain = λ plain. begins_one D p script.steps text' plain begun };
           whole = λ load.
               whole_report new last back tells.given tells.kept text'
@@ -461,6 +469,7 @@ module _ {T K Delta : Type 0} {ghosts : Ghosts T Kind Op Delta} {keeping : Keepi
           given = all_given;
           kept = each_kept new last back tells.given tells.kept;
           others = none_others new last back tells.given tells.kept;
+          cleared = all_cleared new last back tells.given tells.kept;
           begun = tt;
           whole = λ load.
               whole_summary new last back tells.given tells.kept plain text'

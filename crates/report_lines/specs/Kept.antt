@@ -2,7 +2,7 @@
 --     IsRunOver        the text tells of the run, tied to the keepers place by place
 --     IsReportOver, IsSummaryOver        it is the report of the run, or its final block alone
 --     IsPlayed        how a run ended, and what every end leaves of the keepers
-use Rattle.std.specs.Prelude.{◌≡◌, ℕ, ◌<◌, ◌≤◌, List, [], length, get_or, true, Option, Some, IsSome, find, option_map, All, Any, ◌⊎◌, string_bytes}
+use Rattle.std.specs.Prelude.{◌≡◌, ℕ, ◌<◌, ◌≤◌, List, [], length, get_or, true, Option, Some, IsSome, find, option_map, slice_get, All, Any, ◌⊎◌, string_bytes}
 use Rattle.std.specs.Str.{bytes_eq}
 use Rattle.model_history.specs.Texts.{Text}
 use Rattle.model_history.specs.History.{History}
@@ -96,6 +96,8 @@ module _ (data_type : DataType Kind Op Shown) (history_byte : Kind → History O
     pub given : Given
     pub kept : AtEachPlace (λ place. Keeps keeping (given place)) old new
     pub others : (place : ℕ) → length old ≤ place → given place ≡ []
+    -- the first answer of each is to the clear at the start, which did not fail
+    pub cleared : (place : ℕ) → place < length old → slice_get (given place) 0 ≡ Some true
     pub begun : begins (answers_by given) script text
     pub whole : LoadWhatTheyTook keeping script old → tells given script old new text
 

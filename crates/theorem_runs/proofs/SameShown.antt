@@ -43,7 +43,7 @@ module _ {Kind Op Shown : Type 0} (D : Replication Kind Op Shown) where
   shown_by_history a b decl same = ap (λ (H : History Op). if list_any (λ i. nat_lt 0 (at H i)) identities then Some (D.data_type.shown decl.kind H) else None) same
 
   -- and so is what it means
-  means_by_history : (a b : Node Kind Op Shown) (decl : KeyDecl Kind) → (a.entries decl.name).history ≡ (b.entries decl.name).history → meaning_of D (state_of a decl) ≡ meaning_of D (state_of b decl)
+  pub means_by_history : (a b : Node Kind Op Shown) (decl : KeyDecl Kind) → (a.entries decl.name).history ≡ (b.entries decl.name).history → meaning_of D (state_of a decl) ≡ meaning_of D (state_of b decl)
   means_by_history a b decl same = ap (λ (H : History Op). if list_any (λ i. nat_lt 0 (at H i)) identities then Some (meaning D.data_type decl.kind H) else None) same
 
   -- the reply to a local get, by the key's declaration

@@ -311,6 +311,53 @@ module _ {Kind Op Shown : Type 0} (D : Replication Kind Op Shown) where
             as_many = length-append first.more here.more ∙ ap (λ n. n + length here.more) first.as_many ∙ ap (λ n. one_if (is_command_of c m) + n) here.as_many ∙ sym (sum_by-cons (λ x. one_if (is_command_of c x)) m ms);
           }
 
+    -- the move by which a command came
+    record Came (s : Section Kind Op Shown) (ms : List Move) (c k : ℕ) : Type 0 where
+      early : List Move
+      rest : List Move
+      way : ms ≡ early ++ NextCommand c ∷ rest
+      client : Client Op Shown
+      its : slice_get (moved_all D s early).clients c ≡ Some client
+      count : length client.made ≡ k
+
+    came_later : (s : Section Kind Op Shown) (m : Move) (ms : List Move) (c k : ℕ) → Came (moved D s m) ms c k → Came s (m ∷ ms) c k
+    came_later s m ms c k h = record { early = m ∷ h.early; rest = h.rest; way = ap (λ xs. m ∷ xs) h.way; client = h.client; its = h.its; count = h.count }
+
+    came_by : (c : ℕ) (commands : List (Command Op)) (s : Section Kind Op Shown) (ms : List Move) (client : Client Op Shown) → may_all_come D s ms ≡ true → Has c commands s client → (k : ℕ) → length client.made ≤ k
+        → (last : Client Op Shown) → slice_get (moved_all D s ms).clients c ≡ Some last → k < length last.made → Came s ms c k
+    came_by c commands s [] client may h k low last its high =
+        let same : Some client ≡ Some last = sym h.its ∙ its in
+        let one : client ≡ last = cc same in
+        let n : length client.made ≡ length last.made = ap (λ (x : Client Op Shown). length x.made) one in
+        absurd (omega (arith, low, high, n))
+    came_by c commands s (m ∷ ms) client may h k low last its high =
+        by m refl (is_command_of c m) refl (move_makes c commands s m client (first_true (may_come s m) (may_all_come D (moved D s m) ms) may) h)
+        (λ after has h'. came_by c commands (moved D s m) ms after (second_true (may_come s m) (may_all_come D (moved D s m) ms) may) has k h' last its high)
+      where
+        Further : Type 0
+        Further = (after : Client Op Shown) → Has c commands (moved D s m) after → length after.made ≤ k → Came (moved D s m) ms c k
+
+        its_command : (x : Move) → m ≡ x → is_command_of c x ≡ true → m ≡ NextCommand c
+        its_command (NextCommand d) is e = is ∙ ap NextCommand (same_number d c e)
+        its_command (NextMessage from to) is e = absurd (cc e)
+        its_command (ItsTimeout d) is e = absurd (cc e)
+
+        by : (x : Move) → m ≡ x → (b : Bool) → is_command_of c m ≡ b → HasMore c commands (moved D s m) client (one_if c commands (is_command_of c m)) → Further → Came s (m ∷ ms) c k
+        by x is false e more further =
+            let longer = ap length more.made ∙ length-append client.made more.more in
+            let none : length more.more ≡ 0 = more.as_many ∙ ap (one_if c commands) e in
+            came_later s m ms c k (further more.after more.has (omega (arith, low, longer, none)))
+        by x is true e more further = elim (same_or_not (length client.made) k) [
+          | inl here ↦ record { early = []; rest = ms; way = ap (λ y. y ∷ ms) (its_command m refl e); client = client; its = h.its; count = here }
+          | inr isnt ↦
+              let longer = ap length more.made ∙ length-append client.made more.more in
+              let one : length more.more ≡ 1 = more.as_many ∙ ap (one_if c commands) e in
+              came_later s m ms c k (further more.after more.has (above longer one isnt))
+        ]
+          where
+            above : length more.after.made ≡ length client.made + length more.more → length more.more ≡ 1 → length client.made ≢ k → length more.after.made ≤ k
+            above longer one isnt = ⊎_elim (λ (less : length client.made < k). omega (arith, less, longer, one)) (λ h'. absurd (isnt (omega (arith, h', low)))) (cases_lt (length client.made) k)
+
   -- nobody joins a section
   none_by_move : (c : ℕ) (s : Section Kind Op Shown) (m : Move) → slice_get s.clients c ≡ None → slice_get (moved D s m).clients c ≡ None
   none_by_move c s m none =
@@ -364,6 +411,12 @@ module _ {Kind Op Shown : Type 0} (D : Replication Kind Op Shown) where
 
       made_once : count_by (is_command_of c) moves ≡ length commands
       made_once = sym at_end.as_many ∙ sym (ap length at_end.made) ∙ sym (map_length (λ (m : Made Op Shown). m.line.head) at_end.after.made) ∙ ap length heads_at_end ∙ map_length (λ (command : Command Op). Asked command.at command.ask) commands
+
+      -- each command came at a moment
+      came_at : (k : ℕ) (last : Client Op Shown) (made : Made Op Shown) → slice_get end.clients c ≡ Some last → slice_get last.made k ≡ Some made → (here : Section Kind Op Shown) × (client : Client Op Shown) × ComesAt D before clients moves c here client × (length client.made ≡ k)
+      came_at k last made its there =
+          let came = came_by members keys c commands first moves (new_client commands) section.lawful has_first k (omega arith) last (subst (λ (s : Section Kind Op Shown). slice_get s.clients c ≡ Some last) section.leads its) (get_below last.made k made there) in
+          (moved_all D first came.early, came.client, record { early = came.early; rest = came.rest; way = came.way; is = refl; its = came.its }, came.count)
 
     -- when a command comes
     module _ (c : ℕ) (here : Section Kind Op Shown) (client : Client Op Shown) (comes : ComesAt D before clients moves c here client) where
@@ -441,10 +494,21 @@ module _ {Kind Op Shown : Type 0} (D : Replication Kind Op Shown) where
           let one : later_made.after ≡ last = cc same in
           (later_made.more, sym (ap (λ (x : Client Op Shown). x.made) one) ∙ later_made.made)
 
+    -- whose ever it is
+    came_of : (c k : ℕ) (last : Client Op Shown) (made : Made Op Shown) → slice_get end.clients c ≡ Some last → slice_get last.made k ≡ Some made → (here : Section Kind Op Shown) × (client : Client Op Shown) × ComesAt D before clients moves c here client × (length client.made ≡ k)
+    came_of c k last made its there = by (slice_get clients c) refl
+      where
+        by : (o : Option (List (Command Op))) → slice_get clients c ≡ o → (here : Section Kind Op Shown) × (client : Client Op Shown) × ComesAt D before clients moves c here client × (length client.made ≡ k)
+        by None is =
+            let none = none_by_moves c first moves (get_none new_client clients c is) in
+            absurd (let e = sym (ap (λ (s : Section Kind Op Shown). slice_get s.clients c) section.leads ∙ none) ∙ its in cc e)
+        by (Some commands) is = came_at c commands is k last made its there
+
     pub calls_stand_once : CallsStandOnce D before clients moves end
     calls_stand_once = record {
       once = λ c commands get. made_once c commands get;
       told = λ c commands get. ((at_end c commands get).after, (at_end c commands get).has.its, heads_at_end c commands get);
+      came = λ c k last made its there. came_of c k last made its there;
       may = λ c here client comes. may_there c here client comes;
       seen = λ c here client comes. seen_there c here client comes;
       first = λ c here client last comes its. first_there c here client comes last its;

@@ -179,6 +179,7 @@ module _ {Kind Op Shown : Type 0} (D : Replication Kind Op Shown) where
     pub step : RunStep Op
     pub told : List (Line Op Shown)
     pub ok : IsRunStep step
+    pub step_is : slice_get steps n ≡ Some step
     pub goes : Plays D p step told q
     pub p_is : stands_before D first steps lines last plays n ≡ p
     pub q_is : stands_before D first steps lines last plays (suc n) ≡ q
@@ -196,6 +197,7 @@ module _ {Kind Op Shown : Type 0} (D : Replication Kind Op Shown) where
         step = s;
         told = plays.0;
         ok = ok.0;
+        step_is = refl;
         goes = plays.3;
         p_is = refl;
         q_is = before_zero plays.2 steps plays.1 last plays.4;
@@ -204,7 +206,7 @@ module _ {Kind Op Shown : Type 0} (D : Replication Kind Op Shown) where
       }
   step_at first (s ∷ steps) lines last plays ok (suc n) given e =
       let more = step_at plays.2 steps plays.1 last plays.4 ok.1 n given (ap (λ ls. slice_get ls (suc n)) (sym plays.5) ∙ e) in
-      record { p = more.p; q = more.q; step = more.step; told = more.told; ok = more.ok; goes = more.goes; p_is = more.p_is; q_is = more.q_is; told_is = more.told_is; stands = more.stands }
+      record { p = more.p; q = more.q; step = more.step; told = more.told; ok = more.ok; step_is = more.step_is; goes = more.goes; p_is = more.p_is; q_is = more.q_is; told_is = more.told_is; stands = more.stands }
 
   -- A COMMAND WHOSE LINE STANDS THERE
 

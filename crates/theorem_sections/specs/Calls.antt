@@ -35,6 +35,9 @@ module _ {Kind Op Shown : Type 0} (D : Replication Kind Op Shown) (before : Play
     -- each command has a line, in the client's order
     pub told : (c : ℕ) (commands : List (Command Op)) → slice_get clients c ≡ Some commands
         → (client : Client Op Shown) × (slice_get end.clients c ≡ Some client) × (made_heads client.made ≡ asked_heads commands)
+    -- each of them came at a moment, when the client had made those before it
+    pub came : (c k : ℕ) (at_end : Client Op Shown) (made : Made Op Shown) → slice_get end.clients c ≡ Some at_end → slice_get at_end.made k ≡ Some made
+        → (here : Section Kind Op Shown) × (client : Client Op Shown) × ComesAt c here client × (length client.made ≡ k)
     -- when a command comes, what the client's last one sent was heard, and what it waited for has ended, as far as a client may know
     pub may : (c : ℕ) (here : Section Kind Op Shown) (client : Client Op Shown) → ComesAt c here client → goes_on here (last_of client.made) ≡ true
     -- and what the report tells of the client's earlier commands is what stands then

@@ -31,7 +31,7 @@ pub fn plain_scripts_have_one_report<Kind, Operation, Shown>()
 {}
 
 /// Each call of a client stands once in a section, after all that its caller had seen.
-/// - A client's commands come as often as it has them, and each has a line, in the client's order.
+/// - A client's commands come as often as it has them, each at its moment, and each has a line, in the client's order.
 /// - When one comes, what the last one sent was heard, as far as the definition of a section asks, and it has ended.
 /// - What the report tells of the earlier ones is what stands then: so whatever a line tells had come about before the
 ///   client's next command.

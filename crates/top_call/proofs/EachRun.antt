@@ -25,7 +25,7 @@ use Rattle.theorem_settling_kinds.proofs.SixKindsBlocked.{six_stay}
 use Rattle.report_lines.proofs.SectionEnds.{all_quiet}
 use Rattle.top_call.specs.EachRun.{Lines, SettlesAreSo, TellsSettle, IsSeen, ReadsIncludeWrites, settle_told, six}
 
-six_stays : BlockedStays six
+pub six_stays : BlockedStays six
 six_stays = λ kind owner r other entry apart. six_stay kind owner r other entry
 
 -- STEPS IN TWO PARTS
@@ -69,7 +69,7 @@ module _ (answers : KeeperAnswers) (members : ℕ) (keys : List (KeyDecl Kind)) 
             leaves_settled six members keys p is_run messages blocked answer (distinct_tell six history_byte history_spelled refl members keys (settle six p).events (settle six p).world ends distinct) six_stays;
       }
 
-  pub tells_settle : (front rest : List (RunStep Op)) → AllByRecursion IsRunStep front → (lines : Lines) (last : Playing Kind Op Shown) → PlaysAll six (opening answers members keys) (front ++ RunStep.Plain ScriptStep.Settle ∷ rest) lines last → TellsSettle members keys answers front lines
+  pub tells_settle : (front rest : List (RunStep Op)) → AllByRecursion IsRunStep front → (lines : Lines) (last : Playing Kind Op Shown) → PlaysAll six (opening answers members keys) (front ++ RunStep.Plain ScriptStep.Settle ∷ rest) lines last → TellsSettle members keys answers front rest lines last
   tells_settle front rest ok lines last plays =
       let parts = in_two (opening answers members keys) last front (RunStep.Plain ScriptStep.Settle ∷ rest) lines plays in
       let quiet = all_quiet six answers (opening answers members keys) parts.mid front parts.early parts.first (refl, refl) in
@@ -81,6 +81,7 @@ module _ (answers : KeeperAnswers) (members : ℕ) (keys : List (KeyDecl Kind)) 
         p = parts.mid;
         plays = parts.first;
         told = parts.are ∙ ap (λ (ls : Lines). parts.early ++ ls) (parts.then.5 ∙ ap (λ (l : List (Line Op Shown)). l ∷ parts.then.1) (parts.then.3.0 ∙ line));
+        goes_on = subst (λ (q : Playing Kind Op Shown). PlaysAll six q rest parts.then.1 last) parts.then.3.1 parts.then.4;
         so = settles_are_so front ok parts.early parts.mid parts.first;
       }
 

@@ -3,3 +3,4 @@ pub mod Counts
 pub mod EachRun
 pub mod Refusals
 pub mod Settles
+pub mod Headline

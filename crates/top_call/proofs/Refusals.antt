@@ -11,7 +11,7 @@ use Rattle.script_generated.specs.Generated.{generated_script}
 use Rattle.report_lines.specs.Kept.{IsPlayed}
 use Rattle.report_lines.specs.declared.playing.Ending.{Ending}
 use Rattle.report_lines.specs.declared.playing.Ending.TheVariants as ending
-use Rattle.top_call.specs.Answers.{ReadsScript, HasScript, IsReportOver, IsSummaryOver, Fulfils, IsRun}
+use Rattle.top_call.specs.Answers.{ReadsScript, HasScript, IsReportOver, IsSummaryOver, Fulfils, AsksForRun}
 use Rattle.top_call.specs.Due.{IsUnread, IsFaultDue, IsRefusal, IsToldBy, IsScriptDue, IsDueFor}
 use Rattle.top_call.specs.Passages.{Passage}
 use Rattle.top_call.specs.declared.due.Due.{Due}
@@ -69,7 +69,7 @@ module _ {K : Type 0} (keeping : Keeping K) where
   refusal_due clients read keepers Memory h = tt
 
   -- a run that ended is due, for what asks for one
-  ended_due : (asked : Asked) (read : Passage) (IsOver : Script → List K → List K → List ℕ → Type 0) (script : Script) (before after : List K) (end : Ending) (due : Due) → IsRun asked read
+  ended_due : (asked : Asked) (read : Passage) (IsOver : Script → List K → List K → List ℕ → Type 0) (script : Script) (before after : List K) (end : Ending) (due : Due) → AsksForRun asked read
       → ((text : List ℕ) → IsOver script before after text → Fulfils keeping asked read before after text) → IsDueFor keeping asked read before after Memory → IsPlayed keeping IsOver script before after end → IsToldBy end due → IsDueFor keeping asked read before after due
   ended_due asked read IsOver script before after (ending.Told text) (Fulfilled told) run fulfils none played h = fulfils (string_bytes told) (subst (λ t. IsOver script before after (string_bytes t)) (sym h) played.ends)
   ended_due asked read IsOver script before after (ending.Told text) (NotCleared told) run fulfils none played h = absurd h

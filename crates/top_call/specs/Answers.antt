@@ -70,10 +70,10 @@ abbrev pub not_cleared_text : ℕ → List ℕ
 not_cleared_text place = codes "store failed at " ++ decimal place ++ codes "\n"
 
 -- What is asked for is a script's run: of the one that was read, or of a generated one.
-abbrev pub IsRun : Asked → Passage → Type 0
-IsRun (Report clients) read = (script : Script) × HasScript clients read script
-IsRun (Generate n) read = ⊥
-IsRun (Summarize n) read = Unit {0}
+abbrev pub AsksForRun : Asked → Passage → Type 0
+AsksForRun (Report clients) read = (script : Script) × HasScript clients read script
+AsksForRun (Generate n) read = ⊥
+AsksForRun (Summarize n) read = Unit {0}
 
 module _ {K : Type 0} (keeping : Keeping K) where
   -- What the settles of a script's run tell is so, and they leave settled worlds, where digests tell apart what members have. The keepers gave these answers.
@@ -116,7 +116,7 @@ module _ {K : Type 0} (keeping : Keeping K) where
   -- A script's run was asked for, and the keeper of a place failed to be cleared for it; this text says so.
   pub record CannotClear (asked : Asked) (read : Passage) (before after : List K) (text : List ℕ) : Type 0 where
     pub place : ℕ
-    pub run : IsRun asked read
+    pub run : AsksForRun asked read
     pub failed : IsNotCleared keeping place before after
     pub told : text ≡ not_cleared_text place
 

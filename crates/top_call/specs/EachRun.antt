@@ -4,8 +4,9 @@
 --     ReadsIncludeWrites        what a majority read shows includes the majority writes whose success was seen
 use Rattle.std.specs.Prelude.{◌≡◌, ◌≢◌, ℕ, ◌*◌, ◌-◌, ◌≤◌, List, [], ◌∷◌, ◌++◌, length, None, Some}
 use Rattle.std.specs.List.{AllByRecursion}
-use Rattle.model_members.specs.DataType.{Replication}
-use Rattle.model_members.specs.Node.{KeyDecl, Finished, Reply, Result}
+use Rattle.model_members.specs.DataType.{Replication, Meaning}
+use Rattle.model_members.specs.Node.{KeyDecl, Finished, Reply}
+use Rattle.model_members.specs.Step.{value_reply, read_result}
 use Rattle.model_members.specs.Script.{KeeperAnswers, Playing, Answer, Head, opening, settle}
 use Rattle.model_members.specs.World.{Event, start, happens}
 use Rattle.model_kinds.specs.SixKinds.{six_kinds}
@@ -41,13 +42,14 @@ module _ (members : ℕ) (keys : List (KeyDecl Kind)) where
     pub settled : (messages blocked : ℕ) → settle_answer six p ≡ Answer.Settled messages blocked
         → DistinctDigests six history_byte history_spelled (start members keys) (settle six p).events → IsSettled six (settle six p).world
 
-  -- behind the lines of these steps of a run stands the line of a settle, and what it tells is so
-  pub record TellsSettle (answers : KeeperAnswers) (front : List (RunStep Op)) (lines : Lines) : Type 0 where
+  -- behind the lines of these steps of a run stands the line of a settle, what it tells is so, and the run goes on from it
+  pub record TellsSettle (answers : KeeperAnswers) (front rest : List (RunStep Op)) (lines : Lines) (last : Playing Kind Op Shown) : Type 0 where
     pub early : Lines
     pub late : Lines
     pub p : Playing Kind Op Shown
     pub plays : PlaysAll six (opening answers members keys) front early p
     pub told : lines ≡ early ++ (settle_told p ∷ []) ∷ late
+    pub goes_on : PlaysAll six (record (settle six p) { lines = [] }) rest late last
     pub so : SettlesAreSo p
 
   -- ---- majority reads
@@ -64,8 +66,8 @@ module _ (members : ℕ) (keys : List (KeyDecl Kind)) where
   pub record ReadsIncludeWrites (events : List (Event Op)) : Type 0 where
     pub at_once : (r : WriteThenRead Op) (rest : List (Event Op)) → IsSeen events r rest
         → (reply : Reply Shown) → reply_in six (at_read six members keys r) (read_event r) ≡ Some reply → ((op : ℕ) → reply ≢ Reply.Pending op)
-        → (shown : Shown) × (reply ≡ Reply.Value shown) × ShowsWrite six members keys r (happens six (at_read six members keys r) (read_event r)) shown
+        → (means : Meaning Shown) × (reply ≡ value_reply six (Some means)) × ShowsWrite six members keys r (happens six (at_read six members keys r) (read_event r)) means
     pub later : (r : WriteThenRead Op) (event : Event Op) (rest : List (Event Op)) → IsSeen events r (event ∷ rest)
         → (op : ℕ) → reply_in six (at_read six members keys r) (read_event r) ≡ Some (Reply.Pending op)
         → (end : Finished Shown) → Finishes six (at_end six members keys r) event r.reader end → end.op ≡ op
-        → (shown : Shown) × (end.result ≡ Result.ReadValue shown) × ShowsWrite six members keys r (happens six (at_end six members keys r) event) shown
+        → (means : Meaning Shown) × (end.result ≡ read_result six (Some means)) × ShowsWrite six members keys r (happens six (at_end six members keys r) event) means

@@ -1,3 +1,9 @@
+ghost use Rattle.data_value.specs.Spelled.{byte_of, history_spelled};
+ghost use Rattle.model_history.specs.Texts.{Text};
+ghost use Rattle.model_kinds.specs.ShownText.{shown_text};
+ghost use Rattle.model_members.specs.World.{start};
+ghost use Rattle.theorem_digests.specs.Digests.{DistinctDigests};
+ghost use Rattle.theorem_headline.specs.Headline.{TheHeadline};
 ghost use Rattle.std.specs.Prelude.{◌≤◌, ◌++◌, ◌∷◌, ℕ, List};
 ghost use Rattle.std.specs.List.{AllByRecursion};
 ghost use Rattle.model_history.specs.Table.{identity_limit};
@@ -6,8 +12,18 @@ ghost use Rattle.model_kinds.specs.declared.operation.Op.{Op};
 ghost use Rattle.model_kinds.specs.declared.shown.Shown.{Shown};
 ghost use Rattle.model_members.specs.Node.{KeyDecl};
 ghost use Rattle.model_members.specs.Script.{KeeperAnswers, Playing, ScriptStep, opening};
-ghost use Rattle.theorem_sections.specs.Runs.{RunStep, IsRunStep, PlaysAll};
+ghost use Rattle.theorem_sections.specs.Runs.{RunStep, IsRunStep, PlaysAll, HasReport};
 ghost use Rattle.top_call.specs.EachRun.{Lines, SettlesAreSo, TellsSettle, ReadsIncludeWrites, six};
+
+/// The headline: all that holds of each run whose report the program may write, over the six kinds and the SHA-1 of
+/// spellings, whatever the keepers answer and whatever the schedule is. The clauses of `replicate` give its premise: with
+/// status 0 the text is such a report.
+pub fn the_headline()
+    ensures { (answers : KeeperAnswers) (members : ℕ) (keys : List (KeyDecl Kind)) (steps : List (RunStep Op)) (text : Text)
+        → 1 ≤ members → members ≤ identity_limit → AllByRecursion IsRunStep steps
+        → (report : HasReport six shown_text answers members keys steps text)
+        → TheHeadline six answers members keys steps report.lines report.last report.plays (DistinctDigests six byte_of history_spelled (start members keys)) }
+{}
 
 /// What a settle of a script that may have clients tells is so, whatever the schedule and whatever the keepers answer.
 /// - A settle that tells that it is done sent at most 12 messages for each member of the last view but the leader, and its
@@ -23,7 +39,7 @@ pub fn settles_of_runs_are_so()
     ensures told { (answers : KeeperAnswers) (members : ℕ) (keys : List (KeyDecl Kind)) (front rest : List (RunStep Op))
         → 1 ≤ members → members ≤ identity_limit → AllByRecursion IsRunStep front
         → (lines : Lines) (last : Playing Kind Op Shown) → PlaysAll six (opening answers members keys) (front ++ RunStep.Plain ScriptStep.Settle ∷ rest) lines last
-        → TellsSettle members keys answers front lines }
+        → TellsSettle members keys answers front rest lines last }
 {}
 
 /// In a run of a script that may have clients, whatever the schedule and whatever the keepers answer: while membership stays

@@ -9,7 +9,7 @@ mod status;
 mod top;
 mod words;
 
-pub use laws::{reads_of_runs_include_writes, settles_of_runs_are_so};
+pub use laws::{reads_of_runs_include_writes, settles_of_runs_are_so, the_headline};
 pub use status::Status;
 pub use top::{Outcome, replicate, replicate_plain};
 pub use words::Asked;

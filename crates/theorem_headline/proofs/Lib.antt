@@ -1,0 +1,2 @@
+pub mod HeadlineOfRuns
+pub mod WorkedHeadline
