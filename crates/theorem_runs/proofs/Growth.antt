@@ -3,7 +3,7 @@ use Rattle.std.proofs.Common.{◌≡◌, ℕ, zero, suc, ◌≤◌, List, [], �
 use Rattle.std.specs.Prelude.{slice_get, ⊤}
 use Rattle.std.proofs.lemmas.Bool.Decides.{eqb_tells}
 use Rattle.model_history.specs.Texts.{Text}
-use Rattle.model_history.specs.History.{Record, History, at, continued, union, with_record, HasRecord, IsPartOf}
+use Rattle.model_history.specs.History.{Record, History, at, continued, union, HasRecord, IsPartOf}
 use Rattle.model_history.proofs.HistoryLaws.{with_at_same, with_at_other, append_nothing, slice_get-take}
 use Rattle.model_history.proofs.PartLaws.{take_front, take_whole, part_trans, part-le, part_with_record}
 use Rattle.model_history.proofs.PruneLaws.{IsIn}

@@ -1,6 +1,6 @@
-ghost use Rattle.std.specs.Prelude.{◌≡◌, ◌≤◌, ℕ, List};
+ghost use Rattle.std.specs.Prelude.{◌≡◌, ◌≤◌, ℕ, List, true};
 ghost use Rattle.std.specs.List.{AllByRecursion};
-ghost use Rattle.model_history.specs.History.{History};
+ghost use Rattle.model_history.specs.History.{History, IsPartOf};
 ghost use Rattle.model_history.specs.Table.{identity_limit};
 ghost use Rattle.model_history.specs.Texts.{Text};
 ghost use Rattle.model_members.specs.DataType.{Replication};
@@ -92,4 +92,12 @@ pub fn same_taken_same_shown<Kind, Operation, Shown>()
         → (step D a (Input.Get key Level.Local) fate).output.reply ≡ (step D b (Input.Get key Level.Local) fate).output.reply }
     ensures shown { (D : Replication Kind Operation Shown) (members : ℕ) (keys : List (KeyDecl Kind)) (events : List (Event Operation)) (world : World Kind Operation Shown) → IsRun D members keys events world
         → (i j : ℕ) (a b : Node Kind Operation Shown) (key : KeyDecl Kind) → AreRunning world i j a b → HaveTakenAsMany key.name a b → shown_of D (state_of a key) ≡ shown_of D (state_of b key) }
+{}
+
+/// No step of a member loses a record that it has taken. So a deleted key stays deleted there, where histories that hold one
+/// with a delete are deleted (`model_kinds::deletes_win`).
+pub fn nothing_is_lost<Kind, Operation, Shown>()
+    ensures records { (D : Replication Kind Operation Shown) (node : Node Kind Operation Shown) (input : Input Operation) (fate : Fate) (key : Text) → IsPartOf (node.entries key).history ((step D node input fate).node.entries key).history }
+    ensures deleted { (D : Replication Kind Operation Shown) → ((H J : History Operation) → IsPartOf H J → D.data_type.deleted H ≡ true → D.data_type.deleted J ≡ true)
+        → (node : Node Kind Operation Shown) (input : Input Operation) (fate : Fate) (key : Text) → D.data_type.deleted (node.entries key).history ≡ true → D.data_type.deleted ((step D node input fate).node.entries key).history ≡ true }
 {}
