@@ -304,9 +304,12 @@ module _ {Kind Op Shown : Type 0} (D : Replication Kind Op Shown) (answers : Kee
 
     answered_now : ((op : ℕ) → reply ≢ Reply.Pending op) → (means : Meaning Shown) × (reply ≡ value_reply D (Some means)) × IncludesUpdate D answers members keys steps r r.get line means
     answered_now never =
-        let shows = theorem.at_once D members keys run_now (unchanged r r.get u here made_now.fate [] [] way_now) reply replied_now never in
-        (shows.0, shows.1, includes r r.get u here made_now.fate [] [] way_now line [] get_now [] shows.0 (subst (λ es. so_far (suc r.get) ≡ es ++ get_now ∷ []) no_more made_now.events)
-        (subst (λ es. output_lines D line.head (output_of D (run D first es) get_now) ≡ line ∷ []) no_more told_now) (happens D (at_read D members keys run_now) get_now) (subst (λ es. run D first (es ++ get_now ∷ []) ≡ happens D (at_read D members keys run_now) get_now) no_more ending_now) shows.2)
+        let shows = theorem.at_once D members keys run_now (unchanged r r.get u here made_now.fate [] [] way_now) reply replied_now never in (
+          shows.0,
+          shows.1,
+          includes r r.get u here made_now.fate [] [] way_now line [] get_now [] shows.0 (subst (λ es. so_far (suc r.get) ≡ es ++ get_now ∷ []) no_more made_now.events)
+              (subst (λ es. output_lines D line.head (output_of D (run D first es) get_now) ≡ line ∷ []) no_more told_now) (happens D (at_read D members keys run_now) get_now) (subst (λ es. run D first (es ++ get_now ∷ []) ≡ happens D (at_read D members keys run_now) get_now) no_more ending_now) shows.2,
+        )
 
   -- A GET WHOSE OPERATION FINISHES LATER
 

@@ -3,12 +3,12 @@
 --     step_tells_lines        all lines of a step do
 --     input_made        an input that is answered with a reply is one event
 use Rattle.std.proofs.Common.{Bool, true, false, ◌≡◌, ℕ, zero, suc, ◌+◌, List, [], ◌∷◌, ◌++◌, length, refl, sym, ap, subst, ◌∙◌, Option, Some, None, inl, inr, append_assoc}
-use Rattle.std.specs.Prelude.{⊤, if◌then◌else◌, slice_get, nat_lt, not, is_some, option_map, fold}
+use Rattle.std.specs.Prelude.{⊤, if◌then◌else◌, nat_lt, not, is_some, option_map, fold}
 use Rattle.std.specs.List.{range_with_len}
 use Rattle.model_history.specs.Table.{identity_limit}
 use Rattle.model_history.proofs.HistoryLaws.{append_nothing}
 use Rattle.model_history.proofs.PruneLaws.{IsIn, in_append}
-use Rattle.model_members.specs.View.{View, identities_of, is_member, is_taken, place_of}
+use Rattle.model_members.specs.View.{identities_of, is_member, is_taken, place_of}
 use Rattle.model_members.specs.DataType.{Replication}
 use Rattle.model_members.specs.Message.{Message}
 use Rattle.model_members.specs.Node.{KeyDecl, Input, Fate, Output, Reply}
