@@ -26,7 +26,7 @@ use Rattle.theorem_sections.proofs.Sectioned.{Runs, moved_runs, moved_all_runs}
 
 -- LISTS
 
-at_index : {X : Type 0} (p : X → Bool) (xs : List X) (k : ℕ) (x : X) → list_all p xs ≡ true → slice_get xs k ≡ Some x → p x ≡ true
+pub at_index : {X : Type 0} (p : X → Bool) (xs : List X) (k : ℕ) (x : X) → list_all p xs ≡ true → slice_get xs k ≡ Some x → p x ≡ true
 at_index p [] k x all e = absurd (cc e)
 at_index p (y ∷ xs) zero x all e = let same : y ≡ x = cc e in subst (λ z. p z ≡ true) same (first_true (p y) (list_all p xs) all)
 at_index p (y ∷ xs) (suc k) x all e = at_index p xs k x (second_true (p y) (list_all p xs) all) e
@@ -36,7 +36,7 @@ map_same f g [] h = refl
 map_same f g (x ∷ xs) h = ap (λ y. y ∷ map f xs) (h zero x refl) ∙ ap (λ ys. g x ∷ ys) (map_same f g xs (λ k y e. h (suc k) y e))
 
 -- an item of a list and one more
-pushed_at : {X : Type 0} (xs : List X) (y : X) (k : ℕ) (x : X) → slice_get (xs ++ y ∷ []) k ≡ Some x → (slice_get xs k ≡ Some x) ⊎ ((k ≡ length xs) × (y ≡ x))
+pub pushed_at : {X : Type 0} (xs : List X) (y : X) (k : ℕ) (x : X) → slice_get (xs ++ y ∷ []) k ≡ Some x → (slice_get xs k ≡ Some x) ⊎ ((k ≡ length xs) × (y ≡ x))
 pushed_at [] y zero x e = inr (refl, (let same : y ≡ x = cc e in same))
 pushed_at [] y (suc k) x e = absurd (cc e)
 pushed_at (z ∷ xs) y zero x e = inl e
@@ -48,7 +48,7 @@ get_below (y ∷ xs) zero x e = omega arith
 get_below (y ∷ xs) (suc k) x e = let a = get_below xs k x e in omega (arith, a)
 
 -- the last one
-last_at : {X : Type 0} (xs : List X) (k : ℕ) (x : X) → slice_get xs k ≡ Some x → length xs ≤ suc k → last_of xs ≡ Some x
+pub last_at : {X : Type 0} (xs : List X) (k : ℕ) (x : X) → slice_get xs k ≡ Some x → length xs ≤ suc k → last_of xs ≡ Some x
 last_at [] k x e h = absurd (cc e)
 last_at (y ∷ []) zero x e h = e
 last_at (y ∷ []) (suc k) x e h = absurd (cc e)
@@ -66,11 +66,11 @@ get_none f [] c none = refl
 get_none f (x ∷ xs) zero none = absurd (cc none)
 get_none f (x ∷ xs) (suc c) none = get_none f xs c none
 
-either : (a b : Bool) → (a || b) ≡ true → (a ≡ true) ⊎ (b ≡ true)
+pub either : (a b : Bool) → (a || b) ≡ true → (a ≡ true) ⊎ (b ≡ true)
 either true b e = inl refl
 either false b e = inr e
 
-not_true : (b : Bool) → not b ≡ true → b ≡ false
+pub not_true : (b : Bool) → not b ≡ true → b ≡ false
 not_true true e = absurd (cc e)
 not_true false e = refl
 

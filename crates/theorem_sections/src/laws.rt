@@ -13,6 +13,7 @@ ghost use Rattle.theorem_sections.specs.Queues.{sent, Waits, IsDue};
 ghost use Rattle.theorem_sections.specs.Paths.{PathsHaveSections};
 ghost use Rattle.theorem_sections.specs.Knowing.{KnownPathsArePaths};
 ghost use Rattle.theorem_sections.specs.Calls.{CallsStandOnce};
+ghost use Rattle.theorem_sections.specs.Completing.{IsUndisturbed, AllFinish};
 ghost use Rattle.theorem_sections.specs.Seen.{GetsIncludeSeen};
 ghost use Rattle.theorem_sections.specs.Runs.{RunStep, IsRunStep, PlaysAll, HasReport};
 
@@ -38,6 +39,13 @@ pub fn plain_scripts_have_one_report<Kind, Operation, Shown>()
 pub fn calls_stand_once<Kind, Operation, Shown>()
     ensures { (D : Replication Kind Operation Shown) (members : ℕ) (keys : List (KeyDecl Kind)) (before : Playing Kind Operation Shown) → IsRun D members keys before.events before.world
         → (clients : List (List (Command Operation))) (moves : List Move) (end : Section Kind Operation Shown) → IsSection D before clients moves end → CallsStandOnce D before clients moves end }
+{}
+
+/// Completeness of clients' operations: in a section whose members all have the last view, in which no store fails and at
+/// whose end no running member is full, each operation that a client's command opened finishes, and its line tells how.
+pub fn client_operations_finish<Kind, Operation, Shown>()
+    ensures { (D : Replication Kind Operation Shown) (members : ℕ) (keys : List (KeyDecl Kind)) (before : Playing Kind Operation Shown) → IsRun D members keys before.events before.world
+        → (clients : List (List (Command Operation))) (moves : List Move) (end : Section Kind Operation Shown) → IsSection D before clients moves end → IsUndisturbed before end → AllFinish before end }
 {}
 
 /// The quorum theorem of a run that may have clients, by the lines of its report: while membership stays unchanged, a
