@@ -15,7 +15,9 @@ const MOST_TEXT_BYTES: usize = 64;
 
 const STEP: Wanted = Wanted::Named("the name of a step");
 
-const OPERATION: Wanted = Wanted::Named("increment, decrement, add, remove, enable, assign or delete");
+const OPERATION: Wanted = Wanted::Named(
+    "increment, decrement, add, remove, enable, assign or delete",
+);
 
 const LEVEL: Wanted = Wanted::Named(r#"local, majority, all, {"majority":c} or {"to":n}"#);
 

@@ -14,7 +14,8 @@ const DELETED_SET: &str = r#"{"members":2,"keys":[{"key":"s","kind":"orset"}],"s
     {"do":"flush","at":0},
     {"do":"round"}]}"#;
 
-const DELETED_COUNTER_PRUNES: &str = r#"{"members":2,"keys":[{"key":"n","kind":"gcounter"}],"steps":[
+const DELETED_COUNTER_PRUNES: &str =
+    r#"{"members":2,"keys":[{"key":"n","kind":"gcounter"}],"steps":[
     {"do":"update","at":1,"key":"n","op":"increment","by":9223372036854775807},
     {"do":"update","at":0,"key":"n","op":"increment","by":1},
     {"do":"update","at":0,"key":"n","op":"delete"},
@@ -25,7 +26,8 @@ const DELETED_COUNTER_PRUNES: &str = r#"{"members":2,"keys":[{"key":"n","kind":"
     {"do":"tick","at":0},
     {"do":"tick","at":0}]}"#;
 
-const DELETED_AND_READ: &str = r#"{"members":2,"keys":[{"key":"f","kind":"flag","durable":true}],"steps":[
+const DELETED_AND_READ: &str =
+    r#"{"members":2,"keys":[{"key":"f","kind":"flag","durable":true}],"steps":[
     {"do":"update","at":0,"key":"f","op":"delete","level":"all"},
     {"do":"round"},
     {"do":"round"},

@@ -22,4 +22,4 @@ pub returns : goal.returns
 returns c =
     let few : c.loop-number.number ≤ identity_limit = omega (arith, c.loop-number.auto.number-end, c.limit-number-end.ensures.range) in
     sym c.loop-number.invariant ∙ any_end (λ r. names_at r (mark_of c.args.markers.now r) c.args.id) c.loop-number.number few
-        (λ r from. ap (λ o. names_at r o c.args.id) (c.limit-number-end.ensures.above r (omega (arith, c.loop-number-test.false, from))))
+    (λ r from. ap (λ o. names_at r o c.args.id) (c.limit-number-end.ensures.above r (omega (arith, c.loop-number-test.false, from))))

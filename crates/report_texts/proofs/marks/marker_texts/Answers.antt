@@ -26,4 +26,4 @@ pub returns : goal.returns
 returns c =
     let few : c.loop-number.number ≤ identity_limit = omega (arith, c.loop-number.auto.number-end, c.limit-number-end.ensures.range) in
     c.loop-number.invariant ∙ filter_map_end (marker_word c.args.markers.now) c.loop-number.number few
-        (λ i from. ap (option_map (marker_text i)) (c.limit-number-end.ensures.above i (omega (arith, c.loop-number-test.false, from))))
+    (λ i from. ap (option_map (marker_text i)) (c.limit-number-end.ensures.above i (omega (arith, c.loop-number-test.false, from))))

@@ -23,4 +23,4 @@ pub returns : goal.returns
 returns g c = λ log entry stands.
     let few : c.loop-number.number ≤ identity_limit = omega (arith, c.loop-number.auto.number-end, c.limit-number-end.ensures.range) in
     c.loop-number.invariant log entry stands ∙ ap (map (pair_word (at entry.history))) (members_end (λ i. not (at entry.history i == 0)) c.loop-number.number few
-        (λ i from. ap (λ n. not (n == 0)) (c.limit-number-end.ensures.image log entry stands i (omega (arith, c.loop-number-test.false, from)))))
+    (λ i from. ap (λ n. not (n == 0)) (c.limit-number-end.ensures.image log entry stands i (omega (arith, c.loop-number-test.false, from)))))
