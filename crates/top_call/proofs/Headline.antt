@@ -8,7 +8,7 @@ use Rattle.model_members.specs.World.{start}
 use Rattle.model_kinds.specs.declared.kind.Kind.{Kind}
 use Rattle.model_kinds.specs.declared.operation.Op.{Op}
 use Rattle.model_kinds.specs.declared.shown.Shown.{Shown}
-use Rattle.data_value.specs.Spelled.{byte_of, history_spelled}
+use Rattle.data_value.specs.DataSpelled.{history_byte, history_spelled}
 use Rattle.theorem_runs.proofs.Playing.{no_events}
 use Rattle.theorem_sections.specs.Runs.{RunStep, IsRunStep, PlaysAll}
 use Rattle.theorem_sections.specs.Seen.{stands_before}
@@ -22,7 +22,7 @@ use Rattle.top_call.proofs.EachRun.{six_stays}
 
 pub headline_of_six : (answers : KeeperAnswers) (members : ℕ) (keys : List (KeyDecl Kind)) (steps : List (RunStep Op)) → 1 ≤ members → members ≤ identity_limit → AllByRecursion IsRunStep steps
     → (lines : Lines) (last : Playing Kind Op Shown) (plays : PlaysAll six (opening answers members keys) steps lines last)
-    → TheHeadline six answers members keys steps lines last plays (DistinctDigests six byte_of history_spelled (start members keys))
+    → TheHeadline six answers members keys steps lines last plays (DistinctDigests six history_byte history_spelled (start members keys))
 headline_of_six answers members keys steps some few ok lines last plays =
     let h = headline six six_stays answers members keys steps some few ok lines last plays in
     record {
@@ -39,7 +39,7 @@ headline_of_six answers members keys steps some few ok lines last plays =
           record {
             few = leaves.few;
             second_number = leaves.second_number;
-            settled = λ distinct. leaves.settled (distinct_tell six byte_of history_spelled refl members keys after.events after.world is_run distinct);
+            settled = λ distinct. leaves.settled (distinct_tell six history_byte history_spelled refl members keys after.events after.world is_run distinct);
           };
       calls = h.calls;
       refused = h.refused;

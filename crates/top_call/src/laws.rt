@@ -1,4 +1,4 @@
-ghost use Rattle.data_value.specs.Spelled.{byte_of, history_spelled};
+ghost use Rattle.data_value.specs.DataSpelled.{history_byte, history_spelled};
 ghost use Rattle.model_history.specs.Texts.{Text};
 ghost use Rattle.model_kinds.specs.ShownText.{shown_text};
 ghost use Rattle.model_members.specs.World.{start};
@@ -22,7 +22,7 @@ pub fn the_headline()
     ensures { (answers : KeeperAnswers) (members : ℕ) (keys : List (KeyDecl Kind)) (steps : List (RunStep Op)) (text : Text)
         → 1 ≤ members → members ≤ identity_limit → AllByRecursion IsRunStep steps
         → (report : HasReport six shown_text answers members keys steps text)
-        → TheHeadline six answers members keys steps report.lines report.last report.plays (DistinctDigests six byte_of history_spelled (start members keys)) }
+        → TheHeadline six answers members keys steps report.lines report.last report.plays (DistinctDigests six history_byte history_spelled (start members keys)) }
 {}
 
 /// What a settle of a script that may have clients tells is so, whatever the schedule and whatever the keepers answer.
