@@ -14,8 +14,11 @@ use Rattle.data_value.specs.declared.data.Delta.TheVariants as deltas
 use Rattle.data_value.specs.Values as values
 use Rattle.data_value.specs.Data.{kind_of, applied, delta_of, apply_refusal, joined, absorbed, combined}
 
+abbrev unrefused : Option Refusal
+unrefused = None
+
 pub delete_refused : (state : Data) (op : Op) (origin : ℕ) → is_delete op ≡ true → apply_refusal state op origin ≡ None
-delete_refused (Open value) op origin e = ap (λ (b : Bool). if b then None else values.apply_refusal value op origin) e
+delete_refused (Open value) op origin e = ap (λ (b : Bool). if b then unrefused else values.apply_refusal value op origin) e
 delete_refused (Deleted kind) op origin e = refl
 
 pub delete_applied : (state : Data) (op : Op) (dot : Dot) → is_delete op ≡ true → applied state op dot ≡ Deleted (kind_of state)

@@ -26,6 +26,12 @@ use Rattle.data_value.specs.Values as values
 use Rattle.data_value.specs.Laws as laws
 use Rattle.data_value.specs.Data.{kind_of, is_closed, fits_kind, IsOfOrigin, AreApart, empty_of, applied, delta_of, apply_refusal, joined, absorbed, combined, cleaned, pruned, prune_refusal, mentioned, shown, IsDataOf, IsDeltaOf, IsWithin}
 
+abbrev unrefused : Option Refusal
+unrefused = None
+
+abbrev unblocked : Option Shares
+unblocked = None
+
 -- AN OPERATION, WHICH DELETES OR NOT
 
 abbrev chosen : Bool → Kind → Value → Data
@@ -187,7 +193,7 @@ data_applied (Open value) log held gone op dot p stays next seq is fits free = e
         → IsDataOf (chosen b (values.kind_of value) (values.applied value op dot)) log (grown held dot.origin) gone × IsDeltaOf (if b then deltas.Delete else deltas.Open (values.delta_of value op dot)) log dot.origin (held dot.origin) (held dot.origin + 1)
     either true e = (tells_grown is_delete log false true held dot.origin (Operation op) next e is.0, (omega arith, tells_new is_delete log true held dot.origin (Operation op) next e))
     either false e =
-        let free_value : values.apply_refusal value op dot.origin ≡ None = subst (λ (b : Bool). ◌≡◌ {A = Option Refusal} (if b then None else values.apply_refusal value op dot.origin) None) e free in
+        let free_value : values.apply_refusal value op dot.origin ≡ None = subst (λ (b : Bool). ◌≡◌ {A = Option Refusal} (if b then unrefused else values.apply_refusal value op dot.origin) None) e free in
         let both = laws.data_applied value log held gone op dot p stays next seq is.1 (fits_value value op e fits) free_value in
         ((tells_grown is_delete log false false held dot.origin (Operation op) next e is.0, both.0), (omega arith, tells_new is_delete log false held dot.origin (Operation op) next e, both.1))
 data_applied (Deleted kind) log held gone op dot p stays next seq is fits free = absurd (false≢true fits)
@@ -293,7 +299,7 @@ pub refusal_means : (state : Data) (log : History Op) (held : VersionVector) (go
     → apply_refusal state op origin ≡ six_kinds.refusal (kind_of state) origin op (cut log held)
 refusal_means (Open value) log held gone op origin p is stays fits = either (is_delete op) refl
   where
-    either : (b : Bool) → is_delete op ≡ b → (if b then None else values.apply_refusal value op origin) ≡ (if b then None else meant.values.refusal (values.kind_of value) origin op (cut log held))
+    either : (b : Bool) → is_delete op ≡ b → (if b then unrefused else values.apply_refusal value op origin) ≡ (if b then unrefused else meant.values.refusal (values.kind_of value) origin op (cut log held))
     either true e = refl
     either false e = laws.refusal_means value log held gone op origin p is.1 stays (fits_value value op e fits)
 refusal_means (Deleted kind) log held gone op origin p is stays fits = absurd (false≢true fits)
@@ -302,9 +308,9 @@ pub blocked_means : (state : Data) (log : History Op) (held : VersionVector) (go
     → prune_refusal state removed owner ≡ six_kinds.blocked (kind_of state) owner removed (cut log held)
 blocked_means (Open value) log held gone owner removed p is stays stays_too =
     laws.blocked_means value log held gone owner removed p is.1 stays stays_too
-    ∙ ap (λ (deleted : Bool). if deleted then None else meant.values.blocked (values.kind_of value) owner removed (cut log held)) (tells_means is_delete log false held p.cut is.0)
+    ∙ ap (λ (deleted : Bool). if deleted then unblocked else meant.values.blocked (values.kind_of value) owner removed (cut log held)) (tells_means is_delete log false held p.cut is.0)
 blocked_means (Deleted kind) log held gone owner removed p is stays stays_too =
-    ap (λ (deleted : Bool). if deleted then None else meant.values.blocked kind owner removed (cut log held)) (tells_means is_delete log true held p.cut is)
+    ap (λ (deleted : Bool). if deleted then unblocked else meant.values.blocked kind owner removed (cut log held)) (tells_means is_delete log true held p.cut is)
 
 pub shown_means : (state : Data) (log : History Op) (held : VersionVector) (gone : IdentitySet) → IsPrunedCut log held gone → IsDataOf state log held gone → shown state ≡ six_kinds.shown (kind_of state) (cut log held)
 shown_means (Open value) log held gone p is =

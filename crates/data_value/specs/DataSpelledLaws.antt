@@ -25,6 +25,10 @@ use Rattle.data_value.specs.Data.{kind_of, mentioned, IsDataOf}
 use Rattle.data_value.specs.DataLaws.{closed_means}
 use Rattle.data_value.specs.DataSpelled.{deleted_byte, byte_of, is_known, IsSound, spelled, read_in, history_byte, history_spelled}
 
+-- no bytes
+abbrev nothing : List ℕ
+nothing = []
+
 -- THE BYTES
 
 -- those of values are low, those of deleted keys high
@@ -107,5 +111,5 @@ byte_means (Deleted kind) log held gone pruned is = ap (λ (deleted : Bool). if 
 pub spelling_means : (state : Data) (log : History Op) (held : VersionVector) (gone : IdentitySet) → IsPrunedCut log held gone → IsDataOf state log held gone → spelled state ≡ history_spelled (kind_of state) (cut log held)
 spelling_means (Open value) log held gone pruned is =
     laws.spelling_means value log held gone pruned is.1
-    ∙ ap (λ (deleted : Bool). if deleted then [] else of_value.history_spelled (values.kind_of value) (cut log held)) (closed_means (Open value) log held gone pruned is)
-spelling_means (Deleted kind) log held gone pruned is = ap (λ (deleted : Bool). if deleted then [] else of_value.history_spelled kind (cut log held)) (closed_means (Deleted kind) log held gone pruned is)
+    ∙ ap (λ (deleted : Bool). if deleted then nothing else of_value.history_spelled (values.kind_of value) (cut log held)) (closed_means (Open value) log held gone pruned is)
+spelling_means (Deleted kind) log held gone pruned is = ap (λ (deleted : Bool). if deleted then nothing else of_value.history_spelled kind (cut log held)) (closed_means (Deleted kind) log held gone pruned is)
