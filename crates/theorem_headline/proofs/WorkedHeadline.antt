@@ -1,6 +1,7 @@
 -- The worked script, played.
-use Rattle.std.proofs.Common.{◌≡◌, ℕ, ◌∷◌, [], List, refl, sym, ap, map, arith, Bool, true, false, Option, Some, None}
+use Rattle.std.proofs.Common.{◌≡◌, ℕ, ◌∷◌, [], List, refl, sym, ap, subst, map, arith, Bool, true, false, Option, Some, None}
 use Rattle.std.specs.Prelude.{nat_lt, if◌then◌else◌, slice_get}
+use Rattle.std.specs.List.{AllByRecursion}
 use Rattle.model_members.specs.View.{first_view}
 use Rattle.model_members.specs.Node.{Node}
 use Rattle.model_members.specs.Node.Level.{Local}
@@ -11,6 +12,7 @@ use Rattle.model_members.specs.Script.Head.{RoundHead}
 use Rattle.model_members.specs.Script.Answer.{Nothing}
 use Rattle.theorem_operations.specs.Quorum.{AllInstalled}
 use Rattle.theorem_operations.specs.Borders.{small, small_keys}
+use Rattle.theorem_sections.specs.Completing.{StoreHolds, IsUndisturbed}
 use Rattle.theorem_sections.specs.Runs.{plain_line, PlaysAll}
 use Rattle.theorem_sections.specs.Sections.{Client, Section, Move, Line, IsSection, opened, moved_all, section_lines}
 use Rattle.theorem_sections.specs.Sections.Move.{NextCommand, NextMessage}
@@ -86,6 +88,9 @@ all_installed t node e = by (nat_lt t 2) e
     by true f = let same : loaded t ≡ node = cc f in sym (ap (λ (n : Node One One ℕ). n.view) same)
     by false f = absurd (cc f)
 
+nothing_disturbs : IsUndisturbed worked_start end
+nothing_disturbs = record { installed = all_installed; stores = λ events is. subst (AllByRecursion StoreHolds) is (tt, (tt, (tt, (tt, (tt, (tt, tt)))))); room = refl }
+
 abbrev line_at : ℕ → Line One ℕ
 line_at n = elim (slice_get (section_lines end) n) [ None ↦ record { client = None; head = RoundHead; answer = Nothing; posts = []; ended = None } | Some line ↦ line ]
 
@@ -114,6 +119,10 @@ headline_is_met = record {
     unchanged = refl;
   };
   value = refl;
+  moves = moves;
+  end = end;
+  section = section;
+  undisturbed = nothing_disturbs;
   settles = record { settles = refl; line = own_line (told p2 ScriptStep.Settle); stands = record { told = told p2 ScriptStep.Settle; step = refl; here = refl }; answer = refl };
   pruned = refl;
   line = own_line (told p3 asks);

@@ -9,7 +9,8 @@ use Rattle.model_members.specs.Script.Ask.{Update, Get}
 use Rattle.theorem_operations.specs.Borders.{small, small_keys, the_key}
 use Rattle.theorem_sections.specs.Runs.{RunStep, PlaysAll}
 use Rattle.theorem_sections.specs.Runs.RunStep.{Plain, Threads}
-use Rattle.theorem_sections.specs.Sections.{Command, Line, Ending, command_to}
+use Rattle.theorem_sections.specs.Completing.{IsUndisturbed}
+use Rattle.theorem_sections.specs.Sections.{Command, Line, Ending, Move, Section, IsSection, command_to}
 use Rattle.theorem_sections.specs.Seen.{Stands, SeenUpdate, IsSeenUntil}
 use Rattle.theorem_settling.specs.Settling.{BlockedStays}
 use Rattle.theorem_headline.specs.Headline.{TellsSettle}
@@ -53,6 +54,11 @@ pub record HeadlineIsMet : Type 0 where
   pub get : Line One ℕ
   pub seen : IsSeenUntil small none_fails 2 small_keys worked_script lines last plays worked_read 0 here there update get
   pub value : get.ended ≡ Some (Ending.Ended (record { op = 0; result = Result.ReadValue 1 }))
+  -- nothing disturbs the client's section
+  pub moves : List Move
+  pub end : Section One One ℕ
+  pub section : IsSection small worked_start (worked_client ∷ []) moves end
+  pub undisturbed : IsUndisturbed worked_start end
   -- the settle is done, and the member that left is pruned
   pub settles : TellsSettle small none_fails 2 small_keys worked_script lines last plays 2 0 0
   pub pruned : option_map (λ (node : Node One One ℕ). is_pruned (node.entries the_key).history 0) (last.world.nodes 1) ≡ Some true
