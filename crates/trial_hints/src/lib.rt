@@ -2,6 +2,8 @@
 #![tactic(auto)]
 
 #[cfg(test)]
+mod both;
+#[cfg(test)]
 mod clients_tests;
 #[cfg(test)]
 mod mutant_tests;
@@ -10,4 +12,8 @@ mod rows;
 #[cfg(test)]
 mod script_tests;
 #[cfg(test)]
+mod slips_tests;
+#[cfg(test)]
 mod step_tests;
+#[cfg(test)]
+mod wrong_inputs_tests;
