@@ -63,6 +63,12 @@ def operations_of(table):
             yield line, op, names
 
 
+def number_of(text):
+    """A number as the pages write it: in decimal, or as a power less one."""
+    power = re.fullmatch(r"(\d+)\^(\d+) - 1", text)
+    return int(power[1]) ** int(power[2]) - 1 if power else int(text)
+
+
 def operations_table(table, run):
     for line, op, names in operations_of(table):
         step = {"do": "update", "at": 0, "key": "n", "op": op}
@@ -70,7 +76,7 @@ def operations_table(table, run):
         right = has_names(run.program, own, ["level"], step)
         whole = {**step, **{name: SAMPLES[name] for name in own}}
         for name, low, high in re.findall(r"`(\w+)`, from (\d+) to `([^`]+)`", names):
-            low, high = int(low), eval(high.replace("^", "**"))
+            low, high = int(low), number_of(high)
             rules = [rule_of(run.program, {**whole, name: n}) for n in (low - 1, low, high, high + 1)]
             right = right and rules == [10, 0, 0, 10]
         for name in re.findall(r"`(\w+)`, a text", names):

@@ -34,11 +34,13 @@ pub(crate) enum Stands {
 impl Stands {
     /// What stands where the reader of these bytes found its error.
     pub(crate) fn at(bytes: &[u8], error: &Error) -> Stands {
+        if bytes.is_empty() {
+            return Stands::NoText;
+        }
         let offset = offset_of(bytes, error.line(), error.column());
         match bytes.get(offset) {
-            Some(byte) => Stands::found(bytes, offset, *byte),
-            None if bytes.is_empty() => Stands::NoText,
-            None => Stands::End,
+            Some(byte) if !error.is_eof() => Stands::found(bytes, offset, *byte),
+            _ => Stands::End,
         }
     }
 
