@@ -2,8 +2,6 @@
 #![tactic(auto)]
 
 #[cfg(test)]
-mod both;
-#[cfg(test)]
 mod clients_tests;
 #[cfg(test)]
 mod mutant_tests;
@@ -15,5 +13,3 @@ mod script_tests;
 mod slips_tests;
 #[cfg(test)]
 mod step_tests;
-#[cfg(test)]
-mod wrong_inputs_tests;

@@ -44,3 +44,5 @@ mod running;
 mod settle_tests;
 #[cfg(test)]
 mod words_tests;
+#[cfg(test)]
+mod wrong_inputs_tests;

@@ -1,7 +1,53 @@
 //! Inputs that a person got wrong, with both outputs of the program on each.
 
-use crate::both::{Input, compare, compare_bytes};
+use crate::rows::{answered, keepers, streams};
+use script_hints::{hint, slip};
+use script_reading::Clients;
+use std::alloc::Global;
+use std::process::Abort;
 use std::test::Fail;
+use top_call::Status;
+
+/// An input, what is written of it to standard output, and the line on standard error, without its end.
+#[derive(Clone, Copy)]
+struct Input {
+    text: &'static str,
+    written: &'static str,
+    told: &'static str,
+}
+
+/// The line for a person on bytes of which `plain` ended so.
+fn told(alloc: Global, status: Status, bytes: &[u8]) -> Option<String> {
+    if status == Status::Done {
+        slip(alloc, bytes)
+    } else {
+        hint(alloc, Clients::Refused, bytes)
+    }
+}
+
+/// Compares what `plain` writes of these bytes, and what is told of them.
+fn compare_bytes<R: Abort>(
+    rt: &R,
+    alloc: Global,
+    bytes: &[u8],
+    written: &str,
+    line: &str,
+) -> Result<(), Fail> {
+    let streams = streams(alloc, bytes, &[], &[])?;
+    let (status, sink) = answered(alloc, "plain", streams, keepers(alloc, 0, &[])?)?;
+    assert!(rt; sink.bytes() == written.as_bytes(), "{line}");
+    let told = told(alloc, status, bytes).ok_or("no line")?;
+    assert_eq!(rt; told.as_str(), line);
+    Ok(())
+}
+
+/// Compares both outputs of `plain` on each input.
+fn compare<R: Abort>(rt: &R, alloc: Global, inputs: &[Input]) -> Result<(), Fail> {
+    for input in inputs {
+        compare_bytes(rt, alloc, input.text.as_bytes(), input.written, input.told)?;
+    }
+    Ok(())
+}
 
 // Texts that are no JSON.
 const NO_JSON: [Input; 7] = [
