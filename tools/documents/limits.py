@@ -33,6 +33,12 @@ def flushes(commands, clients=8):
     return {"do": "threads", "clients": [each] * clients}
 
 
+def made(count):
+    """Steps by which member 0 has made so many of its own: flushes of one client at a time."""
+    rest = [flushes(count % 1024, clients=1)] if count % 1024 else []
+    return [flushes(1024, clients=1)] * (count // 1024) + rest
+
+
 def is_played(program, played):
     return program.report(played)[0] == 0
 
@@ -148,14 +154,13 @@ def of_places(program):
 
 
 def of_steps_of_a_member(program):
-    full = [flushes(1024), flushes(1024)]
+    full, last = made(16_384), made(16_383)
     played = script([*full, get(), {"do": "settle"}], members=2)
-    last = script([flushes(1024), flushes(1024, clients=7), flushes(1023, clients=1), get(), get()])
+    before = script([*last, get()])
     return (
-        has_answer(program, played, 3, "history full")
-        and has_answer(program, played, 4, "stopped")
-        and has_answer(program, last, 4, "not found")
-        and has_answer(program, last, 5, "history full")
+        has_answer(program, played, len(full) + 1, "history full")
+        and has_answer(program, played, len(full) + 2, "stopped")
+        and has_answer(program, before, len(last) + 1, "not found")
     )
 
 
@@ -184,8 +189,7 @@ OTHERS = [
         members=2,
     ),
     script(
-        [flushes(1024), flushes(1024, clients=7), flushes(1023, clients=1),
-         {"do": "threads", "clients": [[add(level="all")]]}],
+        [*made(16_383), {"do": "threads", "clients": [[add(level="all")]]}],
         members=2,
     ),
 ]

@@ -14,7 +14,7 @@ SUFFIXES = (".md", ".json", ".html", ".svg", ".antt", ".rt", ".stdout", ".txt")
 STANDS_FOR = re.compile(r"\b[A-Z]+\b")
 # Commands in the middle of a line.
 INLINE = re.compile(r"(rt (try|run) .*|replicator (gen|sum) \d+|tools/try_schema .*)")
-KNOWN = {"rt", "rt version", "replicator", "run", "plain", "gen N", "sum N", "not json", "bad words"}
+KNOWN = {"rt", "rt version", "rt try", "replicator", "run", "plain", "gen N", "sum N", "not json", "bad words"}
 
 
 def schema_words(value):
