@@ -7,6 +7,9 @@ use top_call::Status;
 const USAGE: &str =
     "bad words: usage: replicator run|plain < script.json, replicator gen|sum N (N: 1 to 4094)";
 
+/// The longest script, in bytes, that is looked through for a slip, since to read it again costs as much as to read it.
+const LONGEST_LOOKED_THROUGH: usize = 8_192;
+
 /// What is said of the statuses whose cause is known by them alone.
 const SAID: [(Status, &str); 6] = [
     (Status::Usage, USAGE),
@@ -54,7 +57,7 @@ pub(crate) fn tell<R: Eprint + AllocGlobal>(
 
 /// What is said of the bytes that were read, where the program ended so.
 fn of_script(alloc: Global, code: ExitCode, clients: Clients, bytes: &[u8]) -> Option<String> {
-    if is(code, Status::Done) {
+    if is(code, Status::Done) && bytes.len() <= LONGEST_LOOKED_THROUGH {
         slip(alloc, bytes)
     } else if is(code, Status::NotJson) || is(code, Status::NotAScript) {
         hint(alloc, clients, bytes)
