@@ -5,7 +5,7 @@ use std::process::ExitCode;
 use top_call::Status;
 
 const USAGE: &str =
-    "bad words: usage: replicator run|plain < script.json, replicator gen N, replicator sum N (N: 1 to 4094)";
+    "bad words: usage: replicator run|plain < script.json, replicator behind N < script.json (N: 1 to 64), replicator gen N, replicator sum N (N: 1 to 4094)";
 
 /// What is said of the statuses whose cause is known by them alone.
 const SAID: [(Status, &str); 6] = [
