@@ -12,12 +12,14 @@ use Rattle.script_reading.specs.declared.clients.Clients.TheVariants.{Refused}
 use Rattle.script_reading.specs.declared.script.Script.{Script}
 use Rattle.script_reading.specs.declared.fault.Rule.{Rule}
 use Rattle.script_reading.specs.Reading.{Spells, Breaks, HasNoReading}
+use Rattle.report_lines.specs.Kept.{AreKept}
 use Rattle.top_call.specs.Answers.{ReadsScript, Fulfils, Reports, IsReported, FailsAt, CannotClear, SomeRose, IsTextDue, CallsFor, IsUnlessRefused, limit}
 use Rattle.top_call.specs.Answers.{CallsFor as calls, IsTextDue as text_of}
-use Rattle.top_call.specs.Asking.{IsAsked, AskNothing, AskReport, AskNothingBehind, clients_in}
-use Rattle.top_call.specs.Due.{IsDueFor, IsDue, IsRefusal, IsWritten, status_due, text_due}
+use Rattle.top_call.specs.Asking.{IsAsked, AskNothing, AskReport, AskNoReport, IsNoReport, clients_in}
+use Rattle.top_call.specs.Behind.{untold}
+use Rattle.top_call.specs.Due.{IsDueFor, IsDue, IsRefusal, ComeBack, IsWritten, status_due, text_due}
 use Rattle.top_call.specs.Passages.{Passage, Traffic}
-use Rattle.top_call.specs.Serving.{Refuses, Cause, IsDone, Answers}
+use Rattle.top_call.specs.Serving.{Refuses, Cause, IsDone, Answers, Returns}
 use Rattle.top_call.specs.declared.due.Due.{Due}
 use Rattle.top_call.specs.declared.due.Due.TheVariants.{Fulfilled, NotCleared, BadWords, NotJson, NotAScript, ReadFailed, TooLong, Memory}
 use Rattle.top_call.specs.declared.status.Status.{Status}
@@ -255,6 +257,43 @@ module _ {K : Type 0} (keeping : Keeping K) where
           all_read = none_left bytes h.has.bytes read.new whole;
           all_written = grown earlier text written w;
         }
+
+-- THE KEEPERS COME BACK
+
+module _ {K : Type 0} (keeping : Keeping K) (before after : List K) where
+  untold_kept : AreKept keeping before after → AreKept (untold keeping) before after
+  untold_kept h = record {
+    count = h.count;
+    each = λ place old new was is. let keeps = h.each place old new was is in (keeps.0, record { told = tt; counted = keeps.1.counted; table = keeps.1.table });
+  }
+
+  come_back : (asked : Option Asked) → ComeBack keeping asked before after → AreKept (untold keeping) before after
+  come_back None h = untold_kept h
+  come_back (Some (Report clients)) h = untold_kept h
+  come_back (Some (Generate n)) h = untold_kept h
+  come_back (Some (Summarize n)) h = untold_kept h
+  come_back (Some (Behind n)) h = h
+
+  come_back_told : (asked : Option Asked) → ((n : ℕ) → asked ≡ Some (Behind n) → ⊥) → ComeBack keeping asked before after → AreKept keeping before after
+  come_back_told None none h = h
+  come_back_told (Some (Report clients)) none h = h
+  come_back_told (Some (Generate n)) none h = h
+  come_back_told (Some (Summarize n)) none h = h
+  come_back_told (Some (Behind n)) none h = absurd (none n refl)
+
+module _ {K : Type 0} (keeping : Keeping K) (t : Traffic K) (served : Clients) (words : List (String Global)) (asked : Option Asked) (asks : (a : Asked) → (asked ≡ Some a) ↔ IsAsked served a words) where
+  pub returned : ComeBack keeping asked t.before t.after → t.read.faults ≤ t.read.now → t.written.faults ≤ t.written.now → Returns keeping t served words
+  returned kept source_later sink_later = record {
+    kept = come_back keeping t.before t.after asked kept;
+    told = λ none. come_back_told keeping t.before t.after asked (λ n is. none n ((asks (Behind n)).0 is)) kept;
+    source_later = source_later;
+    sink_later = sink_later;
+  }
+
+-- who is asked for no report reads nothing
+pub no_report : (served : Clients) (words : List (String Global)) (asked : Option Asked) → ((a : Asked) → (asked ≡ Some a) ↔ IsAsked served a words) → AskNoReport served words → IsNoReport asked
+no_report served words None asks none = tt
+no_report served words (Some a) asks none = none a ((asks a).0 refl)
 
 -- WHAT WAS WRITTEN OF IT
 

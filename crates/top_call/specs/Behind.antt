@@ -38,7 +38,7 @@ module _ {K : Type 0} (keeping : Keeping K) where
 
   -- Members got these answers: at each place no more of them are failures than the count of the keeper inside rose by. The text tells of the run with them
   abbrev pub IsRunBehind : Script → List K → List K → List ℕ → Type 0
-  IsRunBehind = kept.IsRunOver six_kinds byte_of history_spelled (untold keeping) (kept.Begins six_kinds byte_of history_spelled) IsWholeBehind
+  IsRunBehind = kept.IsRunOver six_kinds byte_of history_spelled (untold keeping) (kept.Begins six_kinds byte_of history_spelled (untold keeping)) IsWholeBehind
 
   -- the keepers inside before a place forgot all, the count of the place's rose, and those behind it were not called
   pub record IsNotClearedBehind (place : ℕ) (before after : List K) : Type 0 where

@@ -5,7 +5,7 @@ ghost use Rattle.top_call.specs.Asking.{most_period};
 ghost use Rattle.top_call.specs.Behind.{IsPlayedBehind, untold};
 ghost use Rattle.top_call.specs.Due.{IsDueFor};
 ghost use Rattle.top_call.specs.Passages.{reading};
-ghost use Rattle.top_call.specs.Stopping.{gathering, AreHandedOn, IsTakenOut};
+ghost use Rattle.top_call.specs.Stopping.{gathering, IsHandedOn, AreHandedOn, IsTakenOut};
 ghost use Rattle.top_call.specs.declared.words.Asked.TheVariants as is_asked;
 ghost use Rattle.report_lines.specs.Kept.{AreKept};
 
@@ -32,8 +32,16 @@ struct Stopped<K> {
     refused: bool,
 }
 
+/// The keeper inside one that wrote behind.
+#[derive(Drop)]
+struct Flushed<K> {
+    inner: K,
+    /// Memory was refused where what was pending was to be handed on.
+    refused: bool,
+}
+
 /// Puts each keeper inside one that hands it so many stores together. Gives them back where memory is refused.
-fn wrapped<K: Keeper + Drop>(
+fn wrap<K: Keeper + Drop>(
     alloc: Global,
     period: u8,
     keepers: Vec<K>,
@@ -61,7 +69,7 @@ fn wrapped<K: Keeper + Drop>(
 }
 
 /// Takes the keepers out. What is pending is lost.
-fn stopped<K: Keeper + Drop>(keepers: Vec<WriteBehind<K>>, room: Vec<K>) -> Vec<K>
+fn stop_all<K: Keeper + Drop>(keepers: Vec<WriteBehind<K>>, room: Vec<K>) -> Vec<K>
     requires room { length keepers.items ≤ vec_capacity room }
     requires empty { room.items ≡ [] }
     ensures { result.items ≡ map (λ keeper. keeper.inner) keepers.items }
@@ -73,24 +81,43 @@ fn stopped<K: Keeper + Drop>(keepers: Vec<WriteBehind<K>>, room: Vec<K>) -> Vec<
     inner
 }
 
-/// Takes the keepers out, each after what is pending was handed on to it. A keeper that fails at that ends nothing.
-fn flushed<K: Keeper + Drop>(keepers: Vec<WriteBehind<K>>, room: Vec<K>) -> Stopped<K>
+/// Takes a keeper out, after what is pending was handed on to it. That it fails at that ends nothing.
+fn flush_one<K: Keeper + Drop>(keeper: WriteBehind<K>) -> Flushed<K>
+    ensures { IsHandedOn K.Keeper.own result.refused keeper result.inner }
+{
+    let mut keeper = keeper;
+    match keeper.flush() {
+        Ok(()) => Flushed {
+            inner: keeper.stop(),
+            refused: false,
+        },
+        Err(KeeperError::Failed) => Flushed {
+            inner: keeper.stop(),
+            refused: false,
+        },
+        Err(KeeperError::Memory) => Flushed {
+            inner: keeper.stop(),
+            refused: true,
+        },
+    }
+}
+
+/// Takes the keepers out in their order, each after what is pending was handed on to it.
+fn flush_all<K: Keeper + Drop>(keepers: Vec<WriteBehind<K>>, room: Vec<K>) -> Stopped<K>
     requires room { length keepers.items ≤ vec_capacity room }
     requires empty { room.items ≡ [] }
     ensures { AreHandedOn K.Keeper.own result.refused keepers.items result.keepers.items }
 {
-    let mut inner = room;
-    let mut refused = false;
+    let mut all = room;
+    let mut any_refused = false;
     for keeper in keepers {
-        let mut keeper = keeper;
-        if keeper.flush() == Err(KeeperError::Memory) {
-            refused = true;
-        }
-        let _ = inner.push(keeper.stop());
+        let Flushed { inner, refused } = flush_one(keeper);
+        any_refused |= refused;
+        let _ = all.push(inner);
     }
     Stopped {
-        keepers: inner,
-        refused,
+        keepers: all,
+        refused: any_refused,
     }
 }
 
@@ -103,7 +130,7 @@ fn taken_out<K: Keeper + Drop>(played: Played<WriteBehind<K>>, room: Vec<K>) -> 
     let Played { ending, keepers } = played;
     match ending {
         Ending::Told(text) => {
-            let Stopped { keepers, refused } = flushed(keepers, room);
+            let Stopped { keepers, refused } = flush_all(keepers, room);
             let ending = if refused {
                 Ending::Memory
             } else {
@@ -113,7 +140,7 @@ fn taken_out<K: Keeper + Drop>(played: Played<WriteBehind<K>>, room: Vec<K>) -> 
         }
         ending => Played {
             ending,
-            keepers: stopped(keepers, room),
+            keepers: stop_all(keepers, room),
         },
     }
 }
@@ -132,7 +159,7 @@ fn play_behind<K: Keeper + Drop>(
     requires keepers { length keepers.items ≡ 8 }
     ensures { IsPlayedBehind K.Keeper.own (IsReportBehind K.Keeper.own) script.now keepers.items result.keepers.items result.ending }
 {
-    match wrapped(alloc, period, keepers) {
+    match wrap(alloc, period, keepers) {
         Ok(Wrapped { keepers, room }) => taken_out(play(alloc, script, keepers), room),
         Err(keepers) => Played {
             ending: Ending::Memory,

@@ -1,11 +1,12 @@
 -- A run over keepers that write behind, as one over the keepers inside them.
 use Rattle.std.proofs.Common.{◌≡◌, ◌≢◌, ℕ, zero, suc, ◌+◌, ◌<◌, ◌≤◌, ◌⊎◌, inl, inr, List, [], ◌∷◌, ◌++◌, length, Bool, true, false, None, Some, String, Global, string_bytes, arith, refl, sym, ap, subst, ◌∙◌}
-use Rattle.std.specs.Prelude.{map, slice_get, option_map, is_some, IsSome, All, min, count_by, not, if◌then◌else◌}
+use Rattle.std.specs.Prelude.{Result, Ok, Err, MatchBool, nat_eq, ◌||◌, map, slice_get, option_map, is_some, IsSome, All, min, count_by, get_or, not, if◌then◌else◌}
 use Rattle.std.specs.List.{AllZip}
 use Rattle.std.specs.Ordering.{match_ordering}
 use Rattle.std.specs.declared.cmp.Ordering.{Ordering}
 use Rattle.std.specs.declared.cmp.Ordering.TheVariants.{Less, Equal, Greater}
 use Rattle.std.specs.declared.option.Option.{Option}
+use Rattle.std.proofs.lemmas.Bool.Decides.{nat_tests}
 use Rattle.std.proofs.lemmas.List.{length-map}
 use Rattle.std.proofs.lemmas.List.Elements.{All-map}
 use Rattle.std.proofs.lemmas.Option.{slice_get-map, none-some, same_Some}
@@ -22,7 +23,9 @@ use Rattle.member_keeper.specs.declared.stored.Stored.{Stored}
 use Rattle.member_keeper.specs.declared.keeper.Keeper.{Ghosts as Keeping}
 use Rattle.member_keeper.specs.Tables.{Table, put, put_all}
 use Rattle.member_keeper.specs.Calls.{Becomes}
-use Rattle.member_write_behind.specs.Gathering.{Gathered, table_of}
+use Rattle.member_keeper.specs.declared.keeper.KeeperError.{KeeperError}
+use Rattle.member_keeper.specs.declared.keeper.KeeperError.TheVariants as error
+use Rattle.member_write_behind.specs.Gathering.{Gathered, IsGathering, table_of, HandsOn, Flushes}
 use Rattle.data_value.specs.Spelled.{byte_of, history_spelled}
 use Rattle.world_members.specs.Keeping.{Given, Keeps, IsCleared, FailsToClear}
 use Rattle.script_reading.specs.declared.script.Script.{Script}
@@ -78,6 +81,8 @@ module _ {K : Type 0} (keeping : Keeping K) where
   abbrev pub over : Keeping (Gathered K)
   over = record { table = table_of keeping; answers = λ _. None; faults = λ w. keeping.faults w.inner }
 
+  -- WITHOUT A FLUSH
+
   pub let_go : (w : Gathered K) → IsHandedOn keeping true w w.inner
   let_go w = record { later = omega arith; tells = λ h. h; table = λ no. absurd (cc no) }
 
@@ -105,7 +110,7 @@ module _ {K : Type 0} (keeping : Keeping K) where
   at_each : (Left : Gathered K → K → Type 0) (Holds : ℕ → K → K → Type 0) (period : ℕ) (before : List K) (mid : List (Gathered K)) (after : List K) → length mid ≡ length (map (gathering period) before) → AllZip Left mid after
       → ((place : ℕ) (old k : K) (w : Gathered K) → slice_get (map (gathering period) before) place ≡ Some (gathering period old) → slice_get mid place ≡ Some w → Left w k → Holds place old k) → AtEachPlace Holds before after
   at_each Left Holds period before mid after count handed follows = record {
-    count = AllZip-long Left mid after handed ∙ count ∙ length-map (gathering period) before;
+    count = AllZip-long Left mid after handed ∙ count ∙ length-map before (gathering period);
     each = λ place old k was is.
         let at = handed_at Left mid after handed place k is in
         follows place old k at.0 (slice_get-map (gathering period) before place ∙ ap (option_map (gathering period)) was) at.1 at.2;
@@ -132,11 +137,7 @@ module _ {K : Type 0} (keeping : Keeping K) where
 
     -- they load what they took
     loads_behind : LoadWhatTheyTook keeping script before → LoadWhatTheyTook over script ws
-    loads_behind (inl all) = inl (All-map (λ w. IsSome (table_of keeping w)) (gathering period) before (all_told before all))
-      where
-        all_told : (ks : List K) → All (λ k. IsSome (keeping.table k)) ks → All (λ k. IsSome (table_of keeping (gathering period k))) ks
-        all_told [] h = tt
-        all_told (k ∷ ks) h = (some_mapped _ (keeping.table k) h.0, all_told ks h.1)
+    loads_behind (inl all) = inl (All-map (λ w. IsSome (table_of keeping w)) (gathering period) before (λ i d inside. some_mapped _ (keeping.table (get_or before i d)) (all i d inside)))
     loads_behind (inr none) = inr none
 
     module _ (given : Given) (keeps : AtEachPlace (λ place. Keeps over (given place)) ws mid) where
@@ -146,7 +147,7 @@ module _ {K : Type 0} (keeping : Keeping K) where
         each = λ place g w was is rose.
             let old = before_of before place g was in
             let k = handed_from (IsHandedOn keeping false) mid after handed place w is in
-            none.each place old.0 k.0 old.1 k.1 (rose_to (keeping.faults old.0) (keeping.faults w.inner) (keeping.faults k.0) (subst (λ (v : Gathered K). Rose (keeping.faults v.inner) (keeping.faults w.inner)) (sym old.2) rose) k.2.later);
+            none.each place old.0 k.0 old.1 k.1 (rose_to (keeping.faults old.0) (keeping.faults w.inner) (keeping.faults k.0) (subst (λ (v : Gathered K). Rose (keeping.faults v.inner) (keeping.faults w.inner)) old.2 rose) k.2.later);
       }
         where
           before_of : (ks : List K) (place : ℕ) (g : Gathered K) → slice_get (map (gathering period) ks) place ≡ Some g → (old : K) × (slice_get ks place ≡ Some old) × (g ≡ gathering period old)
@@ -166,11 +167,10 @@ module _ {K : Type 0} (keeping : Keeping K) where
       whole_behind : HasNoClients script → (text : List ℕ) → kept.IsWholeReport six_kinds byte_of history_spelled over given script ws mid text → IsWholeBehind keeping given script before after text
       whole_behind plain text h =
           let so = h.plain plain in
-          let last = ending six_kinds byte_of history_spelled (answers_by given) script in
           let ends = so.run.ends in
           record {
             reported = record {
-              run = subst (kept.IsTheRun six_kinds byte_of history_spelled (answers_by given) script) ends so.run;
+              run = record { ends = refl; majorities = so.run.majorities; settles = so.run.settles };
               reported = so.reported;
               unfailing = λ none. so.unfailing (none_behind none);
             };
@@ -183,8 +183,8 @@ module _ {K : Type 0} (keeping : Keeping K) where
         given = h.run.given;
         kept = at_each (IsHandedOn keeping false) (λ place. Keeps (untold keeping) (h.run.given place)) period before mid after h.run.kept.count handed
             (λ place old k w was is left. keeps_inside false period (h.run.given place) old k w (h.run.kept.each place (gathering period old) w was is) left);
-        others = λ place past. h.run.others place (subst (λ n. n ≤ place) (sym (length-map (gathering period) before)) past);
-        begun = h.run.begun;
+        others = λ place past. h.run.others place (subst (λ n. n ≤ place) (sym (length-map before (gathering period))) past);
+        begun = record { begun = h.run.begun.begun; plain = h.run.begun.plain };
         whole = λ loads. whole_behind h.run.given h.run.kept plain text (h.run.whole (loads_behind loads));
       };
       settles = λ loads. h.settles plain (loads_behind loads);
@@ -208,7 +208,7 @@ module _ {K : Type 0} (keeping : Keeping K) where
   not_cleared place period before mid h =
       let inside = all_inside mid in
       record {
-        within = subst (λ n. place < n) (length-map (gathering period) before) h.within;
+        within = subst (λ n. place < n) (length-map before (gathering period)) h.within;
         earlier = at_each (λ (w : Gathered K) k. k ≡ w.inner) (λ p old new. p < place → IsCleared (untold keeping) old new) period before mid (map (λ w. w.inner) mid) h.earlier.count inside
             (λ p old k w was is same less.
             let cleared = h.earlier.each p (gathering period old) w was is less in
