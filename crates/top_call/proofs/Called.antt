@@ -1,6 +1,6 @@
 -- What is due, and what is written and told of it, is what a call that serves words promises.
 use Rattle.std.proofs.Common.{◌≡◌, ℕ, zero, suc, ◌+◌, ◌<◌, ◌≤◌, ◌⊎◌, inl, inr, List, [], ◌∷◌, ◌++◌, length, length-append, append-nil, String, Global, string_bytes, arith, refl, sym, ap, subst, ◌∙◌, None, Some, Ok, Err, MatchResult}
-use Rattle.std.specs.Prelude.{◌↔◌, codes, slice_get}
+use Rattle.std.specs.Prelude.{◌↔◌, slice_get}
 use Rattle.std.proofs.lemmas.Option.{none-some, same_Some}
 use Rattle.std.specs.Io.KnownBytes.{Appends, Consumes}
 use Rattle.std.specs.declared.option.Option.{Option}
@@ -13,13 +13,13 @@ use Rattle.script_reading.specs.declared.script.Script.{Script}
 use Rattle.script_reading.specs.declared.fault.Rule.{Rule}
 use Rattle.script_reading.specs.Reading.{Spells, Breaks, HasNoReading}
 use Rattle.report_lines.specs.Kept.{AreKept}
-use Rattle.top_call.specs.Answers.{ReadsScript, Fulfils, Reports, IsReported, FailsAt, CannotClear, SomeRose, IsTextDue, CallsFor, IsUnlessRefused, limit}
+use Rattle.top_call.specs.Answers.{Fulfils, Reports, IsReported, FailsAt, CannotClear, SomeRose, IsTextDue, CallsFor, IsUnlessRefused, limit}
 use Rattle.top_call.specs.Answers.{CallsFor as calls, IsTextDue as text_of}
 use Rattle.top_call.specs.Asking.{IsAsked, AskNothing, AskReport, AskNoReport, IsNoReport, clients_in}
 use Rattle.top_call.specs.Behind.{untold}
 use Rattle.top_call.specs.Due.{IsDueFor, IsDue, IsRefusal, ComeBack, IsWritten, status_due, text_due}
 use Rattle.top_call.specs.Passages.{Passage, Traffic}
-use Rattle.top_call.specs.Serving.{Refuses, Cause, IsDone, Answers, Returns}
+use Rattle.top_call.specs.Serving.{Cause, IsDone, Answers, Returns}
 use Rattle.top_call.specs.declared.due.Due.{Due}
 use Rattle.top_call.specs.declared.due.Due.TheVariants.{Fulfilled, NotCleared, BadWords, NotJson, NotAScript, ReadFailed, TooLong, Memory}
 use Rattle.top_call.specs.declared.status.Status.{Status}

@@ -1,17 +1,15 @@
 -- What a flush leaves of the keepers inside those that write behind.
-use Rattle.std.proofs.Common.{◌≡◌, ◌≢◌, ℕ, zero, suc, ◌+◌, ◌<◌, ◌≤◌, ◌⊎◌, inl, inr, List, [], ◌∷◌, ◌++◌, length, Bool, true, false, None, Some, String, Global, string_bytes, arith, refl, sym, ap, subst, ◌∙◌}
-use Rattle.std.specs.Prelude.{Result, Ok, Err, MatchBool, nat_eq, ◌||◌, map, slice_get, option_map, is_some, IsSome, All, min, count_by, get_or, not, if◌then◌else◌}
-use Rattle.std.specs.List.{AllZip}
+use Rattle.std.proofs.Common.{◌≡◌, List, [], ◌∷◌, ◌++◌, Bool, true, false, None, Some, arith, refl, sym, ap, ◌∙◌}
+use Rattle.std.specs.Prelude.{Result, Ok, Err, MatchBool, nat_eq, ◌||◌, option_map, is_some, IsSome}
 use Rattle.std.specs.declared.option.Option.{Option}
 use Rattle.std.proofs.lemmas.Bool.Decides.{nat_tests}
-use Rattle.base_outside.specs.Causes.{Rose}
 use Rattle.member_keeper.specs.declared.keeper.Keeper.{Ghosts as Keeping}
-use Rattle.member_keeper.specs.Tables.{Table, put, put_all}
+use Rattle.member_keeper.specs.Tables.{Table, put_all}
 use Rattle.member_keeper.specs.Calls.{Becomes}
 use Rattle.member_keeper.specs.declared.keeper.KeeperError.{KeeperError}
 use Rattle.member_keeper.specs.declared.keeper.KeeperError.TheVariants as error
 use Rattle.member_write_behind.specs.Gathering.{Gathered, IsGathering, table_of, HandsOn, Flushes}
-use Rattle.top_call.specs.Stopping.{gathering, IsHandedOn, AreHandedOn, IsTakenOut}
+use Rattle.top_call.specs.Stopping.{IsHandedOn, AreHandedOn}
 
 module _ {K : Type 0} (keeping : Keeping K) where
   not_told : {X : Type 0} (o : Option X) → is_some o ≡ false → o ≡ None

@@ -1,15 +1,14 @@
 -- A run over keepers that write behind, as one over the keepers inside them.
-use Rattle.std.proofs.Common.{◌≡◌, ◌≢◌, ℕ, zero, suc, ◌+◌, ◌<◌, ◌≤◌, ◌⊎◌, inl, inr, List, [], ◌∷◌, ◌++◌, length, Bool, true, false, None, Some, String, Global, string_bytes, arith, refl, sym, ap, subst, ◌∙◌}
-use Rattle.std.specs.Prelude.{Result, Ok, Err, MatchBool, nat_eq, ◌||◌, map, slice_get, option_map, is_some, IsSome, All, min, count_by, get_or, not, if◌then◌else◌}
+use Rattle.std.proofs.Common.{◌≡◌, ◌≢◌, ℕ, zero, suc, ◌<◌, ◌≤◌, inl, inr, List, [], ◌∷◌, length, Bool, true, false, None, Some, string_bytes, arith, refl, sym, ap, subst, ◌∙◌}
+use Rattle.std.specs.Prelude.{map, slice_get, option_map, IsSome, count_by, get_or, not}
 use Rattle.std.specs.List.{AllZip}
 use Rattle.std.specs.Ordering.{match_ordering}
 use Rattle.std.specs.declared.cmp.Ordering.{Ordering}
 use Rattle.std.specs.declared.cmp.Ordering.TheVariants.{Less, Equal, Greater}
 use Rattle.std.specs.declared.option.Option.{Option}
-use Rattle.std.proofs.lemmas.Bool.Decides.{nat_tests}
 use Rattle.std.proofs.lemmas.List.{length-map}
 use Rattle.std.proofs.lemmas.List.Elements.{All-map}
-use Rattle.std.proofs.lemmas.Option.{slice_get-map, none-some, same_Some}
+use Rattle.std.proofs.lemmas.Option.{slice_get-map, same_Some}
 use Rattle.std.proofs.lemmas.Slice.Zip.{AllZip-long}
 use Rattle.base_bytes.specs.TextOrder.{text_order}
 use Rattle.base_outside.specs.Causes.{Rose}
@@ -23,20 +22,16 @@ use Rattle.member_keeper.specs.declared.stored.Stored.{Stored}
 use Rattle.member_keeper.specs.declared.keeper.Keeper.{Ghosts as Keeping}
 use Rattle.member_keeper.specs.Tables.{Table, put, put_all}
 use Rattle.member_keeper.specs.Calls.{Becomes}
-use Rattle.member_keeper.specs.declared.keeper.KeeperError.{KeeperError}
-use Rattle.member_keeper.specs.declared.keeper.KeeperError.TheVariants as error
-use Rattle.member_write_behind.specs.Gathering.{Gathered, IsGathering, table_of, HandsOn, Flushes}
+use Rattle.member_write_behind.specs.Gathering.{Gathered, table_of}
 use Rattle.data_value.specs.Spelled.{byte_of, history_spelled}
-use Rattle.world_members.specs.Keeping.{Given, Keeps, IsCleared, FailsToClear}
+use Rattle.world_members.specs.Keeping.{Given, Keeps, IsCleared}
 use Rattle.script_reading.specs.declared.script.Script.{Script}
 use Rattle.script_reading.specs.WellFormed.{HasNoClients}
 use Rattle.report_lines.specs.Kept as kept
 use Rattle.report_lines.specs.Kept.{AtEachPlace, AreKept, HoldsStore, LoadWhatTheyTook, NoneRose, IsNotCleared, IsPlayed, answers_by}
-use Rattle.report_lines.specs.Run.{ending}
 use Rattle.report_lines.specs.declared.playing.Ending.{Ending}
 use Rattle.report_lines.specs.declared.playing.Ending.TheVariants.{Told, NotCleared, Memory}
 use Rattle.top_call.specs.Answers.{IsReportOver, IsReportBehind}
-use Rattle.top_call.specs.Behind as behind
 use Rattle.top_call.specs.Behind.{untold, EndsBehind, IsWholeBehind, IsNotClearedBehind, IsPlayedBehind}
 use Rattle.top_call.specs.Stopping.{gathering, IsHandedOn, AreHandedOn, IsTakenOut}
 
@@ -235,8 +230,8 @@ module _ {K : Type 0} (keeping : Keeping K) where
     played_inside (NotCleared place) mid h last after (is, inner) =
         subst (IsPlayedBehind keeping (IsReportBehind keeping) script before after) (sym is)
         (subst (λ ks. IsPlayedBehind keeping (IsReportBehind keeping) script before ks (NotCleared place)) (sym inner)
-            (record { ends = not_cleared place period before mid h.ends; kept = kept_inside true period before mid (map (λ w. w.inner) mid) h.kept (all_let_go mid) }))
+        (record { ends = not_cleared place period before mid h.ends; kept = kept_inside true period before mid (map (λ w. w.inner) mid) h.kept (all_let_go mid) }))
     played_inside Memory mid h last after (is, inner) =
         subst (IsPlayedBehind keeping (IsReportBehind keeping) script before after) (sym is)
         (subst (λ ks. IsPlayedBehind keeping (IsReportBehind keeping) script before ks Memory) (sym inner)
-            (record { ends = tt; kept = kept_inside true period before mid (map (λ w. w.inner) mid) h.kept (all_let_go mid) }))
+        (record { ends = tt; kept = kept_inside true period before mid (map (λ w. w.inner) mid) h.kept (all_let_go mid) }))

@@ -3,7 +3,7 @@
 --     IsRunBehind        the text tells of such a run, tied to the keepers inside place by place
 --     IsNotClearedBehind        a keeper inside failed to be cleared for it
 --     IsPlayedBehind        how it ended, and what every end leaves of the keepers inside
-use Rattle.std.specs.Prelude.{◌≡◌, ℕ, ◌<◌, List, [], ◌∷◌, length, true, false, None, Some, string_bytes}
+use Rattle.std.specs.Prelude.{◌≡◌, ℕ, ◌<◌, List, [], ◌∷◌, length, false, None, Some, string_bytes}
 use Rattle.base_outside.specs.Causes.{Rose}
 use Rattle.model_kinds.specs.SixKinds.{six_kinds}
 use Rattle.model_kinds.specs.declared.kind.Kind.{Kind}

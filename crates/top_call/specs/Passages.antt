@@ -1,5 +1,5 @@
 -- What a call found and left at its source, its sink and its keepers.
-use Rattle.std.specs.Prelude.{ℕ, ◌≤◌, List, Option}
+use Rattle.std.specs.Prelude.{ℕ, List, Option}
 use Rattle.base_outside.specs.declared.traits.Source.{Ghosts as Sourcing}
 use Rattle.base_outside.specs.declared.traits.Sink.{Ghosts as Sinking}
 

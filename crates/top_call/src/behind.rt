@@ -41,11 +41,7 @@ struct Flushed<K> {
 }
 
 /// Puts each keeper inside one that hands it so many stores together. Gives them back where memory is refused.
-fn wrap<K: Keeper + Drop>(
-    alloc: Global,
-    period: u8,
-    keepers: Vec<K>,
-) -> Result<Wrapped<K>, Vec<K>>
+fn wrap<K: Keeper + Drop>(alloc: Global, period: u8, keepers: Vec<K>) -> Result<Wrapped<K>, Vec<K>>
     requires some { 1 ≤ period }
     requires few { period ≤ most_period }
     ensures gathering { IfOk result (λ wrapped. wrapped.keepers.items ≡ map (gathering period) keepers.items) }
