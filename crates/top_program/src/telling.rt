@@ -5,7 +5,7 @@ use std::process::ExitCode;
 use top_call::Status;
 
 const USAGE: &str =
-    "bad words: usage: replicator run|plain < script.json, replicator gen|sum N (N: 1 to 4094)";
+    "bad words: usage: replicator run|plain|behind K < script.json (K: 1 to 64), replicator gen|sum N (N: 1 to 4094)";
 
 /// The longest script, in bytes, that is looked through for a slip, since to read it again costs as much as to read it.
 const LONGEST_LOOKED_THROUGH: usize = 8_192;
