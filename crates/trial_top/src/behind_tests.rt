@@ -43,8 +43,13 @@ fn answered<D: Keeper + Drop>(
 {
     let words = words(alloc, line)?;
     let (mut source, mut sink) = streams(alloc, script.as_bytes(), &[], &[])?;
-    let Outcome { status, keepers } =
-        replicate_plain(alloc, &words, &mut source, &mut sink, keepers);
+    let Outcome { status, keepers } = replicate_plain(
+        alloc,
+        &words,
+        &mut source,
+        &mut sink,
+        keepers,
+    );
     let text = String::from_utf8(Vec::from_slice(alloc, sink.bytes())?)?;
     Ok(Answered {
         status,
@@ -154,7 +159,13 @@ fn identity(step: u8) -> u8 {
 fn push_done(text: &mut String, step: u8, failed: u8) -> Result<(), Fail> {
     let id = identity(step);
     if step == 9 || step == 17 {
-        write!(text, "{step} restart {} id {} view {}\n", id, id + 1, id + 1)?;
+        write!(
+            text,
+            "{step} restart {} id {} view {}\n",
+            id,
+            id + 1,
+            id + 1
+        )?;
     } else if step == failed {
         write!(text, "{step} update {} d store failed\n", id)?;
     } else {
@@ -188,7 +199,10 @@ fn twenty_report(alloc: Global, failed: u8, line: &str) -> Result<String, Fail> 
         }
     }
     let last = if loads { identity(failed) } else { 2 };
-    write!(text, "final view {last}\nmember {last} place 0 view {last}\n{line}\n")?;
+    write!(
+        text,
+        "final view {last}\nmember {last} place 0 view {last}\n{line}\n"
+    )?;
     Ok(text)
 }
 
@@ -204,7 +218,12 @@ const TWENTY: [Twenty; 10] = [
     (3, 9, "d 8 known 0:8 marks -", &[(0, 8, 8)]),
     (4, 10, ALL, &[(0, 8, 8), (1, 7, 7), (2, 5, 5)]),
     (5, 13, ALL, &[(0, 8, 8), (1, 7, 7), (2, 5, 5)]),
-    (6, 16, "d 19 known 0:8 1:6 2:5 marks -", &[(0, 8, 8), (1, 6, 6), (2, 5, 5)]),
+    (
+        6,
+        16,
+        "d 19 known 0:8 1:6 2:5 marks -",
+        &[(0, 8, 8), (1, 6, 6), (2, 5, 5)],
+    ),
     (7, 17, "d 15 known 0:8 1:7 marks -", &[(0, 8, 8), (1, 7, 7)]),
     (8, 20, ALL, &[(0, 8, 8), (1, 7, 7), (2, 5, 5)]),
     (9, 0, ALL, &[(0, 8, 8), (1, 7, 7), (2, 3, 3)]),
