@@ -44,8 +44,13 @@ fn answered<D: Keeper + Drop>(
 {
     let words = words(alloc, line)?;
     let (mut source, mut sink) = streams(alloc, script.as_bytes(), &[], &[])?;
-    let Outcome { status, keepers } =
-        replicate_plain(alloc, &words, &mut source, &mut sink, keepers);
+    let Outcome { status, keepers } = replicate_plain(
+        alloc,
+        &words,
+        &mut source,
+        &mut sink,
+        keepers,
+    );
     let text = String::from_utf8(Vec::from_slice(alloc, sink.bytes())?)?;
     Ok(Answered {
         status,
@@ -111,7 +116,10 @@ fn a_call_with_a_runtime_writes_behind_too(rt: HostRuntime) -> Result<(), Fail> 
     assert!(rt; sink.bytes() == THREE_REPORT.as_bytes());
     let refused = called(&rt, alloc, "behind 2", CLIENTS, keepers(alloc, 0, &[])?)?;
     assert_eq!(rt; refused.0, Status::NotAScript);
-    assert_eq!(rt; refused.1.bytes(), b"not a script: step 1 rule 14\n".as_slice());
+    assert_eq!(rt;
+        refused.1.bytes(),
+        b"not a script: step 1 rule 14\n".as_slice()
+    );
     Ok(())
 }
 
@@ -155,7 +163,13 @@ fn identity(step: u8) -> u8 {
 fn push_done(text: &mut String, step: u8, failed: u8) -> Result<(), Fail> {
     let id = identity(step);
     if step == 9 || step == 17 {
-        write!(text, "{step} restart {} id {} view {}\n", id, id + 1, id + 1)?;
+        write!(
+            text,
+            "{step} restart {} id {} view {}\n",
+            id,
+            id + 1,
+            id + 1
+        )?;
     } else if step == failed {
         write!(text, "{step} update {} d store failed\n", id)?;
     } else {
@@ -189,7 +203,10 @@ fn twenty_report(alloc: Global, failed: u8, line: &str) -> Result<String, Fail> 
         }
     }
     let last = if loads { identity(failed) } else { 2 };
-    write!(text, "final view {last}\nmember {last} place 0 view {last}\n{line}\n")?;
+    write!(
+        text,
+        "final view {last}\nmember {last} place 0 view {last}\n{line}\n"
+    )?;
     Ok(text)
 }
 
@@ -205,7 +222,12 @@ const TWENTY: [Twenty; 10] = [
     (3, 9, "d 8 known 0:8 marks -", &[(0, 8, 8)]),
     (4, 10, ALL, &[(0, 8, 8), (1, 7, 7), (2, 5, 5)]),
     (5, 13, ALL, &[(0, 8, 8), (1, 7, 7), (2, 5, 5)]),
-    (6, 16, "d 19 known 0:8 1:6 2:5 marks -", &[(0, 8, 8), (1, 6, 6), (2, 5, 5)]),
+    (
+        6,
+        16,
+        "d 19 known 0:8 1:6 2:5 marks -",
+        &[(0, 8, 8), (1, 6, 6), (2, 5, 5)],
+    ),
     (7, 17, "d 15 known 0:8 1:7 marks -", &[(0, 8, 8), (1, 7, 7)]),
     (8, 20, ALL, &[(0, 8, 8), (1, 7, 7), (2, 5, 5)]),
     (9, 0, ALL, &[(0, 8, 8), (1, 7, 7), (2, 3, 3)]),
