@@ -34,7 +34,7 @@ struct Answered<D> {
 }
 
 /// What the words of a line answer of a script over these keepers.
-fn answered<D: Keeper + Drop>(
+fn answer_of<D: Keeper + Drop>(
     alloc: Global,
     line: &str,
     script: &str,
@@ -100,7 +100,7 @@ fn the_last_stores_are_handed_on_at_the_end(rt: HostRuntime) -> Result<(), Fail>
     // The clear is call 0, the first two stores together are call 1, and the flush at the end is call 2.
     let rows: [(&[u64], (u8, u64, u64)); 2] = [(&[], (0, 3, 6)), (&[2], (0, 2, 3))];
     for (failing, count) in rows {
-        let answer = answered(alloc, "behind 2", THREE, keepers(alloc, 0, failing)?)?;
+        let answer = answer_of(alloc, "behind 2", THREE, keepers(alloc, 0, failing)?)?;
         assert_eq!(rt; answer.status, Status::Done);
         assert_eq!(rt; answer.text.as_str(), THREE_REPORT);
         check_kept(&rt, alloc, &answer.keepers, &[count])?;
@@ -240,7 +240,7 @@ fn each_call_of_the_keeper_inside_fails(rt: HostRuntime) -> Result<(), Fail> {
     let script = twenty(alloc)?;
     for (call, failed, line, counts) in TWENTY {
         let keepers = keepers(alloc, 0, &[call])?;
-        let answer = answered(alloc, "behind 3", script.as_str(), keepers)?;
+        let answer = answer_of(alloc, "behind 3", script.as_str(), keepers)?;
         assert_eq!(rt; answer.status, Status::Done, "at {call}");
         let report = twenty_report(alloc, failed, line)?;
         assert_eq!(rt; answer.text.as_str(), report.as_str(), "at {call}");
@@ -252,7 +252,7 @@ fn each_call_of_the_keeper_inside_fails(rt: HostRuntime) -> Result<(), Fail> {
 #[test]
 fn a_keeper_inside_fails_to_be_cleared(rt: HostRuntime) -> Result<(), Fail> {
     let alloc = rt.alloc();
-    let answer = answered(alloc, "behind 3", THREE, keepers(alloc, 1, &[0])?)?;
+    let answer = answer_of(alloc, "behind 3", THREE, keepers(alloc, 1, &[0])?)?;
     assert_eq!(rt; answer.status, Status::ClearFailed);
     assert_eq!(rt; answer.text.as_str(), "store failed at 1\n");
     assert_eq!(rt; answer.keepers.len(), 8);
