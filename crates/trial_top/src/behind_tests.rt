@@ -1,6 +1,6 @@
 //! Scripts whose stores are written behind.
 
-ghost use Rattle.std.specs.Prelude.{◌≡◌, length};
+ghost use Rattle.std.specs.Prelude.{◌≡◌, ◌≤◌, length};
 
 use crate::rows::{keepers, streams, words};
 use crate::running::called;
@@ -23,7 +23,8 @@ member 0 place 0 view 0
 d 6 known 0:3 marks -
 "#;
 
-const CLIENTS: &str = r#"{"members":1,"keys":[],"steps":[{"do":"threads","clients":[[]]}]}"#;
+const CLIENTS: &str = r#"{"members":1,"keys":[{"key":"n","kind":"gcounter"}],"steps":[
+    {"do":"threads","clients":[[{"do":"get","at":0,"key":"n"}]]}]}"#;
 
 /// What is answered, the text that was written, and the keepers.
 #[derive(Drop)]
@@ -34,7 +35,7 @@ struct Answered<D> {
 }
 
 /// What the words of a line answer of a script over these keepers.
-fn answer_of<D: Keeper + Drop>(
+fn called_for<D: Keeper + Drop>(
     alloc: Global,
     line: &str,
     script: &str,
@@ -61,12 +62,13 @@ fn answer_of<D: Keeper + Drop>(
 
 /// The spelling of a growing counter, of how many records each identity has and of their sums.
 fn spelled(alloc: Global, counts: &[(u8, u64, u64)]) -> Result<Vec<u8>, Fail> {
-    let mut bytes = Vec::from_slice(alloc, &[1, 1, 0, counts.len() as u8])?;
+    let count = (counts.len() % 256) as u8;
+    let mut bytes = Vec::from_slice(alloc, &[1, 1, 0, count])?;
     for (id, records, _sum) in counts {
         bytes.push(*id)?;
         bytes.extend_from_slice(&records.to_be_bytes())?;
     }
-    bytes.push(counts.len() as u8)?;
+    bytes.push(count)?;
     for (id, _records, sum) in counts {
         bytes.push(*id)?;
         bytes.extend_from_slice(&sum.to_be_bytes())?;
@@ -100,7 +102,7 @@ fn the_last_stores_are_handed_on_at_the_end(rt: HostRuntime) -> Result<(), Fail>
     // The clear is call 0, the first two stores together are call 1, and the flush at the end is call 2.
     let rows: [(&[u64], (u8, u64, u64)); 2] = [(&[], (0, 3, 6)), (&[2], (0, 2, 3))];
     for (failing, count) in rows {
-        let answer = answer_of(alloc, "behind 2", THREE, keepers(alloc, 0, failing)?)?;
+        let answer = called_for(alloc, "behind 2", THREE, keepers(alloc, 0, failing)?)?;
         assert_eq!(rt; answer.status, Status::Done);
         assert_eq!(rt; answer.text.as_str(), THREE_REPORT);
         check_kept(&rt, alloc, &answer.keepers, &[count])?;
@@ -149,7 +151,9 @@ fn twenty(alloc: Global) -> Result<String, Fail> {
 }
 
 /// Who is asked in a step of it.
-fn identity(step: u8) -> u8 {
+fn identity(step: u8) -> u8
+    ensures { result ≤ 2 }
+{
     if step < 10 {
         0
     } else if step < 18 {
@@ -240,7 +244,7 @@ fn each_call_of_the_keeper_inside_fails(rt: HostRuntime) -> Result<(), Fail> {
     let script = twenty(alloc)?;
     for (call, failed, line, counts) in TWENTY {
         let keepers = keepers(alloc, 0, &[call])?;
-        let answer = answer_of(alloc, "behind 3", script.as_str(), keepers)?;
+        let answer = called_for(alloc, "behind 3", script.as_str(), keepers)?;
         assert_eq!(rt; answer.status, Status::Done, "at {call}");
         let report = twenty_report(alloc, failed, line)?;
         assert_eq!(rt; answer.text.as_str(), report.as_str(), "at {call}");
@@ -252,7 +256,7 @@ fn each_call_of_the_keeper_inside_fails(rt: HostRuntime) -> Result<(), Fail> {
 #[test]
 fn a_keeper_inside_fails_to_be_cleared(rt: HostRuntime) -> Result<(), Fail> {
     let alloc = rt.alloc();
-    let answer = answer_of(alloc, "behind 3", THREE, keepers(alloc, 1, &[0])?)?;
+    let answer = called_for(alloc, "behind 3", THREE, keepers(alloc, 1, &[0])?)?;
     assert_eq!(rt; answer.status, Status::ClearFailed);
     assert_eq!(rt; answer.text.as_str(), "store failed at 1\n");
     assert_eq!(rt; answer.keepers.len(), 8);
