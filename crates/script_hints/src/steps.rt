@@ -13,7 +13,9 @@ const MOST_KEY_BYTES: usize = 32;
 /// The most bytes of an element of a set, or of the text of a register.
 const MOST_TEXT_BYTES: usize = 64;
 
-const STEP: Wanted = Wanted::Named("the name of a step");
+const STEP: Wanted = Wanted::Named(
+    "update, get, flush, gossip, deliver, lose, round, tick, timeout, remove, join, restart, install, settle or threads",
+);
 
 const OPERATION: Wanted = Wanted::Named(
     "increment, decrement, add, remove, enable, assign or delete",

@@ -5,6 +5,8 @@ use crate::broken::{Broken, Rules};
 use crate::clients::clients_wrong;
 use crate::place::Place;
 use crate::script::script_wrong;
+use crate::slips::first_slip;
+use crate::stands::Stands;
 use crate::steps::step_wrong;
 use script_reading::{Clients, ScriptError, read_script};
 use serde_json::Value;
@@ -23,6 +25,16 @@ pub fn hint(alloc: Global, clients: Clients, bytes: &[u8]) -> Option<String>
     }
 }
 
+/// The first step of a script that is likely a slip of the pen: it names a key that is not declared, a member that has not been
+/// there, an operation of another kind, or one member twice. One line, without its end.
+///
+/// The bytes are those of a script. There is no line where it has no such step, and none where memory was refused.
+pub fn slip(alloc: Global, bytes: &[u8]) -> Option<String> {
+    let script = Value::from_slice(alloc, bytes).ok()?;
+    let slip = first_slip(&script)?;
+    format!(in alloc; "played, but look at {slip}").ok()
+}
+
 /// What is told of bytes that were refused so.
 fn told(alloc: Global, bytes: &[u8], error: ScriptError) -> Option<String>
     ensures { IsSome result → IsOfBytes error }
@@ -37,7 +49,10 @@ fn told(alloc: Global, bytes: &[u8], error: ScriptError) -> Option<String>
 /// Why the bytes are no JSON text, in the words of its reader.
 fn not_json(alloc: Global, bytes: &[u8]) -> Option<String> {
     match Value::from_slice(alloc, bytes) {
-        Err(error) if !error.is_memory() => format!(in alloc; "not json: {error}").ok(),
+        Err(error) if !error.is_memory() => {
+            let stands = Stands::at(bytes, &error);
+            format!(in alloc; "not json: {error}, {stands}").ok()
+        }
         _ => None,
     }
 }

@@ -79,7 +79,7 @@ impl fmt::Display for Wrong<'_> {
             }
             Wrong::Part(part, fault) => write!(f, "{part} {fault}"),
             Wrong::Itself(fault) => write!(f, "{fault}"),
-            Wrong::Clients => f.write_str(r#"clients are at work under the word "run" alone"#),
+            Wrong::Clients => f.write_str(r#"only the word "run" plays a step with clients"#),
         }
     }
 }

@@ -6,6 +6,7 @@ use Rattle.base_outside.specs.Causes.{Rose}
 use Rattle.base_outside.specs.Transfers.{ReadsToEnd, ReadsCount}
 use Rattle.member_keeper.specs.declared.keeper.Keeper.{Ghosts as Keeping}
 use Rattle.script_reading.specs.declared.clients.Clients.{Clients}
+use Rattle.script_reading.specs.declared.clients.Clients.TheVariants.{Refused}
 use Rattle.script_reading.specs.declared.script.Script.{Script}
 use Rattle.script_reading.specs.declared.fault.Rule.{Rule}
 use Rattle.script_reading.specs.Reading.{Spells, Breaks, HasNoReading}
@@ -18,10 +19,11 @@ use Rattle.report_lines.specs.Kept.{LoadWhatTheyTook, IsNotCleared, answers_by}
 use Rattle.report_lines.specs.Run.{decl_of, in_order, steps_of}
 use Rattle.member_node.specs.Members.{spelled_groups}
 use Rattle.theorem_digests.specs.Digests.{SettlesAgreeByDigests}
-use Rattle.top_call.specs.Asking.{IsAsked, AskNothing}
+use Rattle.top_call.specs.Asking.{IsAsked, AskNothing, AskReport}
+use Rattle.top_call.specs.Behind.{IsRunBehind, IsNotClearedBehind}
 use Rattle.top_call.specs.Passages.{Passage}
 use Rattle.top_call.specs.declared.words.Asked.{Asked}
-use Rattle.top_call.specs.declared.words.Asked.TheVariants.{Report, Generate, Summarize}
+use Rattle.top_call.specs.declared.words.Asked.TheVariants.{Report, Generate, Summarize, Behind}
 use Rattle.top_call.specs.declared.status.Status.{Status}
 use Rattle.top_call.specs.declared.status.Status.TheVariants.{Done, NotJson, NotAScript, ReadFailed, WriteFailed, TooLong, Memory, ClearFailed}
 
@@ -74,6 +76,7 @@ abbrev pub AsksForRun : Asked → Passage → Type 0
 AsksForRun (Report clients) read = (script : Script) × HasScript clients read script
 AsksForRun (Generate n) read = ⊥
 AsksForRun (Summarize n) read = Unit {0}
+AsksForRun (Behind n) read = (script : Script) × HasScript Refused read script
 
 module _ {K : Type 0} (keeping : Keeping K) where
   -- What the settles of a script's run tell is so, and they leave settled worlds, where digests tell apart what members have. The keepers gave these answers.
@@ -91,33 +94,53 @@ module _ {K : Type 0} (keeping : Keeping K) where
     pub run : kept.IsSummaryOver six_kinds history_byte history_spelled keeping script before after text
     pub settles : SettlesAgree script before run.given
 
+  -- The text is the report of a script's run whose stores are written behind to the keepers.
+  pub record IsReportBehind (script : Script) (before after : List K) (text : List ℕ) : Type 0 where
+    pub run : IsRunBehind keeping script before after text
+    pub settles : SettlesAgree script before run.given
+
+  -- what a text is that tells of the script's run
+  abbrev pub IsOver : Asked → Script → (before after : List K) → List ℕ → Type 0
+  IsOver (Report clients) script before after text = IsReportOver script before after text
+  IsOver (Generate n) script before after text = ⊥
+  IsOver (Summarize n) script before after text = IsSummaryOver script before after text
+  IsOver (Behind n) script before after text = IsReportBehind script before after text
+
   -- The source was read to its end, its bytes spell a script, and this is the report of the script's run over the keepers.
-  pub record Reports (clients : Clients) (read : Passage) (before after : List K) (text : List ℕ) : Type 0 where
+  pub record Reports (asked : Asked) (clients : Clients) (read : Passage) (before after : List K) (text : List ℕ) : Type 0 where
     pub script : Script
     pub has : HasScript clients read script
-    pub reported : IsReportOver script before after text
+    pub reported : IsOver asked script before after text
 
   -- Told bytes were all read and spell a script, and the report of the script's run over the keepers stands behind what was written before.
-  pub record IsReported (clients : Clients) (bytes written_before : List ℕ) (left written : Option (List ℕ)) (before after : List K) : Type 0 where
+  pub record IsReported (asked : Asked) (clients : Clients) (bytes written_before : List ℕ) (left written : Option (List ℕ)) (before after : List K) : Type 0 where
     pub script : Script
     pub text : List ℕ
     pub spelled : Spells clients bytes script
     pub allowed : All (IsAllowed clients) script.steps
-    pub reported : IsReportOver script before after text
+    pub reported : IsOver asked script before after text
     pub all_read : left ≡ Some []
     pub all_written : written ≡ Some (written_before ++ text)
 
   -- The text is what was asked for. To generate a script leaves the keepers as they are.
   abbrev pub Fulfils : Asked → Passage → (before after : List K) → List ℕ → Type 0
-  Fulfils (Report clients) read before after text = Reports clients read before after text
+  Fulfils (Report clients) read before after text = Reports (Report clients) clients read before after text
   Fulfils (Generate n) read before after text = (text ≡ generated_text n) × (after ≡ before)
   Fulfils (Summarize n) read before after text = IsSummaryOver (generated_script n) before after text
+  Fulfils (Behind n) read before after text = Reports (Behind n) Refused read before after text
+
+  -- the keeper of a place failed to be cleared for the run that was asked for
+  abbrev pub FailsAt : Asked → ℕ → (before after : List K) → Type 0
+  FailsAt (Report clients) place before after = IsNotCleared keeping place before after
+  FailsAt (Generate n) place before after = ⊥
+  FailsAt (Summarize n) place before after = IsNotCleared keeping place before after
+  FailsAt (Behind n) place before after = IsNotClearedBehind keeping place before after
 
   -- A script's run was asked for, and the keeper of a place failed to be cleared for it; this text says so.
   pub record CannotClear (asked : Asked) (read : Passage) (before after : List K) (text : List ℕ) : Type 0 where
     pub place : ℕ
     pub run : AsksForRun asked read
-    pub failed : IsNotCleared keeping place before after
+    pub failed : FailsAt asked place before after
     pub told : text ≡ not_cleared_text place
 
   -- The count of a keeper rose.
@@ -134,9 +157,9 @@ module _ {K : Type 0} (keeping : Keeping K) where
     fulfilled : (asked : Asked) (text : List ℕ) → IsAsked served asked words → Fulfils asked read before after text → IsTextDue served words read before after text
     not_cleared : (asked : Asked) (text : List ℕ) → IsAsked served asked words → CannotClear asked read before after text → IsTextDue served words read before after text
     bad_words : AskNothing served words → after ≡ before → IsTextDue served words read before after (codes "bad words\n")
-    not_json : (clients : Clients) → IsAsked served (Report clients) words → HasNoJson read → after ≡ before → IsTextDue served words read before after (codes "not json\n")
-    not_a_script : (clients : Clients) (text : List ℕ) → IsAsked served (Report clients) words → TellsRule clients read text → after ≡ before → IsTextDue served words read before after text
-    too_long : (clients : Clients) → IsAsked served (Report clients) words → IsTooLong read → after ≡ before → IsTextDue served words read before after (codes "too long\n")
+    not_json : (clients : Clients) → AskReport served words clients → HasNoJson read → after ≡ before → IsTextDue served words read before after (codes "not json\n")
+    not_a_script : (clients : Clients) (text : List ℕ) → AskReport served words clients → TellsRule clients read text → after ≡ before → IsTextDue served words read before after text
+    too_long : (clients : Clients) → AskReport served words clients → IsTooLong read → after ≡ before → IsTextDue served words read before after (codes "too long\n")
 
 -- ---- what bytes call for
 

@@ -1,24 +1,36 @@
 -- What the words of the command line ask for.
-use Rattle.std.specs.Prelude.{◌≡◌, ◌≢◌, ℕ, ◌≤◌, List, [], ◌∷◌, map, codes, decimal, String, string_bytes, ⊤, Option, Some}
+use Rattle.std.specs.Prelude.{◌≡◌, ℕ, ◌≤◌, List, [], ◌∷◌, map, codes, decimal, String, string_bytes, ⊤, Option, None, Some}
 use Rattle.std.specs.declared.alloc.Global.{Global}
 use Rattle.script_reading.specs.declared.clients.Clients.{Clients}
 use Rattle.script_reading.specs.declared.clients.Clients.TheVariants.{Allowed, Refused}
 use Rattle.top_call.specs.declared.words.Asked.{Asked}
-use Rattle.top_call.specs.declared.words.Asked.TheVariants.{Report, Generate, Summarize}
+use Rattle.top_call.specs.declared.words.Asked.TheVariants.{Report, Generate, Summarize, Behind}
 
 -- the most steps that a script is generated with, its last two apart
 abbrev pub most_steps : ℕ
 most_steps = 4094
 
+-- the most stores that are handed on together
+abbrev pub most_period : ℕ
+most_period = 64
+
 -- a word is this number of steps
 abbrev pub IsCount : ℕ → List ℕ → Type 0
 IsCount n word = (word ≡ decimal n) × (1 ≤ n) × (n ≤ most_steps)
 
--- its number of steps is one that a script is generated with
+-- its number of steps is one that a script is generated with, and its number of stores one that are handed on together
 abbrev pub IsCounted : Asked → Type 0
 IsCounted (Report clients) = ⊤
 IsCounted (Generate n) = (1 ≤ n) × (n ≤ most_steps)
 IsCounted (Summarize n) = (1 ≤ n) × (n ≤ most_steps)
+IsCounted (Behind n) = (1 ≤ n) × (n ≤ most_period)
+
+-- Whether the script on the source may have clients, where its report is asked for.
+abbrev pub clients_in : Asked → Option Clients
+clients_in (Report clients) = Some clients
+clients_in (Generate n) = None
+clients_in (Summarize n) = None
+clients_in (Behind n) = Some Refused
 
 -- The texts of words ask for it. A call that serves no clients is asked for nothing by `run`.
 abbrev pub Ask : (served : Clients) → Asked → List (List ℕ) → Type 0
@@ -27,6 +39,7 @@ Ask Allowed (Report Allowed) texts = texts ≡ codes "run" ∷ []
 Ask Refused (Report Allowed) texts = ⊥
 Ask served (Generate n) texts = (texts ≡ codes "gen" ∷ decimal n ∷ []) × (1 ≤ n) × (n ≤ most_steps)
 Ask served (Summarize n) texts = (texts ≡ codes "sum" ∷ decimal n ∷ []) × (1 ≤ n) × (n ≤ most_steps)
+Ask served (Behind n) texts = (texts ≡ codes "behind" ∷ decimal n ∷ []) × (1 ≤ n) × (n ≤ most_period)
 
 -- what the words ask for
 abbrev pub IsAsked : (served : Clients) → Asked → List (String Global) → Type 0
@@ -36,10 +49,21 @@ IsAsked served asked words = Ask served asked (map string_bytes words)
 abbrev pub AskNothing : (served : Clients) → List (String Global) → Type 0
 AskNothing served words = (asked : Asked) → IsAsked served asked words → ⊥
 
--- they ask for no report of the script on the source
+-- they ask for the report of the script on the source, in which clients are allowed or refused
+pub record AskReport (served : Clients) (words : List (String Global)) (clients : Clients) : Type 0 where
+  pub asked : Asked
+  pub is : IsAsked served asked words
+  pub with_clients : clients_in asked ≡ Some clients
+
+-- they ask for no such report
 abbrev pub AskNoReport : (served : Clients) → List (String Global) → Type 0
-AskNoReport served words = (clients : Clients) → IsAsked served (Report clients) words → ⊥
+AskNoReport served words = (asked : Asked) → IsAsked served asked words → clients_in asked ≡ None
 
 -- what was asked for, if anything was, is no such report
 abbrev pub IsNoReport : Option Asked → Type 0
-IsNoReport asked = (clients : Clients) → asked ≢ Some (Report clients)
+IsNoReport None = ⊤
+IsNoReport (Some asked) = clients_in asked ≡ None
+
+-- they ask for no run whose stores are written behind
+abbrev pub AskNothingBehind : (served : Clients) → List (String Global) → Type 0
+AskNothingBehind served words = (n : ℕ) → IsAsked served (Behind n) words → ⊥

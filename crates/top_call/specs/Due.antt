@@ -5,19 +5,22 @@ use Rattle.base_outside.specs.Causes.{Rose}
 use Rattle.base_outside.specs.Transfers.{ReadsUpTo, AppendsPrefix}
 use Rattle.member_keeper.specs.declared.keeper.Keeper.{Ghosts as Keeping}
 use Rattle.script_generated.specs.Texts.{generated_text}
+use Rattle.report_lines.specs.Kept.{AreKept}
 use Rattle.report_lines.specs.declared.playing.Ending.{Ending}
 use Rattle.report_lines.specs.declared.playing.Ending.TheVariants as ending
 use Rattle.script_reading.specs.declared.clients.Clients.{Clients}
+use Rattle.script_reading.specs.declared.clients.Clients.TheVariants.{Refused}
 use Rattle.script_reading.specs.declared.read.ScriptError.{ScriptError}
 use Rattle.script_reading.specs.declared.read.ScriptError.TheVariants as error
 use Rattle.top_call.specs.Answers.{not_a_script_text, HasNoJson, TellsRule, IsTooLong, Fulfils, CannotClear, not_cleared_text, limit}
+use Rattle.top_call.specs.Behind.{untold}
 use Rattle.top_call.specs.Passages.{Passage}
 use Rattle.top_call.specs.declared.due.Due.{Due}
 use Rattle.top_call.specs.declared.due.Due.TheVariants.{Fulfilled, NotCleared, BadWords, NotJson, NotAScript, ReadFailed, TooLong, Memory}
 use Rattle.top_call.specs.declared.status.Status.{Status}
 use Rattle.top_call.specs.declared.status.Status.TheVariants as status
 use Rattle.top_call.specs.declared.words.Asked.{Asked}
-use Rattle.top_call.specs.declared.words.Asked.TheVariants.{Report, Generate, Summarize}
+use Rattle.top_call.specs.declared.words.Asked.TheVariants.{Report, Generate, Summarize, Behind}
 
 abbrev pub text_due : Due → List ℕ
 text_due (Fulfilled text) = string_bytes text
@@ -83,6 +86,8 @@ module _ {K : Type 0} (keeping : Keeping K) where
   IsDueFor asked read before after BadWords = ⊥
   IsDueFor (Report clients) read before after Memory = Unit {0}
   IsDueFor (Report clients) read before after due = IsRefusal clients read due × (after ≡ before)
+  IsDueFor (Behind n) read before after Memory = Unit {0}
+  IsDueFor (Behind n) read before after due = IsRefusal Refused read due × (after ≡ before)
   IsDueFor (Generate n) read before after Memory = after ≡ before
   IsDueFor (Summarize n) read before after Memory = Unit {0}
   IsDueFor asked read before after due = ⊥
@@ -91,6 +96,11 @@ module _ {K : Type 0} (keeping : Keeping K) where
   abbrev pub IsDue : Option Asked → Passage → (before after : List K) → Due → Type 0
   IsDue (Some asked) read before after due = IsDueFor asked read before after due
   IsDue None read before after due = (due ≡ BadWords) × (after ≡ before)
+
+-- The keepers come back, and tell the answers that they gave behind those before. Where stores were written behind, nothing is said of these answers.
+abbrev pub ComeBack : {K : Type 0} → Keeping K → Option Asked → (before after : List K) → Type 0
+ComeBack keeping (Some (Behind n)) before after = AreKept (untold keeping) before after
+ComeBack keeping asked before after = AreKept keeping before after
 
 -- It was written, and its status is told, or a write failed in it.
 abbrev pub IsWritten : Due → Passage → Status → Type 0

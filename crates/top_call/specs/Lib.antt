@@ -1,7 +1,9 @@
 pub mod Answers
 pub mod Asking
+pub mod Behind
 pub mod Due
 pub mod EachRun
 pub mod Passages
 pub mod Serving
 pub mod Status
+pub mod Stopping

@@ -1,9 +1,7 @@
 -- What a call found and left at its source, its sink and its keepers.
-use Rattle.std.specs.Prelude.{ℕ, ◌≤◌, List, Option}
+use Rattle.std.specs.Prelude.{ℕ, List, Option}
 use Rattle.base_outside.specs.declared.traits.Source.{Ghosts as Sourcing}
 use Rattle.base_outside.specs.declared.traits.Sink.{Ghosts as Sinking}
-use Rattle.member_keeper.specs.declared.keeper.Keeper.{Ghosts as Keeping}
-use Rattle.report_lines.specs.Kept.{AreKept}
 
 -- The bytes that a source had left, or that a sink had taken, before a call and after it, where they are told; and its counts of faults.
 pub record Passage : Type 0 where
@@ -29,9 +27,3 @@ pub record Traffic (K : Type 0) : Type 0 where
 
 abbrev pub traffic : {S W K : Type 0} → Sourcing S → Sinking W → (source left : S) → (sink filled : W) → (before after : List K) → Traffic K
 traffic sourcing sinking source left sink filled before after = record { read = reading sourcing source left; written = writing sinking sink filled; before = before; after = after }
-
--- Whatever was asked, the keepers come back in their order, and no count falls.
-pub record Returns {K : Type 0} (keeping : Keeping K) (t : Traffic K) : Type 0 where
-  pub kept : AreKept keeping t.before t.after
-  pub source_later : t.read.faults ≤ t.read.now
-  pub sink_later : t.written.faults ≤ t.written.now

@@ -2,7 +2,8 @@
 --     IsDone        with status `Done` the text is what was asked for
 --     Cause        why a status is answered
 --     Answers        what the words and the bytes of the source call for is answered
-use Rattle.std.specs.Prelude.{◌≡◌, ℕ, List, [], codes, String, Some, ◌⊎◌}
+--     Returns        the keepers come back
+use Rattle.std.specs.Prelude.{◌≡◌, ℕ, ◌≤◌, List, [], codes, String, Some, ◌⊎◌}
 use Rattle.std.specs.declared.alloc.Global.{Global}
 use Rattle.std.specs.Io.KnownBytes.{Appends}
 use Rattle.base_outside.specs.Causes.{Rose}
@@ -10,20 +11,22 @@ use Rattle.base_outside.specs.Transfers.{ReadsUpTo, AppendsPrefix}
 use Rattle.member_keeper.specs.declared.keeper.Keeper.{Ghosts as Keeping}
 use Rattle.script_reading.specs.declared.clients.Clients.{Clients}
 use Rattle.script_reading.specs.declared.clients.Clients.TheVariants.{Allowed}
+use Rattle.report_lines.specs.Kept.{AreKept}
 use Rattle.top_call.specs.Answers.{IsReported, Fulfils, CannotClear, HasNoJson, IsTooLong, TellsRule, SomeRose, IsTextDue, CallsFor, IsUnlessRefused, limit}
-use Rattle.top_call.specs.Asking.{IsAsked, AskNothing}
+use Rattle.top_call.specs.Asking.{IsAsked, AskNothing, AskReport, AskNothingBehind}
+use Rattle.top_call.specs.Behind.{untold}
 use Rattle.top_call.specs.Passages.{Traffic}
 use Rattle.top_call.specs.Status.{code_of}
 use Rattle.top_call.specs.declared.status.Status.{Status}
 use Rattle.top_call.specs.declared.status.Status.TheVariants as status
 use Rattle.top_call.specs.declared.words.Asked.{Asked}
-use Rattle.top_call.specs.declared.words.Asked.TheVariants.{Report, Generate, Summarize}
+use Rattle.top_call.specs.declared.words.Asked.TheVariants.{Generate, Summarize}
 
 module _ {K : Type 0} (keeping : Keeping K) (t : Traffic K) (served : Clients) (words : List (String Global)) where
   -- A refusal has the words that ask for the report of the script on the source; the keepers stay, and this was written.
   pub record Refuses (Why : Clients → Type 0) (text : List ℕ) : Type 0 where
     pub clients : Clients
-    pub asked : IsAsked served (Report clients) words
+    pub asked : AskReport served words clients
     pub why : Why clients
     pub kept : t.after ≡ t.before
     pub told : Appends t.written.old t.written.new text
@@ -41,22 +44,29 @@ module _ {K : Type 0} (keeping : Keeping K) (t : Traffic K) (served : Clients) (
   Cause status.ClearFailed = (asked : Asked) × (text : List ℕ) × IsAsked served asked words × CannotClear keeping asked t.read t.before t.after text × Appends t.written.old t.written.new text
 
   module _ (end : Status) where
-    -- With status `Done` what the words ask for is what the sink's new bytes are: for `plain` and `run`, the source was read to its
+    -- With status `Done` what the words ask for is what the sink's new bytes are: for `plain`, `run` and `behind`, the source was read to its
     -- end, its bytes spell a script, and they are the report of its run over the keepers.
     pub record IsDone : Type 0 where
       pub done : (asked : Asked) → IsAsked served asked words → end ≡ status.Done → (text : List ℕ) × Fulfils keeping asked t.read t.before t.after text × Appends t.written.old t.written.new text
       -- the same of a report, where the source tells what it has left and the sink what it took
-      pub told : (clients : Clients) (bytes earlier : List ℕ) → IsAsked served (Report clients) words → end ≡ status.Done → t.read.old ≡ Some bytes → t.written.old ≡ Some earlier
-          → IsReported keeping clients bytes earlier t.read.new t.written.new t.before t.after
+      pub told : (clients : Clients) (bytes earlier : List ℕ) (a : AskReport served words clients) → end ≡ status.Done → t.read.old ≡ Some bytes → t.written.old ≡ Some earlier
+          → IsReported keeping a.asked clients bytes earlier t.read.new t.written.new t.before t.after
 
     -- What the words call for, and for a report the bytes of a source that tells them, is answered, unless a call fails or memory is refused.
     pub record Answers : Type 0 where
       pub nothing : AskNothing served words → (end ≡ status.Usage) ⊎ (end ≡ status.WriteFailed)
       pub unrun : (n : ℕ) → IsAsked served (Generate n) words → t.after ≡ t.before
-      pub complete : (clients : Clients) (bytes : List ℕ) (wanted : Status) → IsAsked served (Report clients) words → t.read.old ≡ Some bytes → CallsFor clients bytes wanted
+      pub complete : (clients : Clients) (bytes : List ℕ) (wanted : Status) → AskReport served words clients → t.read.old ≡ Some bytes → CallsFor clients bytes wanted
           → IsUnlessRefused (Rose t.read.faults t.read.now) (Rose t.written.faults t.written.now) (SomeRose keeping t.before t.after) wanted end
       pub generates : (n : ℕ) → IsAsked served (Generate n) words → IsUnlessRefused ⊥ (Rose t.written.faults t.written.now) ⊥ status.Done end
       pub summarizes : (n : ℕ) → IsAsked served (Summarize n) words → IsUnlessRefused ⊥ (Rose t.written.faults t.written.now) (SomeRose keeping t.before t.after) status.Done end
+
+  -- Whatever was asked, the keepers come back in their order, and no count falls. What they tell of their answers is told behind what they told, unless stores were written behind.
+  pub record Returns : Type 0 where
+    pub kept : AreKept (untold keeping) t.before t.after
+    pub told : AskNothingBehind served words → AreKept keeping t.before t.after
+    pub source_later : t.read.faults ≤ t.read.now
+    pub sink_later : t.written.faults ≤ t.written.now
 
 -- The process ended with the number of a status, and all of this holds of the call that answered it.
 pub record Exits {K : Type 0} (keeping : Keeping K) (found : List K → Traffic K) (words : List (String Global)) (code : ℕ) : Type 0 where

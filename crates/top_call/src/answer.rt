@@ -1,13 +1,14 @@
-ghost use Rattle.std.specs.Prelude.{◌≡◌, ◌≢◌, ◌≤◌, Some, length, All, IfOk, IfErr, IfSome};
+ghost use Rattle.std.specs.Prelude.{◌≡◌, ◌≢◌, ◌≤◌, Some, None, length, All, IfOk, IfErr, IfSome};
 ghost use Rattle.script_reading.specs.declared.clients.Clients.{Clients};
 ghost use Rattle.script_reading.specs.WellFormed.{HasNoClients, IsAllowed, IsWellFormed};
 ghost use Rattle.report_lines.specs.Kept.{AreKept, IsPlayed};
 ghost use Rattle.top_call.specs.Answers.{ReadsScript, HasScript, IsReportOver, IsSummaryOver};
-ghost use Rattle.top_call.specs.Asking.{IsCounted, IsNoReport, most_steps};
-ghost use Rattle.top_call.specs.Due.{IsUnread, IsFaultDue, IsRefusal, IsToldBy, IsScriptDue, IsDueFor, IsDue};
+ghost use Rattle.top_call.specs.Asking.{IsCounted, IsNoReport, clients_in, most_steps};
+ghost use Rattle.top_call.specs.Due.{IsUnread, IsFaultDue, IsRefusal, IsToldBy, IsScriptDue, IsDueFor, IsDue, ComeBack};
 ghost use Rattle.top_call.specs.Passages.{Passage, reading};
 ghost use Rattle.top_call.specs.declared.words.Asked.TheVariants as is_asked;
 
+use crate::behind::behind_due;
 use crate::due::Due;
 use crate::words::Asked;
 use base_outside::{ReadAllError, Source, read_all};
@@ -108,7 +109,7 @@ pub(crate) fn told<K>(alloc: Global, played: Played<K>) -> Answer<K>
 }
 
 /// Plays a script without clients over values of the six kinds, and tells its report.
-fn play<K: Keeper + Drop>(alloc: Global, script: &Script, keepers: Vec<K>) -> Played<K>
+pub(crate) fn play<K: Keeper + Drop>(alloc: Global, script: &Script, keepers: Vec<K>) -> Played<K>
     requires script { IsWellFormed script.now }
     requires plain { HasNoClients script.now }
     requires keepers { length keepers.items ≡ 8 }
@@ -184,8 +185,8 @@ fn due_for<S: Source, K: Keeper + Drop>(
     requires counted { IsCounted asked }
     requires keepers { length keepers.items ≡ 8 }
     ensures due { IsDueFor K.Keeper.own asked (reading S.Source.own source.old source.new) keepers.items result.keepers.items result.due }
-    ensures kept { AreKept K.Keeper.own keepers.items result.keepers.items }
-    ensures unread { asked ≢ is_asked.Report Clients.Refused → source.new ≡ source.old }
+    ensures kept { ComeBack K.Keeper.own (Some asked) keepers.items result.keepers.items }
+    ensures unread { clients_in asked ≡ None → source.new ≡ source.old }
     ensures later { S.faults source.old ≤ S.faults source.new }
 {
     match asked {
@@ -196,6 +197,7 @@ fn due_for<S: Source, K: Keeper + Drop>(
             keepers,
         },
         Asked::Summarize(n) => summary_due(alloc, n, keepers),
+        Asked::Behind(n) => behind_due(alloc, n, source, keepers),
     }
 }
 
@@ -210,7 +212,7 @@ pub(crate) fn due<S: Source, K: Keeper + Drop>(
     requires counted { IfSome asked IsCounted }
     requires keepers { length keepers.items ≡ 8 }
     ensures due { IsDue K.Keeper.own asked (reading S.Source.own source.old source.new) keepers.items result.keepers.items result.due }
-    ensures kept { AreKept K.Keeper.own keepers.items result.keepers.items }
+    ensures kept { ComeBack K.Keeper.own asked keepers.items result.keepers.items }
     ensures unread { IsNoReport asked → source.new ≡ source.old }
     ensures later { S.faults source.old ≤ S.faults source.new }
 {

@@ -2,8 +2,8 @@ ghost use Rattle.std.specs.Prelude.{◌≡◌, ◌≤◌, length};
 ghost use Rattle.script_reading.specs.declared.clients.Clients.{Clients};
 ghost use Rattle.top_call.specs.Asking.{AskNoReport};
 ghost use Rattle.top_call.specs.Due.{IsWritten};
-ghost use Rattle.top_call.specs.Passages.{writing, traffic, Returns};
-ghost use Rattle.top_call.specs.Serving.{IsDone, Cause, Answers};
+ghost use Rattle.top_call.specs.Passages.{writing, traffic};
+ghost use Rattle.top_call.specs.Serving.{IsDone, Cause, Answers, Returns};
 
 use crate::answer::{Answer, due};
 use crate::running::due_with_clients;
@@ -45,8 +45,8 @@ fn written<K: Sink, D>(sink: &mut K, answer: Answer<D>) -> Outcome<D>
 /// Does what the words ask for, over a keeper for each place, where no clients are run.
 ///
 /// The words are those behind the program's name. `plain` reads a script without clients from the source, runs it and writes its
-/// report to the sink; `gen N` writes a generated script of `N` steps and two, and `sum N` runs it and writes the end of its
-/// report. For these two nothing is read. Where what was asked for can't be had it writes one line that says the cause, and
+/// report to the sink; `behind N` does so too, with each keeper inside one that hands it `N` stores together. `gen N` writes a
+/// generated script of `N` steps and two, and `sum N` runs it and writes the end of its report. For these two nothing is read. Where what was asked for can't be had it writes one line that says the cause, and
 /// nothing where the source failed or memory was refused.
 pub fn replicate_plain<S: Source, K: Sink, D: Keeper + Drop>(
     alloc: Global,
@@ -59,7 +59,7 @@ pub fn replicate_plain<S: Source, K: Sink, D: Keeper + Drop>(
     ensures done { IsDone D.Keeper.own (traffic S.Source.own K.Sink.own source.old source.new sink.old sink.new keepers.items result.keepers.items) Clients.Refused words.now result.status }
     ensures cause { Cause D.Keeper.own (traffic S.Source.own K.Sink.own source.old source.new sink.old sink.new keepers.items result.keepers.items) Clients.Refused words.now result.status }
     ensures answers { Answers D.Keeper.own (traffic S.Source.own K.Sink.own source.old source.new sink.old sink.new keepers.items result.keepers.items) Clients.Refused words.now result.status }
-    ensures returns { Returns D.Keeper.own (traffic S.Source.own K.Sink.own source.old source.new sink.old sink.new keepers.items result.keepers.items) }
+    ensures returns { Returns D.Keeper.own (traffic S.Source.own K.Sink.own source.old source.new sink.old sink.new keepers.items result.keepers.items) Clients.Refused words.now }
     ensures unread { AskNoReport Clients.Refused words.now → source.new ≡ source.old }
 {
     let asked = asked_by(Clients::Refused, words);
@@ -81,7 +81,7 @@ pub fn replicate<R: Threads + Wait + Sync, S: Source, K: Sink, D: Keeper + Drop 
     ensures done { IsDone D.Keeper.own (traffic S.Source.own K.Sink.own source.old source.new sink.old sink.new keepers.items result.keepers.items) Clients.Allowed words.now result.status }
     ensures cause { Cause D.Keeper.own (traffic S.Source.own K.Sink.own source.old source.new sink.old sink.new keepers.items result.keepers.items) Clients.Allowed words.now result.status }
     ensures answers { Answers D.Keeper.own (traffic S.Source.own K.Sink.own source.old source.new sink.old sink.new keepers.items result.keepers.items) Clients.Allowed words.now result.status }
-    ensures returns { Returns D.Keeper.own (traffic S.Source.own K.Sink.own source.old source.new sink.old sink.new keepers.items result.keepers.items) }
+    ensures returns { Returns D.Keeper.own (traffic S.Source.own K.Sink.own source.old source.new sink.old sink.new keepers.items result.keepers.items) Clients.Allowed words.now }
     ensures unread { AskNoReport Clients.Allowed words.now → source.new ≡ source.old }
 {
     let asked = asked_by(Clients::Allowed, words);

@@ -13,10 +13,15 @@ pub enum Asked {
     Generate(u32),
     /// The final block of that script's run.
     Summarize(u32),
+    /// The report of the script on the source, which may have no clients, where so many stores are handed on together.
+    Behind(u8),
 }
 
 /// The most steps that a script is generated with, its last two apart.
 const MOST_STEPS: u32 = 4094;
+
+/// The most stores that are handed on together.
+const MOST_PERIOD: u32 = 64;
 
 /// The number of steps that a word is, in decimal without a sign or a leading zero.
 fn count(word: &str) -> Option<u32>
@@ -56,6 +61,7 @@ pub fn asked_by(clients: Clients, words: &[String]) -> Option<Asked>
             match word.as_str() {
                 "gen" => Some(Asked::Generate(n)),
                 "sum" => Some(Asked::Summarize(n)),
+                "behind" if n <= MOST_PERIOD => Some(Asked::Behind(n as u8)),
                 _ => None,
             }
         }

@@ -26,7 +26,7 @@ use std::{env, io};
 use top_call::Status;
 
 /// Runs the program on the standard streams, over a database in memory for each place, and answers its exit status. Where that is not
-/// the first, one line on standard error says why, for a person.
+/// the first, one line on standard error says why, for a person; and where it is, one may say where the script has a slip.
 pub fn run<R: Env + Input + Print + Eprint + AllocGlobal + Threads + Wait + Sync>(
     rt: &R,
 ) -> ExitCode {

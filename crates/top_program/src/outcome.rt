@@ -27,7 +27,7 @@ pub(crate) fn outcome<R: Threads + Wait + Sync, S: Source, K: Sink, D: Keeper + 
 ) -> ExitCode
     requires { length keepers.items ≡ 8 }
     ensures serves { IfOk words (λ words. Exits D.Keeper.own (traffic S.Source.own K.Sink.own source.old source.new sink.old sink.new keepers.items) words.items (exit_status result)) }
-    // The source is read for `run` and `plain` alone.
+    // The source is read for `run`, `plain` and `behind` alone.
     ensures unread { IfOk words (λ words. AskNoReport Clients.Allowed words.items → source.new ≡ source.old) }
 
     // There are no words.

@@ -1,11 +1,14 @@
-use script_hints::hint;
+use script_hints::{hint, slip};
 use script_reading::Clients;
-use std::alloc::AllocError;
+use std::alloc::{AllocError, Global};
 use std::process::ExitCode;
 use top_call::Status;
 
 const USAGE: &str =
-    "bad words: usage: replicator run|plain < script.json, replicator gen N, replicator sum N (N: 1 to 4094)";
+    "bad words: usage: replicator run|plain|behind K < script.json (K: 1 to 64), replicator gen|sum N (N: 1 to 4094)";
+
+/// The longest script, in bytes, that is looked through for a slip, since to read it again costs as much as to read it.
+const LONGEST_LOOKED_THROUGH: usize = 8_192;
 
 /// What is said of the statuses whose cause is known by them alone.
 const SAID: [(Status, &str); 6] = [
@@ -34,7 +37,8 @@ pub(crate) fn clients_of(words: &Result<Vec<String>, AllocError>) -> Clients {
     }
 }
 
-/// Says on standard error why the program did not do what it was asked, if it did not. A failure to say so changes nothing.
+/// Says on standard error why the program did not do what it was asked, if it did not, and else where the script that it played
+/// may have a slip. A failure to say so changes nothing.
 pub(crate) fn tell<R: Eprint + AllocGlobal>(
     rt: &R,
     code: ExitCode,
@@ -46,11 +50,19 @@ pub(crate) fn tell<R: Eprint + AllocGlobal>(
             let _ = eprintln!(rt; "{line}");
         }
     }
-    if is(code, Status::NotJson) || is(code, Status::NotAScript) {
-        let line = bytes.and_then(|bytes| hint(rt.alloc(), clients, bytes));
-        if let Some(line) = line {
-            let _ = eprintln!(rt; "{line}");
-        }
+    if let Some(line) = bytes.and_then(|bytes| of_script(rt.alloc(), code, clients, bytes)) {
+        let _ = eprintln!(rt; "{line}");
+    }
+}
+
+/// What is said of the bytes that were read, where the program ended so.
+fn of_script(alloc: Global, code: ExitCode, clients: Clients, bytes: &[u8]) -> Option<String> {
+    if is(code, Status::Done) && bytes.len() <= LONGEST_LOOKED_THROUGH {
+        slip(alloc, bytes)
+    } else if is(code, Status::NotJson) || is(code, Status::NotAScript) {
+        hint(alloc, clients, bytes)
+    } else {
+        None
     }
 }
 

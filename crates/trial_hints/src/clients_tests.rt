@@ -34,7 +34,7 @@ const ROWS: &str = r#"{"0":[{"do":"flush","at":0}]}
 , client 0, command 1: "times" is 1025, not a whole number from 1 to 1024 (rule 13)"#;
 
 const REFUSED: &str = r#"[[{"do":"flush","at":0}]]
-: clients are at work under the word "run" alone (rule 14)
+: only the word "run" plays a step with clients (rule 14)
 [[{"do":"flush","at":255}]]
 , client 0, command 1: "at" is 255, not a whole number from 0 to 254 (rule 13: rule 7)"#;
 

@@ -10,4 +10,6 @@ mod rows;
 #[cfg(test)]
 mod script_tests;
 #[cfg(test)]
+mod slips_tests;
+#[cfg(test)]
 mod step_tests;

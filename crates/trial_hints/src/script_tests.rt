@@ -6,11 +6,25 @@ use script_reading::Clients;
 use std::test::Fail;
 
 const TEXTS: &str = r#"{"members":1e999}
-not json: number out of range at line 1 column 17
+not json: number out of range at line 1 column 17, where } stands behind a number
 {"members":1,}
-not json: invalid JSON at line 1 column 14
+not json: invalid JSON at line 1 column 14, where } stands behind a comma
 {"members":
-not json: EOF while parsing at line 1 column 11
+not json: EOF while parsing at line 1 column 11, where the text ends with something still open
+{'members':1}
+not json: invalid JSON at line 1 column 2, where ' stands
+{"members":“1”}
+not json: invalid JSON at line 1 column 12, where a character beyond ASCII stands
+{"members":1 "keys":[]}
+not json: invalid JSON at line 1 column 14, where " stands
+{"members":"\ud800"}
+not json: invalid JSON at line 1 column 12, where a text begins that has an escape or a character which JSON does not allow
+{"members":1]
+not json: invalid JSON at line 1 column 13, where ] stands behind a number
+{"members":tru}
+not json: invalid JSON at line 1 column 12, where t stands
+[[[[[[[[[[[[[[[[[[[[[[[[[[[[[[[[[[[[[[[[[[[[[[[[[[[[[[[[[[[[[[[[[[[[[[[[[[[[[[[[[[[[[[[[[[[[[[[[[[[[[[[[[[[[[[[[[[[[[[[[[[[[[[[[]
+not json: invalid JSON at line 1 column 129, where brackets are nested deeper than 127
 [1]
 not a script: the script is [1], not an object (rule 1)
 {}
@@ -76,9 +90,12 @@ fn tells_of_bytes(rt: HostRuntime) -> Result<(), Fail> {
     for (bytes, told) in [
         (
             b"".as_slice(),
-            "not json: EOF while parsing at line 1 column 0",
+            "not json: EOF while parsing at line 1 column 0, since the text is empty",
         ),
-        (b"[\n\n \xff]", "not json: invalid JSON at line 3 column 2"),
+        (
+            b"[\n\n \xff]",
+            "not json: invalid JSON at line 3 column 2, where a byte stands that is not UTF-8",
+        ),
     ] {
         let hint = hint(alloc, Clients::Refused, bytes).ok_or("no hint")?;
         assert_eq!(rt; hint.as_str(), told);

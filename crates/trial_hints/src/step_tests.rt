@@ -7,9 +7,9 @@ use std::test::Fail;
 const FORMS: &str = r#"{}
 1: "do" is missing (rule 5)
 {"do":"round"},{"do":7}
-2: "do" is 7, not the name of a step (rule 5)
+2: "do" is 7, not update, get, flush, gossip, deliver, lose, round, tick, timeout, remove, join, restart, install, settle or threads (rule 5)
 {"do":"fly"}
-1: "do" is "fly", not the name of a step (rule 5)
+1: "do" is "fly", not update, get, flush, gossip, deliver, lose, round, tick, timeout, remove, join, restart, install, settle or threads (rule 5)
 {"do":"update","at":255}
 1: "op" is missing (rule 5)
 {"do":"update","op":"disable"}

@@ -1,7 +1,9 @@
 //! Trials of the top call, from the words to what is written: scripts and their reports by the word `plain`, scripts with
-//! clients by `run`, in the runtime's threads, generated scripts, and what fails.
+//! clients by `run`, in the runtime's threads, stores that are written behind, generated scripts, and what fails.
 #![tactic(auto)]
 
+#[cfg(test)]
+mod behind_tests;
 #[cfg(test)]
 mod carts_tests;
 #[cfg(test)]
@@ -46,3 +48,5 @@ mod running;
 mod settle_tests;
 #[cfg(test)]
 mod words_tests;
+#[cfg(test)]
+mod wrong_inputs_tests;

@@ -5,7 +5,7 @@ use std::alloc::Global;
 use std::test::Fail;
 use top_call::Status;
 
-const BAD_WORDS: [&str; 27] = [
+const BAD_WORDS: [&str; 34] = [
     "",
     "plain ",
     "plain extra",
@@ -33,6 +33,13 @@ const BAD_WORDS: [&str; 27] = [
     "sum 4095",
     "sum 08",
     "sum +8",
+    "behind",
+    "behind 0",
+    "behind 65",
+    "behind 01",
+    "behind +2",
+    "behind 2 2",
+    "2 behind",
 ];
 
 const GENERATED: &str =

@@ -1,10 +1,8 @@
 use Rattle.std.proofs.Common.{sym, subst}
 use Rattle.script_reading.specs.declared.clients.Clients.TheVariants.{Allowed}
-use Rattle.report_lines.specs.Kept.{AreKept}
-use Rattle.top_call.specs.Due.{IsDue}
+use Rattle.top_call.specs.Due.{IsDue, ComeBack}
 use Rattle.top_call.specs.Passages.{reading, traffic}
-use Rattle.top_call.specs.declared.words.Asked.TheVariants.{Report}
-use Rattle.top_call.proofs.Called.{Called, has_cause, is_done, answers_all}
+use Rattle.top_call.proofs.Called.{Called, has_cause, is_done, answers_all, returned, no_report}
 use Rattle.top_call.proofs.top.replicate.Given as given
 use Rattle.top_call.proofs.top.replicate.Goals as goal
 
@@ -25,14 +23,12 @@ pub returns-clause-cause : goal.returns-clause-cause
 returns-clause-cause g c = has_cause g.D.Keeper _ Allowed c.args.words.now c.written.result.status (called g c)
 
 pub returns-clause-answers : goal.returns-clause-answers
-returns-clause-answers g c = answers_all g.D.Keeper _ Allowed c.args.words.now c.written.result.status (called g c) c.requires
+returns-clause-answers g c = answers_all g.D.Keeper _ Allowed c.args.words.now c.written.result.status (called g c)
 
 pub returns-clause-returns : goal.returns-clause-returns
-returns-clause-returns g c = record {
-  kept = subst (λ keepers. AreKept g.D.Keeper c.args.keepers.items keepers.items) (sym c.written.ensures.keepers) c.due_with_clients.ensures.kept;
-  source_later = c.due_with_clients.ensures.later;
-  sink_later = c.written.ensures.later;
-}
+returns-clause-returns g c =
+    returned g.D.Keeper _ Allowed c.args.words.now c.asked_by-asked.result c.asked_by-asked.ensures.asked
+    (subst (λ keepers. ComeBack g.D.Keeper c.asked_by-asked.result c.args.keepers.items keepers.items) (sym c.written.ensures.keepers) c.due_with_clients.ensures.kept) c.due_with_clients.ensures.later c.written.ensures.later
 
 pub returns-clause-unread : goal.returns-clause-unread
-returns-clause-unread g c = λ none. c.due_with_clients.ensures.unread (λ clients is. none clients ((c.asked_by-asked.ensures.asked (Report clients)).0 is))
+returns-clause-unread g c = λ none. c.due_with_clients.ensures.unread (no_report Allowed c.args.words.now c.asked_by-asked.result c.asked_by-asked.ensures.asked none)
