@@ -10,7 +10,7 @@ pub returns-then-is_deleted : goal.returns-then-is_deleted
 returns-then-is_deleted c = λ H are.
     ap (λ (b : Bool). if b then Deleted else kinds.shown c.args.kind H) (sym c.if-is_deleted.true ∙ c.is_deleted.ensures ∙ operation_means c.args.records.now H are kinds.is_delete)
 
-pub returns-else-is_deleted : goal.returns-else-is_deleted
-returns-else-is_deleted c = λ H are.
+pub returns : goal.returns
+returns c = λ H are.
     ok_same c.value_in_order.result _ _ (c.value_in_order.ensures H are) (
     ap (λ (b : Bool). if b then Deleted else kinds.shown c.args.kind H) (sym c.if-is_deleted.false ∙ c.is_deleted.ensures ∙ operation_means c.args.records.now H are kinds.is_delete))
