@@ -194,7 +194,7 @@ const NAMES: [Input; 12] = [
 {"do":"flush","at":0}]}
 "#,
         written: "not a script: step 3 rule 5\n",
-        told: r#"not a script: step 3: "op" is "inc", not increment, decrement, add, remove, enable or assign (rule 5)"#,
+        told: r#"not a script: step 3: "op" is "inc", not increment, decrement, add, remove, enable, assign or delete (rule 5)"#,
     },
     Input {
         text: r#"{"members":2,"keys":[{"key":"n","kind":"gcounter"},{"key":"s","kind":"orset"},{"key":"r","kind":"lwwregister"}],"steps":[{"do":"flush","at":0},
@@ -203,7 +203,7 @@ const NAMES: [Input; 12] = [
 {"do":"flush","at":0}]}
 "#,
         written: "not a script: step 3 rule 5\n",
-        told: r#"not a script: step 3: "op" is "disable", not increment, decrement, add, remove, enable or assign (rule 5)"#,
+        told: r#"not a script: step 3: "op" is "disable", not increment, decrement, add, remove, enable, assign or delete (rule 5)"#,
     },
     Input {
         text: r#"{"members":2,"keys":[{"key":"n","kind":"gcounter"},{"key":"s","kind":"orset"},{"key":"r","kind":"lwwregister"}],"steps":[{"do":"flush","at":0},
@@ -387,16 +387,16 @@ const VALUES: [Input; 17] = [
 {"do":"flush","at":0}]}
 "#,
         written: "not a script: step 3 rule 7\n",
-        told: r#"not a script: step 3: "at" is "0", not a whole number from 0 to 63 (rule 7)"#,
+        told: r#"not a script: step 3: "at" is "0", not a whole number from 0 to 254 (rule 7)"#,
     },
     Input {
         text: r#"{"members":2,"keys":[{"key":"n","kind":"gcounter"},{"key":"s","kind":"orset"},{"key":"r","kind":"lwwregister"}],"steps":[{"do":"flush","at":0},
 {"do":"flush","at":0},
-{"do":"flush","at":64},
+{"do":"flush","at":255},
 {"do":"flush","at":0}]}
 "#,
         written: "not a script: step 3 rule 7\n",
-        told: r#"not a script: step 3: "at" is 64, not a whole number from 0 to 63 (rule 7)"#,
+        told: r#"not a script: step 3: "at" is 255, not a whole number from 0 to 254 (rule 7)"#,
     },
     Input {
         text: r#"{"members":2,"keys":[{"key":"n","kind":"gcounter"},{"key":"s","kind":"orset"},{"key":"r","kind":"lwwregister"}],"steps":[{"do":"flush","at":0},
@@ -432,7 +432,7 @@ const VALUES: [Input; 17] = [
 {"do":"flush","at":0}]}
 "#,
         written: "not a script: step 3 rule 7\n",
-        told: r#"not a script: step 3: "at" is "x", not a whole number from 0 to 63 (rule 7)"#,
+        told: r#"not a script: step 3: "at" is "x", not a whole number from 0 to 254 (rule 7)"#,
     },
     Input {
         text: r#"{"members":2,"keys":[{"key":"n","kind":"gcounter"},{"key":"s","kind":"orset"},{"key":"r","kind":"lwwregister"}],"steps":[{"do":"flush","at":0},
