@@ -1,4 +1,4 @@
-use Rattle.std.proofs.Common.{◌≡◌, ap, ◌∙◌}
+use Rattle.std.proofs.Common.{ap, ◌∙◌}
 use Rattle.model_history.specs.History.{versions}
 use Rattle.data_markers.specs.Marks.{performed_in}
 use Rattle.data_envelope.proofs.Holding.{held_pruned}
