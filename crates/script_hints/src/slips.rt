@@ -157,7 +157,7 @@ fn do_of(step: &Value) -> Option<&str> {
     step.get("do")?.as_str()
 }
 
-/// Whether an operation is one of a kind.
+/// Whether an operation is one of a kind. A key of every kind may be deleted.
 fn fits(op: &str, kind: &str) -> bool {
     match op {
         "increment" => matches!(kind, "gcounter" | "pncounter"),
@@ -165,6 +165,7 @@ fn fits(op: &str, kind: &str) -> bool {
         "add" => matches!(kind, "gset" | "orset"),
         "remove" => kind == "orset",
         "enable" => kind == "flag",
+        "delete" => true,
         _ => kind == "lwwregister",
     }
 }

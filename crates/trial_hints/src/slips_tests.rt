@@ -33,9 +33,10 @@ const ROWS: &str = r#"{"do":"round"},{"do":"get","at":0,"key":"nn"}
 {"do":"threads","clients":[[{"do":"flush","at":0}],[{"do":"tick","at":1},{"do":"get","at":1,"key":"m"}]]}
 1, client 1, command 2: "key" is "m", which is not declared"#;
 
-// No slip: what a member refuses by what became of it and of its messages, and a view that is not there.
+// No slip: what a member refuses by what became of it and of its messages, a view that is not there, and a delete, which
+// every kind of key may have.
 const NONE: &str =
-    r#"{"do":"remove","id":1},{"do":"flush","at":1},{"do":"deliver","from":0,"to":1},{"do":"install","at":0,"view":9}"#;
+    r#"{"do":"remove","id":1},{"do":"flush","at":1},{"do":"deliver","from":0,"to":1},{"do":"install","at":0,"view":9},{"do":"update","at":0,"key":"n","op":"delete"},{"do":"update","at":0,"key":"s","op":"delete"}"#;
 
 #[test]
 fn tells_of_slips(rt: HostRuntime) -> Result<(), Fail> {
