@@ -1,6 +1,7 @@
 -- How a section's messages come to the links of its world.
 --     IsSent, AreSentByAll        what was posted stands at the ends of the links
 --     ArePassedTo, ArePassed        what was taken is passed, where none was pending before
+--     AreBrought        both
 --     IsLeftOf        the world that is left
 use Rattle.std.specs.Prelude.{◌≡◌, ◌≢◌, ℕ, ◌+◌, ◌<◌, ◌&&◌, Bool, false, List, [], ◌∷◌, length, ◌==◌, if◌then◌else◌, Option, Some, None, option_map}
 use Rattle.model_members.specs.View.{View, is_member}
@@ -45,6 +46,12 @@ module _ {T K Kind Delta : Type 0} {ghosts : Ghosts T Kind Op Delta} {keeping : 
   AreSentByAll ids histories old new =
       ((place a b : ℕ) → place < 8 → ids place ≡ Some a → ((other : ℕ) → ids other ≡ Some a → other ≡ place) → channel_at new a b ≡ option_map (extended (sent_to b (histories place))) (channel_at old a b))
       × ((a b : ℕ) → ((place : ℕ) → place < 8 → ids place ≢ Some a) → channel_at new a b ≡ channel_at old a b)
+
+  -- what was taken is passed, and then what was posted stands at the ends of the links
+  pub record AreBrought (view : View) (ids : ℕ → Option ℕ) (histories : ℕ → List (EntryOf ghosts keeping)) (old new : Channels (Message T Kind Op Delta ghosts)) : Type 0 where
+    pub mid : Channels (Message T Kind Op Delta ghosts)
+    pub passed : ArePassed view histories old mid
+    pub sent : AreSentByAll ids histories mid new
 
   -- the world that a section left of what these parts were, before their members went on
   pub record IsLeftOf (parts : Parts T K Kind Op Delta ghosts keeping) (histories : ℕ → List (EntryOf ghosts keeping)) (new : World T K Kind Op Delta ghosts keeping) : Type 0 where

@@ -1,4 +1,4 @@
-ghost use Rattle.std.specs.Prelude.{◌≡◌, ℕ, map, IfOk, IfErr};
+ghost use Rattle.std.specs.Prelude.{◌≡◌, ℕ, map, IfOk, IfErr, OnOk, option_map};
 ghost use Rattle.std.specs.List.{AllByRecursion};
 ghost use Rattle.thread_machine.specs.Machines.{machine_at};
 ghost use Rattle.thread_cell.specs.Entries.{history_at};
@@ -9,16 +9,32 @@ ghost use Rattle.world_members.specs.declared.world.World as worlds;
 ghost use Rattle.world_members.specs.Parts.{ArePlaced};
 ghost use Rattle.world_members.specs.Places.{keepers_of};
 ghost use Rattle.thread_run_order.specs.Section.{IsGiven, IsLeft};
-ghost use Rattle.thread_run_order.specs.Finishing.{IsLeftOf, members_in};
+ghost use Rattle.thread_run_order.specs.Finishing.{AreBrought, IsLeftOf, members_in};
 
 use crate::passing::pass_all;
 use crate::posting::post_members;
+use base_bytes::Memory;
 use data_lattice::SpelledData;
 use member_keeper::Keeper;
-use member_node::Node;
+use member_node::{Message, Node};
+use member_views::View;
 use model_kinds::Op;
 use thread_cell::histories::Histories;
-use world_members::{Parts, World};
+use thread_machine::machines::Machines;
+use world_members::{Links, Parts, World};
+
+/// Passes what the members of a view took of each other, and puts what they posted at the ends of their links.
+fn bring<T: SpelledData<Op = Op>, K: Keeper + Drop>(
+    links: &mut Links<Message<T>>,
+    view: &View,
+    members: &Machines<Node<T, K>>,
+    histories: Histories<Node<T, K>>,
+) -> Result<(), Memory>
+    ensures { OnOk result (AreBrought view.now (λ place. option_map (λ node. node.id) (machine_at members.now place)) (history_at histories) links.old links.new) }
+{
+    pass_all(links, view, &histories)?;
+    post_members(links, members, histories)
+}
 
 /// The world after a section: its members stand at their places, what they posted stands at the ends of their links, and
 /// what they took is passed where no message was pending before.
@@ -44,8 +60,7 @@ pub fn finish<T: SpelledData<Op = Op>, K: Keeper + Drop>(
         seats,
     } = parts;
     let mut links = links;
-    pass_all(&mut links, views.last(), &histories);
-    let outcome = post_members(&mut links, &members, histories);
+    let outcome = bring(&mut links, views.last(), &members, histories);
     let world = World::from_parts(Parts {
         views,
         members,

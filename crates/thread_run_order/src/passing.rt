@@ -1,9 +1,10 @@
-ghost use Rattle.std.specs.Prelude.{◌≡◌, ◌≤◌, ◌<◌, ◌^◌, length};
+ghost use Rattle.std.specs.Prelude.{◌≡◌, ◌≤◌, ◌<◌, ◌^◌, length, OnOk};
 ghost use Rattle.thread_cell.specs.Entries.{history_at};
 ghost use Rattle.world_members.specs.Channels.{ChangesOne};
 ghost use Rattle.thread_run_order.specs.Section.{takes_of, taken_from};
 ghost use Rattle.thread_run_order.specs.Finishing.{after_taken, ArePassedTo, ArePassed};
 
+use base_bytes::Memory;
 use base_vectors::Id;
 use data_lattice::SpelledData;
 use member_keeper::Keeper;
@@ -53,15 +54,16 @@ fn pass_on<T: SpelledData<Op = Op>, K: Keeper + Drop>(
     from: Id,
     to: Id,
     history: &[Entry<Node<T, K>>],
-)
-    ensures { ChangesOne (after_taken (length (taken_from from history.now))) from to links.old links.new }
+) -> Result<(), Memory>
+    ensures { OnOk result (ChangesOne (after_taken (length (taken_from from history.now))) from to links.old links.new) }
 {
     let next = links.next(from, to);
     let sent = links.sent(from, to);
     if next == sent {
         let taken = count_taken(history, from);
-        links.set_next(from, to, next + taken);
+        links.set_next(from, to, next + taken)?;
     }
+    Ok(())
 }
 
 /// Passes what a history takes of each member of a view.
@@ -70,12 +72,13 @@ fn pass_to<T: SpelledData<Op = Op>, K: Keeper + Drop>(
     view: &View,
     to: Id,
     history: &[Entry<Node<T, K>>],
-)
-    ensures { ArePassedTo view.now to history.now links.old links.new }
+) -> Result<(), Memory>
+    ensures { OnOk result (ArePassedTo view.now to history.now links.old links.new) }
 {
     for member in view.members() {
-        pass_on(links, member.id, to, history);
+        pass_on(links, member.id, to, history)?;
     }
+    Ok(())
 }
 
 /// Passes what the members of a view take of each other.
@@ -83,12 +86,18 @@ pub(crate) fn pass_all<T: SpelledData<Op = Op>, K: Keeper + Drop>(
     links: &mut Links<Message<T>>,
     view: &View,
     histories: &Histories<Node<T, K>>,
-)
-    ensures { ArePassed view.now (history_at histories.now) links.old links.new }
+) -> Result<(), Memory>
+    ensures { OnOk result (ArePassed view.now (history_at histories.now) links.old links.new) }
 {
     for member in view.members() {
-        pass_to(links, view, member.id, history_of(histories, member.place));
+        pass_to(
+            links,
+            view,
+            member.id,
+            history_of(histories, member.place),
+        )?;
     }
+    Ok(())
 }
 
 /// The history of a place.

@@ -20,3 +20,4 @@ pub mod Rounding
 pub mod SettleParts
 pub mod Settled
 pub mod Entering
+pub mod Made

@@ -24,12 +24,13 @@ use Rattle.member_node.specs.declared.node.Node.{Node}
 use Rattle.member_node.specs.declared.input.Input.{Input}
 use Rattle.member_node.specs.declared.reply.Output.{Output}
 use Rattle.member_node.specs.Steps.{MakesStep, IsStepOf}
-use Rattle.world_members.specs.Channels.{Channel, channel_at, ChangesOne, channel_of, row_of, extended, Channels}
+use Rattle.world_members.specs.Channels.{Channel, channel_at, ChangesOne, channel_of, row_of, made, channels_in, extended, Channels}
 use Rattle.world_members.specs.declared.links.Link.{Link}
-use Rattle.world_members.specs.Sending.{HasRoom, messages_to, told_of, receivers, most_posts, Sends, IsStepOnRow, IsStepOnLinks}
+use Rattle.world_members.specs.Sending.{HasRoom, messages_to, AreAppended, told_of, receivers, most_posts, Sends, IsStepOnRow, IsStepOnLinks}
 use Rattle.world_members.specs.declared.sending.Answered.{Answered}
 use Rattle.world_members.specs.declared.event.SentTo.{SentTo}
 use Rattle.world_members.proofs.Lists.{slice_get-set_same, slice_get-set_other, slice_get-replicate}
+use Rattle.world_members.proofs.Made.{made_mapped}
 
 module _ {R M : Type 0} (seen : R → List (Channel M)) where
   in_row : (o : Option R) (rows : List R) (a b : ℕ) → slice_get rows a ≡ o → channel_at (map seen rows) a b ≡ option_and_then (λ (row : R). slice_get (seen row) b) o
@@ -246,18 +247,18 @@ weaker_err (Err e) P Q f h = f h
 module _ {T Kind Op Delta : Type 0} {ghosts : Ghosts T Kind Op Delta} where
   -- a row whose posts stand at the ends of its channels, among all rows
   pub row_sends : (rows : List (Vec (Link (Message T Kind Op Delta ghosts)) Global)) (from : ℕ) (old new : Vec (Link (Message T Kind Op Delta ghosts)) Global) (posts : List (Post T Kind Op Delta ghosts)) → from < length rows → old ≡ get_or rows from old
-      → ((b : ℕ) → slice_get (row_of new) b ≡ option_map (extended (messages_to posts b)) (slice_get (row_of old) b)) → Sends from posts (map row_of rows) (map row_of (set rows from new))
+      → ((b : ℕ) → slice_get (channels_in new) b ≡ option_map (extended (messages_to posts b)) (slice_get (channels_in old) b)) → Sends from posts (map channels_in rows) (map channels_in (set rows from new))
   row_sends rows from old new posts within is each a b = elim (eqb_tells a from) [
     | inl here ↦
-        ap (λ i. channel_at (map row_of (set rows from new)) i b) here.1 ∙ row_set row_of rows from b new within ∙ each b
-        ∙ ap (option_map (extended (messages_to posts b))) (sym (ap (λ i. channel_at (map row_of rows) i b) here.1 ∙ row_at row_of rows from b old within is))
-        ∙ sym (ap (λ x. if x then option_map (extended (messages_to posts b)) (channel_at (map row_of rows) a b) else channel_at (map row_of rows) a b) here.0)
+        ap (λ i. channel_at (map channels_in (set rows from new)) i b) here.1 ∙ row_set channels_in rows from b new within ∙ each b
+        ∙ ap (option_map (extended (messages_to posts b))) (sym (ap (λ i. channel_at (map channels_in rows) i b) here.1 ∙ row_at channels_in rows from b old within is))
+        ∙ sym (ap (λ x. if x then option_map (extended (messages_to posts b)) (channel_at (map channels_in rows) a b) else channel_at (map channels_in rows) a b) here.0)
     | inr other ↦
-        row_kept row_of rows from a b new other.1 ∙ sym (ap (λ x. if x then option_map (extended (messages_to posts b)) (channel_at (map row_of rows) a b) else channel_at (map row_of rows) a b) other.0)
+        row_kept channels_in rows from a b new other.1 ∙ sym (ap (λ x. if x then option_map (extended (messages_to posts b)) (channel_at (map channels_in rows) a b) else channel_at (map channels_in rows) a b) other.0)
   ]
 
-  pub same_rows : (rows : List (Vec (Link (Message T Kind Op Delta ghosts)) Global)) (from : ℕ) (old new : Vec (Link (Message T Kind Op Delta ghosts)) Global) → old ≡ get_or rows from old → row_of new ≡ row_of old → map row_of (set rows from new) ≡ map row_of rows
-  same_rows rows from old new is same = map-set_same row_of rows from new old (same ∙ ap row_of is)
+  pub same_rows : (rows : List (Vec (Link (Message T Kind Op Delta ghosts)) Global)) (from : ℕ) (old new : Vec (Link (Message T Kind Op Delta ghosts)) Global) → old ≡ get_or rows from old → channels_in new ≡ channels_in old → map channels_in (set rows from new) ≡ map channels_in rows
+  same_rows rows from old new is same = map-set_same channels_in rows from new old (same ∙ ap channels_in is)
 
 -- STEPS
 
@@ -278,11 +279,25 @@ module _ {T K Kind Op Delta : Type 0} {ghosts : Ghosts T Kind Op Delta} {keeping
         tells = λ few. tells none (let n = few.few in omega arith);
       }
 
+  -- its links were made before
+  pub step_made : (old mid new : List (Channel (Message T Kind Op Delta ghosts))) → mid ≡ made old → IsStepOnRow spelling before input answered after mid new → IsStepOnRow spelling before input answered after (made old) (made new)
+  step_made old mid new e s =
+      record {
+        fate = s.fate;
+        posts = s.posts;
+        makes = s.makes;
+        tells = s.tells;
+        sends = λ few. let each = appended (s.sends few) in subst (AreAppended s.posts (made old)) (sym (made_mapped old new (extended (messages_to s.posts 0)) (each 0))) each;
+      }
+    where
+      appended : AreAppended s.posts mid new → AreAppended s.posts (made old) new
+      appended each = subst (λ (xs : List (Channel (Message T Kind Op Delta ghosts))). AreAppended s.posts xs new) e each
+
   -- the row among all rows
-  pub steps_on_links : (rows : List (Vec (Link (Message T Kind Op Delta ghosts)) Global)) (sender from : ℕ) (old new : Vec (Link (Message T Kind Op Delta ghosts)) Global) (links : Channels (Message T Kind Op Delta ghosts)) → sender < length rows → old ≡ get_or rows sender old → sender ≡ from → map row_of rows ≡ links
-      → IsStepOnRow spelling before input answered after (row_of old) (row_of new) → IsStepOnLinks spelling before input answered after from links (map row_of (set rows sender new))
+  pub steps_on_links : (rows : List (Vec (Link (Message T Kind Op Delta ghosts)) Global)) (sender from : ℕ) (old new : Vec (Link (Message T Kind Op Delta ghosts)) Global) (links : Channels (Message T Kind Op Delta ghosts)) → sender < length rows → old ≡ get_or rows sender old → sender ≡ from → map channels_in rows ≡ links
+      → IsStepOnRow spelling before input answered after (channels_in old) (channels_in new) → IsStepOnLinks spelling before input answered after from links (map channels_in (set rows sender new))
   steps_on_links rows sender from old new links within is here seen s =
-      let later = map row_of (set rows sender new) in
+      let later = map channels_in (set rows sender new) in
       record {
         fate = s.fate;
         posts = s.posts;
@@ -290,5 +305,5 @@ module _ {T K Kind Op Delta : Type 0} {ghosts : Ghosts T Kind Op Delta} {keeping
         tells = s.tells;
         sends = λ few.
             subst (λ (l : Channels (Message T Kind Op Delta ghosts)). Sends from s.posts l later) seen
-            (subst (λ (i : ℕ). Sends i s.posts (map row_of rows) later) here (row_sends rows sender old new s.posts within is (s.sends few)));
+            (subst (λ (i : ℕ). Sends i s.posts (map channels_in rows) later) here (row_sends rows sender old new s.posts within is (s.sends few)));
       }

@@ -1,9 +1,11 @@
 -- Links as contracts see them: for each identity the channels to all identities.
 --     channel_at        the channel from one to another
+--     channels_in        those from one identity, before its links are made too
 --     next_on, count_on, message_on        what is asked of a channel, where there may be none
 --     ChangesOne        what a write to one channel leaves
-use Rattle.std.specs.Prelude.{◌≡◌, ◌&&◌, ℕ, suc, Vec, List, [], ◌++◌, map, length, take, option_and_then, option_map, slice_get, Option, Some, None, ◌==◌, if◌then◌else◌}
+use Rattle.std.specs.Prelude.{◌≡◌, ◌&&◌, ℕ, suc, Vec, List, [], ◌∷◌, ◌++◌, map, length, take, replicate, option_and_then, option_map, slice_get, Option, Some, None, ◌==◌, if◌then◌else◌}
 use Rattle.std.specs.declared.alloc.Global.{Global}
+use Rattle.model_history.specs.Table.{identity_limit}
 use Rattle.world_members.specs.declared.links.Link.{Link}
 
 -- all messages ever sent from one identity to another, and the number of the next one due
@@ -23,6 +25,15 @@ module _ {M : Type 0} where
 
   abbrev pub no_messages : Channel M
   no_messages = record { messages = []; next = 0 }
+
+  -- where no link is made yet no message was sent
+  abbrev pub made : List (Channel M) → List (Channel M)
+  made [] = replicate identity_limit no_messages
+  made (channel ∷ channels) = channel ∷ channels
+
+  -- the channels from one identity to all
+  abbrev pub channels_in : Vec (Link M) Global → List (Channel M)
+  channels_in row = made (row_of row)
 
   abbrev pub channel_at : Channels M → ℕ → ℕ → Option (Channel M)
   channel_at channels from to = option_and_then (λ row. slice_get row to) (slice_get channels from)
@@ -54,6 +65,10 @@ module _ {M : Type 0} where
   -- the first messages alone
   abbrev pub cut_to : ℕ → Channel M → Channel M
   cut_to sent channel = record channel { messages = take sent channel.messages }
+
+  -- of the channels from one identity that to another is changed, if it is there, and the others stay
+  abbrev pub ChangesIn : (Channel M → Channel M) → ℕ → List (Channel M) → List (Channel M) → Type 0
+  ChangesIn change to old new = (b : ℕ) → slice_get new b ≡ (if b == to then option_map change (slice_get old b) else slice_get old b)
 
   -- one channel is changed, if it is there, and the others stay
   abbrev pub ChangesOne : (Channel M → Channel M) → ℕ → ℕ → Channels M → Channels M → Type 0

@@ -1,6 +1,6 @@
 ghost use Rattle.std.specs.Prelude.{◌≡◌, ℕ, ◌<◌, ◌^◌, ◌&&◌, ◌==◌, nat_lt, if◌then◌else◌, [], ◌∷◌, length, map, replicate, slice_get, Some, None, IfOk, OnOk, OnErr, option_copied, option_map};
 ghost use Rattle.model_history.specs.Table.{identity_limit};
-ghost use Rattle.world_members.specs.Channels.{channel_at, channel_of, row_of, no_messages, next_on, count_on, message_on, passed, extended, due_from, ChangesOne};
+ghost use Rattle.world_members.specs.Channels.{channel_at, channel_of, row_of, channels_in, no_messages, next_on, count_on, message_on, passed, extended, due_from, ChangesIn, ChangesOne};
 
 use base_bytes::{Items, Memory};
 use base_vectors::{IDENTITIES, Id};
@@ -14,20 +14,21 @@ pub(crate) struct Link<M> {
     pub(crate) next: usize,
 }
 
-/// The links from each identity to each.
+/// The links from each identity to each. Those from one are made before its first step.
 #[derive(Drop)]
 pub struct Links<M> {
+    alloc: Global,
     pub(crate) rows: Vec<Vec<Link<M>>>,
 }
 
 impl<M> Model for Links<M> {
     ghost use Rattle.std.specs.Prelude.{◌≡◌, map, length};
     ghost use Rattle.model_history.specs.Table.{identity_limit};
-    ghost use Rattle.world_members.specs.Channels.{Channels, row_of};
+    ghost use Rattle.world_members.specs.Channels.{Channels, channels_in};
 
     ghost Value = { Channels M };
 
-    ghost view = { λ links. map row_of links.rows.items };
+    ghost view = { λ links. map channels_in links.rows.items };
 
     ghost invariant = { λ links. length links.rows.items ≡ identity_limit };
 }
@@ -39,16 +40,18 @@ impl<M: Drop> Links<M> {
     {
         let mut rows = Items::new(alloc);
         for _number in 0..IDENTITIES {
-            rows.push(new_row(alloc)?)?;
+            rows.push(Vec::new(alloc))?;
         }
         Ok(Links {
+            alloc,
             rows: rows.into_vec(),
         })
     }
 
-    /// The link from one identity to another.
+    /// The link from one identity to another, if it is made.
     fn link(&self, from: Id, to: Id) -> Option<&Link<M>>
-        ensures { option_map channel_of (option_copied result) ≡ channel_at self.now from to }
+        ensures next { next_on (option_map channel_of (option_copied result)) ≡ next_on (channel_at self.now from to) }
+        ensures count { count_on (option_map channel_of (option_copied result)) ≡ count_on (channel_at self.now from to) }
     {
         match self.rows.get(usize::from(from.number())) {
             Some(row) => row.get(usize::from(to.number())),
@@ -100,19 +103,35 @@ impl<M: Drop> Links<M> {
     {
         let sender = usize::from(from.number());
         if sender < self.rows.len() {
-            append_in(&mut self.rows[sender], usize::from(to.number()), message)?;
+            append_in(
+                self.alloc,
+                &mut self.rows[sender],
+                usize::from(to.number()),
+                message,
+            )?;
         }
         Ok(())
     }
 
     /// The message of this number is due next on a link.
-    pub fn set_next(&mut self, from: Id, to: Id, next: usize)
-        ensures { ChangesOne (due_from next) from to self.old self.new }
+    ///
+    /// # Errors
+    ///
+    /// Memory was refused, and the links are as they were.
+    pub fn set_next(&mut self, from: Id, to: Id, next: usize) -> Result<(), Memory>
+        ensures ok { OnOk result (ChangesOne (due_from next) from to self.old self.new) }
+        ensures err { OnErr result (self.new ≡ self.old) }
     {
         let sender = usize::from(from.number());
         if sender < self.rows.len() {
-            set_next_in(&mut self.rows[sender], usize::from(to.number()), next);
+            set_next_in(
+                self.alloc,
+                &mut self.rows[sender],
+                usize::from(to.number()),
+                next,
+            )?;
         }
+        Ok(())
     }
 
     /// The message of this number was taken or lost: where it was the next one due, the one after it is due now.
@@ -143,7 +162,7 @@ pub(crate) fn message_in<M>(
     to: usize,
     index: usize,
 ) -> Option<&M>
-    ensures { option_copied result ≡ message_on (channel_at (map row_of rows.now) from to) index }
+    ensures { option_copied result ≡ message_on (channel_at (map channels_in rows.now) from to) index }
 {
     match rows.get(from) {
         Some(row) => match row.get(to) {
@@ -168,10 +187,21 @@ fn new_row<M: Drop>(alloc: Global) -> Result<Vec<Link<M>>, Memory>
     Ok(row.into_vec())
 }
 
+/// Makes the links from an identity, where they are not made yet.
+pub(crate) fn make_row<M: Drop>(alloc: Global, row: &mut Vec<Link<M>>) -> Result<(), Memory>
+    ensures ok { OnOk result (row_of row.new ≡ channels_in row.old) }
+    ensures err { OnErr result (row_of row.new ≡ row_of row.old) }
+{
+    if row.is_empty() {
+        *row = new_row(alloc)?;
+    }
+    Ok(())
+}
+
 /// The message of this number on the link to an identity was taken or lost.
 fn pass_in<M: Drop>(row: &mut Vec<Link<M>>, to: usize, index: usize)
     requires { (link : Link M) → slice_get row.old.items to ≡ Some link → index < length link.messages.items }
-    ensures { (b : ℕ) → slice_get (row_of row.new) b ≡ (if b == to then option_map (passed index) (slice_get (row_of row.old) b) else slice_get (row_of row.old) b) }
+    ensures { ChangesIn (passed index) to (row_of row.old) (row_of row.new) }
 {
     if to < row.len() {
         let link = &mut row[to];
@@ -182,10 +212,16 @@ fn pass_in<M: Drop>(row: &mut Vec<Link<M>>, to: usize, index: usize)
 }
 
 /// Adds a message at the end of the link to an identity.
-fn append_in<M: Drop>(row: &mut Vec<Link<M>>, to: usize, message: M) -> Result<(), Memory>
-    ensures ok { OnOk result ((b : ℕ) → slice_get (row_of row.new) b ≡ (if b == to then option_map (extended (message ∷ [])) (slice_get (row_of row.old) b) else slice_get (row_of row.old) b)) }
-    ensures err { OnErr result (row_of row.new ≡ row_of row.old) }
+fn append_in<M: Drop>(
+    alloc: Global,
+    row: &mut Vec<Link<M>>,
+    to: usize,
+    message: M,
+) -> Result<(), Memory>
+    ensures ok { OnOk result (ChangesIn (extended (message ∷ [])) to (channels_in row.old) (channels_in row.new)) }
+    ensures err { OnErr result (channels_in row.new ≡ channels_in row.old) }
 {
+    make_row(alloc, row)?;
     if to < row.len() {
         let link = &mut row[to];
         link.messages.push(message)?;
@@ -194,11 +230,19 @@ fn append_in<M: Drop>(row: &mut Vec<Link<M>>, to: usize, message: M) -> Result<(
 }
 
 /// The message of this number is due next on the link to an identity.
-fn set_next_in<M: Drop>(row: &mut Vec<Link<M>>, to: usize, next: usize)
-    ensures { (b : ℕ) → slice_get (row_of row.new) b ≡ (if b == to then option_map (due_from next) (slice_get (row_of row.old) b) else slice_get (row_of row.old) b) }
+fn set_next_in<M: Drop>(
+    alloc: Global,
+    row: &mut Vec<Link<M>>,
+    to: usize,
+    next: usize,
+) -> Result<(), Memory>
+    ensures ok { OnOk result (ChangesIn (due_from next) to (channels_in row.old) (channels_in row.new)) }
+    ensures err { OnErr result (channels_in row.new ≡ channels_in row.old) }
 {
+    make_row(alloc, row)?;
     if to < row.len() {
         let link = &mut row[to];
         link.next = next;
     }
+    Ok(())
 }

@@ -3,11 +3,11 @@ ghost use Rattle.model_history.specs.Vector.{IdentitySet};
 ghost use Rattle.model_members.specs.View.{is_member};
 ghost use Rattle.member_node.specs.declared.reply.StepError.TheVariants as failed;
 ghost use Rattle.member_node.specs.Steps.{IsUnchanged};
-ghost use Rattle.world_members.specs.Channels.{channel_at, message_on, row_of};
+ghost use Rattle.world_members.specs.Channels.{channel_at, message_on, row_of, channels_in};
 ghost use Rattle.world_members.specs.Sending.{HasRoom, IsAppended, AppendsPosts, told_of, receivers, most_posts, IsToldAs, IsStepOnRow, IsStepOnLinks, TakesOnLinks};
 
 use crate::event::{Answer, Event, Head, SentTo, Sketches};
-use crate::links::{Link, Links, message_in};
+use crate::links::{Link, Links, make_row, message_in};
 use crate::world::line;
 use base_bytes::{Items, Memory};
 use base_vectors::Id;
@@ -55,6 +55,21 @@ fn most_posts<T: Replica>(view: &View, input: &Input<T>) -> usize
         Input::Take { .. } | Input::GossipTo(_) => 1,
         Input::Install(_) | Input::PruneTick | Input::Timeout(_) => 0,
     }
+}
+
+/// Makes the links from an identity, where they are not made yet, and room for so many more messages on one of them.
+fn reserve_made<M: Drop>(
+    alloc: Global,
+    row: &mut Vec<Link<M>>,
+    to: Id,
+    room: usize,
+) -> Result<(), Memory>
+    ensures same { channels_in row.new ≡ channels_in row.old }
+    ensures made { OnOk result (row_of row.new ≡ channels_in row.old) }
+    ensures room { OnOk result (HasRoom (λ id. id == to) room row.new) }
+{
+    make_row(alloc, row)?;
+    reserve_on(row, to, room)
 }
 
 /// Makes room on the links of a member of a view for what it may send in a step for an input.
@@ -157,6 +172,21 @@ fn step_on_row<T: SpelledData, K: Keeper + Drop>(
     Ok(posted(row, output, sent))
 }
 
+/// A member makes a step, before which its links are made.
+fn step_on_made<T: SpelledData, K: Keeper + Drop>(
+    alloc: Global,
+    node: &mut Node<T, K>,
+    row: &mut Vec<Link<Message<T>>>,
+    input: &Input<T>,
+) -> Result<Answered, StepError>
+    ensures ok { IfOk result (λ answered. IsStepOnRow T.SpelledData.own node.old input.now answered node.new (channels_in row.old) (channels_in row.new)) }
+    ensures full { result ≡ Err failed.HistoryFull → node.old.steps ≡ 16384 }
+    ensures err { OnErr result (IsUnchanged node.old node.new × (channels_in row.new ≡ channels_in row.old)) }
+{
+    make_row(alloc, row)?;
+    step_on_row(alloc, node, row, input)
+}
+
 /// The member of an identity makes a step: its messages go to the ends of its links, and are told.
 pub(crate) fn step_on<T: SpelledData, K: Keeper + Drop>(
     alloc: Global,
@@ -170,7 +200,7 @@ pub(crate) fn step_on<T: SpelledData, K: Keeper + Drop>(
     ensures err { OnErr result (IsUnchanged node.old node.new × (links.new ≡ links.old)) }
 {
     let sender = usize::from(at.number());
-    step_on_row(alloc, node, &mut links.rows[sender], input)
+    step_on_made(alloc, node, &mut links.rows[sender], input)
 }
 
 /// The member of an identity takes the message of a number on a link to it, where it lies: its messages go to the ends of
@@ -190,7 +220,7 @@ pub(crate) fn take_on<T: SpelledData, K: Keeper + Drop>(
 {
     let sent = list_for(alloc, 1)?;
     let sender = usize::from(at.number());
-    reserve_on(&mut links.rows[sender], from, 1)?;
+    reserve_made(alloc, &mut links.rows[sender], from, 1)?;
     let Some(message) = message_in(&links.rows, usize::from(from.number()), sender, index) else {
         unreachable!();
     };

@@ -9,8 +9,9 @@ use Rattle.thread_run_order.proofs.ending.finish.Goals as goal
 pub returns-in-Ok-clause-ok : goal.returns-in-Ok-clause-ok
 returns-in-Ok-clause-ok g c =
     let parts = c.args.parts in
-    left_of {keeping = g.K.Keeper} parts (last_sound parts.views c.last.ensures.sound) (history_at c.args.histories) c.requires.given c.requires.placed c.pass_all.new.links c.post_members-outcome.new.links
-    (subst (λ v. ArePassed {keeping = g.K.Keeper} v (history_at c.args.histories) parts.links c.pass_all.new.links) c.last.ensures.last c.pass_all.ensures) (ok_there _ _ _ c.in-Ok.is c.post_members-outcome.ensures)
+    let brought = ok_there _ _ _ c.in-Ok.is c.bring-outcome.ensures in
+    left_of {keeping = g.K.Keeper} parts (last_sound parts.views c.last.ensures.sound) (history_at c.args.histories) c.requires.given c.requires.placed brought.mid c.bring-outcome.new.links
+    (subst (λ v. ArePassed {keeping = g.K.Keeper} v (history_at c.args.histories) parts.links brought.mid) c.last.ensures.last brought.passed) brought.sent
     c.from_parts-world.result c.from_parts-world.ensures.views c.from_parts-world.ensures.members c.from_parts-world.ensures.links c.from_parts-world.ensures.keys c.from_parts-world.ensures.spare
 
 pub returns-in-Err-clause-err : goal.returns-in-Err-clause-err

@@ -18,7 +18,7 @@ loop-member-preserved g c =
     let small : c.member.inside.place < 8 = subst (λ n. n < 8) (sym (ap (λ (m : Member). m.place) c.member.view_is)) (place_at view sound c.loop-member.member-index c.member-item.result there) in
     all_passed_more {keeping = g.K.Keeper} view sound c.loop-member.member-index c.member-item.result there (history_at c.args.histories.now) c.args.links.now c.loop-member.links c.pass_to.new.links c.loop-member.invariant
     (subst (λ i. ArePassedTo {keeping = g.K.Keeper} view i (history_at c.args.histories.now c.member-item.result.place) c.loop-member.links c.pass_to.new.links) (ap (λ (m : Member). m.identity) c.member.view_is)
-    (subst (λ es. ArePassedTo {keeping = g.K.Keeper} view c.member.inside.id es c.loop-member.links c.pass_to.new.links) (c.history_of.ensures small ∙ ap (λ (m : Member). history_at c.args.histories.now m.place) c.member.view_is) c.pass_to.ensures))
+    (subst (λ es. ArePassedTo {keeping = g.K.Keeper} view c.member.inside.id es c.loop-member.links c.pass_to.new.links) (c.history_of.ensures small ∙ ap (λ (m : Member). history_at c.args.histories.now m.place) c.member.view_is) c.in_ok-pass_to.ensures))
 
 pub returns : goal.returns
 returns g c =

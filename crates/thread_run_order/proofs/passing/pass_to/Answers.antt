@@ -15,7 +15,7 @@ loop-member-preserved g c =
     let within : c.loop-member.member-index < length members = omega (arith, c.loop-member-test.true) in
     passed_more {keeping = g.K.Keeper} c.args.view.now c.members-member-items.ensures.sound c.loop-member.member-index c.args.to c.member-item.result
     (read_at members c.args.view.now.members c.loop-member.member-index c.member-item.result within c.member-item.is c.members-member-items.ensures.members) c.args.history.now c.args.links.now c.loop-member.links c.pass_on.new.links c.loop-member.invariant
-    (subst (λ i. ChangesOne (after_taken (length (taken_from {keeping = g.K.Keeper} i c.args.history.now))) i c.args.to c.loop-member.links c.pass_on.new.links) (ap (λ (m : Member). m.identity) c.member.view_is) c.pass_on.ensures)
+    (subst (λ i. ChangesOne (after_taken (length (taken_from {keeping = g.K.Keeper} i c.args.history.now))) i c.args.to c.loop-member.links c.pass_on.new.links) (ap (λ (m : Member). m.identity) c.member.view_is) c.in_ok-pass_on.ensures)
 
 pub returns : goal.returns
 returns g c =
