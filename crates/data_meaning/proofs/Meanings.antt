@@ -1,8 +1,8 @@
 -- What is computed over the list of a history's records is what the history means.
-use Rattle.std.proofs.Common.{◌≡◌, ℕ, List, map, Bool, Option, ap, ◌∙◌, sym, filter, filter_map}
+use Rattle.std.proofs.Common.{◌≡◌, ℕ, List, Bool, ap, ◌∙◌, sym, filter, filter_map}
 use Rattle.std.specs.Prelude.{sum_by}
 use Rattle.std.specs.List.{list_any}
-use Rattle.model_history.specs.Texts.{Text, text_set}
+use Rattle.model_history.specs.Texts.{text_set}
 use Rattle.model_history.specs.History.{Stamped, History, all_records}
 use Rattle.model_meanings.specs.Counter.{amount_of, total}
 use Rattle.model_meanings.specs.Growing.{found, added_elements, is_operation, has_operation}

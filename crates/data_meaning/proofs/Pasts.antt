@@ -1,12 +1,12 @@
 -- The past of a record: the records that it counts, each with a past of its own that is shorter.
 use Rattle.std.proofs.Common.{◌≡◌, ℕ, zero, suc, ◌+◌, ◌<◌, ◌≤◌, List, [], ◌∷◌, ◌++◌, length, take, Bool, true, false, cond, refl, ap, sym, ◌∙◌, subst, arith, filter, flat_map, length-append}
-use Rattle.std.specs.Prelude.{nat_le, sum_by, slice_get, Some}
+use Rattle.std.specs.Prelude.{nat_le, sum_by}
 use Rattle.std.proofs.lemmas.Bool.Decides.{nat_tests}
 use Rattle.std.proofs.lemmas.List.Elements.{filter-append}
 use Rattle.std.proofs.lemmas.List.Sums.{sum_by-cons}
 use Rattle.model_history.specs.Table.{identities}
 use Rattle.model_history.specs.Vector.{VersionVector, Covers}
-use Rattle.model_history.specs.History.{Record, History, Stamped, at, size, cut, stamped_from, all_records, HasRecord, IsHistory}
+use Rattle.model_history.specs.History.{Record, History, Stamped, at, size, cut, stamped_from, all_records, IsHistory}
 use Rattle.model_history.proofs.HistoryLaws.{slice_get-take}
 use Rattle.model_history.proofs.PartLaws.{take_none, cut_cut}
 use Rattle.model_history.proofs.PastLaws.{past_is_history, past_is_shorter}

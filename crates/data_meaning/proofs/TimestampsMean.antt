@@ -3,7 +3,6 @@ use Rattle.std.proofs.Common.{◌≡◌, ℕ, zero, suc, ◌<◌, max, List, [],
 use Rattle.std.proofs.lemmas.List.{length-map, length-replicate}
 use Rattle.std.specs.Prelude.{slice_get, ◌==◌, unwrap_or}
 use Rattle.std.specs.List.{zip}
-use Rattle.model_history.specs.Texts.{Text}
 use Rattle.model_history.specs.History.{Stamped, History, cut, size, all_records, IsHistory}
 use Rattle.model_history.proofs.PartLaws.{cut_cut}
 use Rattle.model_meanings.specs.Growing.{Assignment, greatest, timestamp_after, found, timestamp, newest, winner, winning_text}

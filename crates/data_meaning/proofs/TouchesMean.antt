@@ -1,14 +1,12 @@
 -- What the list says of an element is what the history means: which records touch it, and whether it has a live adding record.
-use Rattle.std.proofs.Common.{◌≡◌, ℕ, zero, suc, ◌<◌, List, length, map, replicate, Bool, true, false, ◌&&◌, not, Option, None, Some, refl, ap, sym, ◌∙◌, subst, arith, lt_of_lt_of_le, le_of_suc-le-suc}
+use Rattle.std.proofs.Common.{◌≡◌, ℕ, zero, suc, ◌<◌, List, length, map, Bool, true, false, ◌&&◌, not, None, Some, refl, ap, sym, ◌∙◌, subst, arith, lt_of_lt_of_le, le_of_suc-le-suc}
 use Rattle.std.proofs.lemmas.List.{length-map, length-replicate}
 use Rattle.std.specs.Prelude.{slice_get, ◌==◌}
 use Rattle.std.specs.List.{list_any, zip}
-use Rattle.std.proofs.lemmas.Bool.{cases_Bool}
 use Rattle.model_history.specs.Texts.{Text}
 use Rattle.model_history.specs.Vector.{VersionVector}
 use Rattle.model_history.specs.History.{Action as Meant, Stamped, History, cut, size, all_records, precedes, IsHistory}
 use Rattle.model_history.proofs.PartLaws.{cut_cut}
-use Rattle.model_history.proofs.PruneLaws.{IsIn}
 use Rattle.model_meanings.specs.ObservedRemove.{touches, touches_by, is_adding_by, is_live_by, is_live}
 use Rattle.model_meanings.proofs.EquationsOfMeanings.{Belongs, touches_equation}
 use Rattle.base_vectors.specs.Vectors.{Numbers, number_at}
@@ -17,7 +15,7 @@ use Rattle.model_kinds.specs.SixKinds.{set_operations}
 use Rattle.data_meaning.specs.declared.record.Action.{Action}
 use Rattle.data_meaning.specs.declared.record.Action.TheVariants.{Operation, Prune}
 use Rattle.data_meaning.specs.declared.record.Record.{Record}
-use Rattle.data_meaning.specs.Records.{action_of, stamped, AreRecordsOf}
+use Rattle.data_meaning.specs.Records.{action_of, stamped}
 use Rattle.data_meaning.specs.Touching as listed
 use Rattle.data_meaning.specs.Touching.{Judged, touching, is_shown}
 use Rattle.data_meaning.proofs.Walks.{any_same, list_any-filter, list_any-map, slice_get-map, beside_map, first_of_zip}

@@ -1,5 +1,5 @@
 -- Walks over lists: tests, filters and searches over what a list is mapped to, or of two lists side by side.
-use Rattle.std.proofs.Common.{◌≡◌, ℕ, zero, suc, List, [], ◌∷◌, ◌++◌, length, map, Bool, true, false, cond, ◌&&◌, ◌||◌, Option, None, Some, refl, ap, sym, ◌∙◌, filter, find, filter_map, option_map, arith}
+use Rattle.std.proofs.Common.{◌≡◌, ℕ, zero, suc, List, [], ◌∷◌, length, map, Bool, true, false, cond, ◌&&◌, ◌||◌, Option, Some, refl, ap, sym, ◌∙◌, filter, find, filter_map, option_map, arith}
 use Rattle.std.specs.Prelude.{slice_get, sum_by}
 use Rattle.std.specs.List.{list_any, zip, cons_option}
 use Rattle.std.proofs.lemmas.List.Sums.{sum_by-cons}

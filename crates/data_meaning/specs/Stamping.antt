@@ -1,5 +1,5 @@
 -- Timestamps, over a list of records that says of each which timestamp it has.
-use Rattle.std.specs.Prelude.{ℕ, zero, suc, List, [], map, length, replicate, fold, max, if◌then◌else◌, Option, None, Some, Bool, ◌&&◌, not, ◌==◌, find, option_map, unwrap_or}
+use Rattle.std.specs.Prelude.{ℕ, zero, suc, List, [], map, length, replicate, fold, max, if◌then◌else◌, Option, None, Some, ◌&&◌, not, ◌==◌, find}
 use Rattle.std.specs.List.{zip}
 use Rattle.model_history.specs.Texts.{Text}
 use Rattle.base_vectors.specs.Vectors.{Numbers}

@@ -1,4 +1,4 @@
-use Rattle.std.proofs.Common.{◌≡◌, Bool, ap, sym, ◌∙◌}
+use Rattle.std.proofs.Common.{Bool, ap, sym, ◌∙◌}
 use Rattle.std.specs.Prelude.{if◌then◌else◌}
 use Rattle.model_kinds.specs.SixKinds as kinds
 use Rattle.model_kinds.specs.declared.shown.Shown.TheVariants.{Deleted}

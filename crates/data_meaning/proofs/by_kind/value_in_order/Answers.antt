@@ -1,4 +1,4 @@
-use Rattle.std.proofs.Common.{◌≡◌, ap, sym, ◌∙◌, pos, neg_ℤ, ◌+ℤ◌}
+use Rattle.std.proofs.Common.{ap, sym, ◌∙◌, pos, neg_ℤ, ◌+ℤ◌}
 use Rattle.model_meanings.specs.Counter.{total}
 use Rattle.model_kinds.specs.SixKinds as kinds
 use Rattle.model_kinds.specs.declared.shown.Shown.TheVariants.{Count, Signed, Elements, Switch, Written}

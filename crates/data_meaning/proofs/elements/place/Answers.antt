@@ -1,5 +1,5 @@
 use Rattle.std.proofs.Common.{sym}
-use Rattle.data_meaning.proofs.TextPlaces.{search_less, search_equal, search_greater, search_end}
+use Rattle.data_meaning.proofs.TextPlaces.{search_less, search_equal, search_greater}
 use Rattle.data_meaning.proofs.elements.place.Goals as goal
 
 pub loop-index-preserved : goal.loop-index-preserved

@@ -1,4 +1,4 @@
-use Rattle.std.proofs.Common.{◌≡◌, ◌≤◌, ◌^◌, Some, arith}
+use Rattle.std.proofs.Common.{◌≡◌, ◌^◌, Some, arith}
 use Rattle.std.specs.List.{zip}
 use Rattle.data_meaning.specs.Stamping.{newest_in}
 use Rattle.data_meaning.proofs.Newest.{newest_within}

@@ -1,4 +1,4 @@
-use Rattle.std.proofs.Common.{◌≡◌, ◌≤◌, ◌+◌, ℕ, All, ap, ◌∙◌, sym, subst, arith}
+use Rattle.std.proofs.Common.{◌≤◌, ◌+◌, All, ◌∙◌, sym, subst, arith}
 use Rattle.model_meanings.specs.Refusal.{greatest_share}
 use Rattle.data_meaning.proofs.Newest.{next_timestamps}
 use Rattle.data_meaning.proofs.timestamps.timestamps.Goals as goal
