@@ -13,9 +13,7 @@ use Rattle.model_kinds.specs.SixKinds as meant
 use Rattle.model_kinds.specs.SixKinds.{is_delete, six_kinds}
 use Rattle.model_kinds.specs.declared.kind.Kind.{Kind}
 use Rattle.model_kinds.specs.declared.operation.Op.{Op}
-use Rattle.model_kinds.specs.declared.shown.Shown.{Shown}
 use Rattle.model_kinds.specs.declared.shown.Shown.TheVariants as shown_as
-use Rattle.data_growing.specs.Recorded.{Tells, TellsBetween}
 use Rattle.data_growing.specs.RecordedLaws.{tells_none, tells_grown, tells_pruned, tells_new, tells_joined, tells_group, tells_both, tells_once, tells_means}
 use Rattle.data_value.specs.declared.value.Value.{Value}
 use Rattle.data_value.specs.declared.data.Data.{Data}

@@ -1,7 +1,7 @@
 -- The laws of a key's data as bytes: those of its value, and those of no bytes at all.
-use Rattle.std.proofs.Common.{◌≡◌, ℕ, ◌+◌, ◌-◌, ◌<◌, ◌≤◌, Bool, true, false, List, [], ◌++◌, Result, Ok, refl, sym, ap, subst, ◌∙◌, arith}
+use Rattle.std.proofs.Common.{◌≡◌, ℕ, ◌+◌, ◌-◌, ◌<◌, ◌≤◌, Bool, true, false, List, [], ◌++◌, Result, Ok, refl, ap, subst, ◌∙◌, arith}
 use Rattle.std.specs.Prelude.{nat_lt, if◌then◌else◌}
-use Rattle.std.proofs.lemmas.Bool.{ltb-true}
+use Rattle.std.proofs.lemmas.Bool.{ltb-true, lt-ltb}
 use Rattle.model_history.specs.Table.{identity_limit}
 use Rattle.model_history.specs.Vector.{VersionVector, IdentitySet}
 use Rattle.model_history.specs.History.{History, cut}
@@ -9,12 +9,9 @@ use Rattle.model_history.specs.Cuts.{IsPrunedCut}
 use Rattle.base_bytes.specs.declared.fault.Fault.{Fault}
 use Rattle.base_bytes.specs.Spelling.{AreBytes, Takes}
 use Rattle.base_bytes.specs.FieldLaws.{bind_ok, ok_is, takes_nothing}
-use Rattle.model_kinds.specs.SixKinds.{is_delete, six_kinds}
 use Rattle.model_kinds.specs.declared.kind.Kind.{Kind}
 use Rattle.model_kinds.specs.declared.kind.Kind.TheVariants as kinds
 use Rattle.model_kinds.specs.declared.operation.Op.{Op}
-use Rattle.data_growing.specs.RecordedLaws.{tells_means}
-use Rattle.data_value.specs.declared.value.Value.{Value}
 use Rattle.data_value.specs.declared.data.Data.{Data}
 use Rattle.data_value.specs.declared.data.Data.TheVariants.{Open, Deleted}
 use Rattle.data_value.specs.Values as values
@@ -56,16 +53,23 @@ deleted_known kinds.OrSet = refl
 deleted_known kinds.Flag = refl
 deleted_known kinds.LwwRegister = refl
 
-abbrev read_of : ℕ → IdentitySet → List ℕ → Bool → Result (Data × List ℕ) Fault
-read_of byte barred bytes high = if high then Ok (Deleted (kind_at (byte - 128)), bytes) else told_as Open (of_value.read_in byte barred bytes)
+-- a deleted key of the kind, and all bytes after it
+abbrev pub found_deleted : Kind → List ℕ → Result (Data × List ℕ) Fault
+found_deleted kind bytes = Ok (Deleted kind, bytes)
 
-deleted_read : (kind : Kind) (barred : IdentitySet) (bytes : List ℕ) → read_in (deleted_byte kind) barred bytes ≡ Ok (Deleted kind, bytes)
+abbrev read_of : ℕ → IdentitySet → List ℕ → Bool → Result (Data × List ℕ) Fault
+read_of byte barred bytes high = if high then found_deleted (kind_at (byte - 128)) bytes else told_as Open (of_value.read_in byte barred bytes)
+
+deleted_read : (kind : Kind) (barred : IdentitySet) (bytes : List ℕ) → read_in (deleted_byte kind) barred bytes ≡ found_deleted kind bytes
 deleted_read kinds.GCounter barred bytes = refl
 deleted_read kinds.PnCounter barred bytes = refl
 deleted_read kinds.GSet barred bytes = refl
 deleted_read kinds.OrSet barred bytes = refl
 deleted_read kinds.Flag barred bytes = refl
 deleted_read kinds.LwwRegister barred bytes = refl
+
+pub high_read : (byte : ℕ) (barred : IdentitySet) (bytes : List ℕ) → 128 < byte → read_in byte barred bytes ≡ found_deleted (kind_at (byte - 128)) bytes
+high_read byte barred bytes high = ap (read_of byte barred bytes) (lt-ltb 128 byte high)
 
 pub byte_is_known : (x : Data) → is_known (byte_of x) ≡ true
 byte_is_known (Open value) = value_known (values.kind_of value)

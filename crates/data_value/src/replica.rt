@@ -5,7 +5,7 @@ ghost use Rattle.data_value.specs.Values as values;
 ghost use Rattle.data_value.specs.Spelled as spelled;
 ghost use Rattle.data_value.specs.Laws as laws;
 
-use crate::value::{Value, Change, are_same};
+use crate::value::{Change, Value, are_same};
 use base_bytes::Memory;
 use base_vectors::{Dot, Id, VersionVector};
 use data_counters::{GCounter, PnCounter};
@@ -213,7 +213,9 @@ impl Replica for Value {
     fn copy_delta(alloc: Global, delta: &Change) -> Result<Change, Memory> {
         match delta {
             Change::GCounter(change) => GCounter::copy_delta(alloc, change).map(Change::GCounter),
-            Change::PnCounter(change) => PnCounter::copy_delta(alloc, change).map(Change::PnCounter),
+            Change::PnCounter(change) => PnCounter::copy_delta(alloc, change).map(
+                Change::PnCounter,
+            ),
             Change::GSet(change) => GSet::copy_delta(alloc, change).map(Change::GSet),
             Change::OrSet(change) => OrSet::copy_delta(alloc, change).map(Change::OrSet),
             Change::Flag(change) => Flag::copy_delta(alloc, change).map(Change::Flag),
