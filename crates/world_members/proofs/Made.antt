@@ -1,7 +1,8 @@
 -- Rows whose links are made when they are needed: what is seen of them before and after.
-use Rattle.std.proofs.Common.{◌≡◌, ℕ, ◌<◌, ◌≤◌, List, [], ◌∷◌, length, map, replicate, refl, sym, ap, subst, ◌∙◌, arith, Bool, true, false, Option, Some, None, Vec, Global}
-use Rattle.std.specs.Prelude.{if◌then◌else◌, slice_get, option_map, option_and_then, ◌==◌, nat_lt}
-use Rattle.std.proofs.lemmas.Option.{slice_get-map}
+use Rattle.std.proofs.Common.{◌≡◌, ℕ, ◌<◌, List, [], ◌∷◌, length, map, get_or, replicate, refl, sym, ap, subst, ◌∙◌, arith, Bool, true, false, Option, Some, None, Vec, Global}
+use Rattle.std.specs.Prelude.{if◌then◌else◌, slice_get, option_map, option_and_then, is_some, IfSome, ◌==◌, nat_lt}
+use Rattle.std.proofs.lemmas.Bool.{ltb-true, ltb-false}
+use Rattle.std.proofs.lemmas.Option.{slice_get-map, slice_get_past, slice_get_read}
 use Rattle.model_history.specs.Table.{identity_limit}
 use Rattle.world_members.specs.declared.links.Link.{Link}
 use Rattle.world_members.specs.Channels.{Channel, channel_at, channel_of, row_of, made, channels_in, no_messages, next_on, count_on, message_on, ChangesIn}
@@ -77,6 +78,13 @@ module _ {X M : Type 0} (f : X → Channel M) where
   something_made [] some = absurd (some refl)
   something_made (x ∷ xs) some = refl
 
+-- WHAT A LIST LENDS
+
+-- at a place
+pub lent_at : {R X : Type 0} (now : R → X) (xs : List X) (k : ℕ) (o : Option R) → is_some o ≡ nat_lt k (length xs) → IfSome o (λ x. now x ≡ get_or xs k (now x)) → slice_get xs k ≡ option_map now o
+lent_at now xs k None there is = slice_get_past xs k (ltb-false k (length xs) (sym there))
+lent_at now xs k (Some x) there is = slice_get_read xs (length xs) k (now x) refl (ltb-true k (length xs) (sym there)) is
+
 -- AMONG ALL ROWS
 
 module _ {M : Type 0} where
@@ -101,6 +109,10 @@ module _ {M : Type 0} where
   count_seen rows a b row None is found = count_unmade (row_of row) b (not_linked row b found) ∙ sym (ap count_on (row_seen rows a b row is))
   count_seen rows a b row (Some link) is found =
       sym (ap count_on (row_seen rows a b row is ∙ made_there (row_of row) b (channel_of link) (slice_get-map channel_of row.items b ∙ ap (option_map channel_of) found)))
+
+  pub message_seen : (rows : List (Vec (Link M) Global)) (a b index : ℕ) (row : Vec (Link M) Global) (link : Link M) → slice_get rows a ≡ Some row → slice_get row.items b ≡ Some link → slice_get link.messages.items index ≡ message_on (channel_at (map channels_in rows) a b) index
+  message_seen rows a b index row link is found =
+      sym (ap (λ (o : Option (Channel M)). message_on o index) (row_seen rows a b row is ∙ made_there (row_of row) b (channel_of link) (slice_get-map channel_of row.items b ∙ ap (option_map channel_of) found)))
 
   -- no message where no link is made, and where there is no row
   pub message_missing : (rows : List (Vec (Link M) Global)) (a b index : ℕ) (row : Vec (Link M) Global) → slice_get rows a ≡ Some row → slice_get row.items b ≡ None → None ≡ message_on (channel_at (map channels_in rows) a b) index

@@ -1,5 +1,4 @@
-use Rattle.std.proofs.Common.{◌≡◌, ℕ, ◌<◌, ◌∙◌, arith, sym, subst, List, length, map, set}
-use Rattle.std.specs.Prelude.{slice_get}
+use Rattle.std.proofs.Common.{ℕ, ◌<◌, ◌∙◌, arith, sym, subst, List, length, map, set}
 use Rattle.world_members.specs.Channels.{Channel, channel_at, row_of, channels_in, count_on, passed, ChangesOne}
 use Rattle.world_members.proofs.Made.{counted_link, changed_made, made_counted}
 use Rattle.world_members.proofs.Sendings.{row_at, changed_one, changed_none}
