@@ -25,7 +25,6 @@ use Rattle.member_messages.specs.declared.message.Message.TheVariants.{Gossip, D
 use Rattle.member_messages.specs.Sketches.{groups_of as message_groups, entries_of as message_entries, names_of}
 use Rattle.member_node.specs.Taking.{KeepsOwn}
 use Rattle.member_node.specs.Gossip.{is_told}
-use Rattle.member_node.specs.declared.change.Change.TheVariants.{Entry}
 use Rattle.member_node.specs.Sending.{is_behind, groups_of, entries_of, is_sent, post_to, flushed_to}
 use Rattle.member_node.specs.Answers.{reply_to, is_status, is_exchange, only_asks, nack_of, gossip_of, answers_of}
 use Rattle.member_node.specs.declared.reply.Reply.TheVariants as reply

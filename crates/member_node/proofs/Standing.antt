@@ -26,7 +26,7 @@ use Rattle.member_node.specs.declared.operation.Operation.{Operation}
 use Rattle.member_node.specs.Keys.{AreOfKinds, declared}
 use Rattle.member_node.specs.Steps.{IsOtherwiseSame, is_failure, TellsSame, IsKeptBy}
 use Rattle.member_node.specs.declared.reply.Fate.{Fate}
-use Rattle.member_node.specs.declared.reply.Fate.TheVariants.{NoStore, Stored}
+use Rattle.member_node.specs.declared.reply.Fate.TheVariants.{NoStore}
 use Rattle.member_node.specs.Loading.{ComesBack}
 use Rattle.member_node.specs.declared.key.KeyDecl.{KeyDecl}
 use Rattle.member_node.proofs.Lists.{IsFound}

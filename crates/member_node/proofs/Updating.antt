@@ -8,7 +8,7 @@ use Rattle.model_history.specs.History.Action.{Operation}
 use Rattle.model_meanings.specs.Refusal.{Refusal}
 use Rattle.model_meanings.specs.Refusal.Refusal.{Overflow, ClockSpent, SetFull}
 use Rattle.model_members.specs.Entry.{Entry}
-use Rattle.model_members.specs.DataType.{Meaning, IsDeleted, Shows, meaning}
+use Rattle.model_members.specs.DataType.{IsDeleted, Shows, meaning}
 use Rattle.model_members.specs.Node as nodes
 use Rattle.model_members.specs.Node.{KeyDecl, Node, Input, Level, with_entry, Reply as Meant}
 use Rattle.model_members.specs.Node.Reply.{Done, UnknownKey, Deleted, WrongKind, TooFew}

@@ -1,4 +1,4 @@
-use Rattle.std.proofs.Common.{◌≡◌, ◌<◌, ◌≤◌, ap, sym, ◌∙◌, arith}
+use Rattle.std.proofs.Common.{◌<◌, ◌≤◌, ap, sym, ◌∙◌, arith}
 use Rattle.member_node.proofs.Common.{identity_limit, mark_of}
 use Rattle.base_vectors.proofs.Walks.{any_identity, none_more, any_end}
 use Rattle.member_node.specs.Restoring.{names_at}
