@@ -9,6 +9,8 @@
 #[cfg(test)]
 mod cluster;
 #[cfg(test)]
+mod deleted;
+#[cfg(test)]
 mod digests;
 #[cfg(test)]
 mod member;
