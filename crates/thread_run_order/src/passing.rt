@@ -90,12 +90,7 @@ pub(crate) fn pass_all<T: SpelledData<Op = Op>, K: Keeper + Drop>(
     ensures { OnOk result (ArePassed view.now (history_at histories.now) links.old links.new) }
 {
     for member in view.members() {
-        pass_to(
-            links,
-            view,
-            member.id,
-            history_of(histories, member.place),
-        )?;
+        pass_to(links, view, member.id, history_of(histories, member.place))?;
     }
     Ok(())
 }
