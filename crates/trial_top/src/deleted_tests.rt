@@ -40,6 +40,42 @@ const DELETED_AND_READ: &str =
     {"do":"get","at":2,"key":"f"},
     {"do":"update","at":2,"key":"f","op":"delete"}]}"#;
 
+/// A key is deleted at a majority, and a majority get at a member that still has its value finds that out.
+const DELETED_AT_A_MAJORITY: &str = r#"{"members":3,"keys":[{"key":"n","kind":"gcounter"}],"steps":[
+    {"do":"update","at":0,"key":"n","op":"increment","by":2},
+    {"do":"flush","at":0},
+    {"do":"deliver","from":0,"to":2},
+    {"do":"update","at":1,"key":"n","op":"delete","level":"majority"},
+    {"do":"deliver","from":1,"to":0},
+    {"do":"deliver","from":0,"to":1},
+    {"do":"deliver","from":0,"to":1},
+    {"do":"get","at":2,"key":"n"},
+    {"do":"get","at":2,"key":"n","level":"majority"},
+    {"do":"deliver","from":2,"to":0},
+    {"do":"deliver","from":0,"to":2},
+    {"do":"deliver","from":2,"to":1},
+    {"do":"deliver","from":1,"to":2},
+    {"do":"deliver","from":1,"to":2},
+    {"do":"update","at":2,"key":"n","op":"increment","by":1,"level":"majority"}]}"#;
+
+/// A key of each kind is deleted, one of them before anything else was done to it.
+const DELETED_OF_EACH_KIND: &str =
+    r#"{"members":1,"keys":[{"key":"c","kind":"gcounter"},{"key":"f","kind":"flag"},{"key":"g","kind":"gset"},
+    {"key":"o","kind":"orset"},{"key":"p","kind":"pncounter"},{"key":"r","kind":"lwwregister"}],"steps":[
+    {"do":"update","at":0,"key":"c","op":"delete"},
+    {"do":"update","at":0,"key":"f","op":"enable"},
+    {"do":"update","at":0,"key":"f","op":"delete"},
+    {"do":"update","at":0,"key":"g","op":"add","element":"x"},
+    {"do":"update","at":0,"key":"g","op":"delete"},
+    {"do":"update","at":0,"key":"o","op":"add","element":"x"},
+    {"do":"update","at":0,"key":"o","op":"delete"},
+    {"do":"update","at":0,"key":"p","op":"decrement","by":7},
+    {"do":"update","at":0,"key":"p","op":"delete","level":{"to":2}},
+    {"do":"update","at":0,"key":"p","op":"delete"},
+    {"do":"update","at":0,"key":"r","op":"assign","text":"a","now":9223372036854775807},
+    {"do":"update","at":0,"key":"r","op":"delete"},
+    {"do":"update","at":0,"key":"r","op":"assign","text":"b","now":5}]}"#;
+
 const DELETED_SET_REPORT: &str = r#"1 update 0 s done
 2 update 1 s done
 3 flush 1 done sent 0:deltas/1/0
@@ -88,6 +124,53 @@ member 2 place 1 view 1
 f deleted known 0:1 marks -
 "#;
 
+const DELETED_AT_A_MAJORITY_REPORT: &str = r#"1 update 0 n done
+2 flush 0 done sent 1:deltas/1/0 2:deltas/1/0
+3 deliver 0>2 0 deltas/1/0 taken
+4 update 1 n pending 0 sent 0:write 2:write
+5 deliver 1>0 0 write taken sent 1:write-ack
+6 deliver 0>1 0 deltas/1/0 taken
+7 deliver 0>1 1 write-ack taken finished 0 done
+8 get 2 n value 2
+9 get 2 n pending 0 sent 0:read 1:read
+10 deliver 2>0 0 read taken sent 2:read-answer
+11 deliver 0>2 1 read-answer taken finished 0 deleted
+12 deliver 2>1 0 read taken sent 2:read-answer
+13 deliver 1>2 0 write already sent 1:write-ack
+14 deliver 1>2 1 read-answer already
+15 update 2 n deleted
+final view 0
+member 0 place 0 view 0
+n deleted known 0:1 1:1 marks -
+member 1 place 1 view 0
+n deleted known 0:1 1:1 marks -
+member 2 place 2 view 0
+n deleted known 0:1 1:1 marks -
+"#;
+
+const DELETED_OF_EACH_KIND_REPORT: &str = r#"1 update 0 c done
+2 update 0 f done
+3 update 0 f done
+4 update 0 g done
+5 update 0 g done
+6 update 0 o done
+7 update 0 o done
+8 update 0 p done
+9 update 0 p too few
+10 update 0 p done
+11 update 0 r done
+12 update 0 r done
+13 update 0 r deleted
+final view 0
+member 0 place 0 view 0
+c deleted known 0:1 marks -
+f deleted known 0:2 marks -
+g deleted known 0:2 marks -
+o deleted known 0:2 marks -
+p deleted known 0:2 marks -
+r deleted known 0:2 marks -
+"#;
+
 #[test]
 fn deletes(rt: HostRuntime) -> Result<(), Fail> {
     let none: &[u64] = &[];
@@ -95,6 +178,8 @@ fn deletes(rt: HostRuntime) -> Result<(), Fail> {
         (DELETED_SET, none, DELETED_SET_REPORT),
         (DELETED_COUNTER_PRUNES, none, DELETED_COUNTER_PRUNES_REPORT),
         (DELETED_AND_READ, none, DELETED_AND_READ_REPORT),
+        (DELETED_AT_A_MAJORITY, none, DELETED_AT_A_MAJORITY_REPORT),
+        (DELETED_OF_EACH_KIND, none, DELETED_OF_EACH_KIND_REPORT),
     ];
     compare(&rt, rt.alloc(), 0, &rows)
 }

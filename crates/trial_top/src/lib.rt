@@ -35,6 +35,8 @@ mod membership_tests;
 #[cfg(test)]
 mod one_client_tests;
 #[cfg(test)]
+mod one_member_tests;
+#[cfg(test)]
 mod printing_tests;
 #[cfg(test)]
 mod prune_tests;

@@ -24,6 +24,12 @@ const REFUSED: &str =
 {"do":"flush","at":5},{"do":"install","at":0,"view":7},{"do":"install","at":5,"view":7},{"do":"install","at":0,"view":1},{"do":"tick","at":1},
 {"do":"update","at":1,"key":"n","op":"add","element":"x"},{"do":"get","at":1,"key":"m"},{"do":"get","at":1,"key":"n","level":{"to":3}}]]}]}"#;
 
+const DELETED: &str =
+    r#"{"members":3,"keys":[{"key":"s","kind":"gset"}],"steps":[{"do":"threads","clients":[[
+{"do":"update","at":2,"key":"s","op":"add","element":"x"},{"do":"update","at":0,"key":"s","op":"delete","level":"majority"},
+{"do":"get","at":1,"key":"s"},{"do":"get","at":2,"key":"s","level":"majority"},{"do":"get","at":2,"key":"s"},
+{"do":"update","at":2,"key":"s","op":"add","element":"y"}]]}]}"#;
+
 const WITHOUT_CLIENTS: &str =
     r#"{"members":1,"keys":[{"key":"n","kind":"gcounter"}],"steps":[{"do":"update","at":0,"key":"n","op":"increment","by":7}]}"#;
 
@@ -81,6 +87,21 @@ fn commands_are_refused(rt: HostRuntime) -> Result<(), Fail> {
         2 client 0 get 1 m unknown key\n2 client 0 get 1 n too few\nfinal view 1\n\
         member 0 place 0 view 1\nn - known - marks -\nmember 1 place 1 view 0\nn - known - marks -\n\
         member 2 place 2 view 1\nn - known - marks -\n",
+    )
+}
+
+#[test]
+fn a_client_deletes_a_key(rt: HostRuntime) -> Result<(), Fail> {
+    compare(
+        &rt,
+        rt.alloc(),
+        DELETED,
+        &[],
+        "1 client 0 update 2 s done\n1 client 0 update 0 s pending 0 sent 1:write 2:write finished 0 done\n\
+        1 client 0 get 1 s deleted\n1 client 0 get 2 s pending 0 sent 0:read 1:read finished 0 deleted\n\
+        1 client 0 get 2 s deleted\n1 client 0 update 2 s deleted\nfinal view 0\n\
+        member 0 place 0 view 0\ns deleted known 0:1 marks -\nmember 1 place 1 view 0\ns deleted known 0:1 marks -\n\
+        member 2 place 2 view 0\ns deleted known 0:1 2:1 marks -\n",
     )
 }
 

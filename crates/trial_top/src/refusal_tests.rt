@@ -1,7 +1,9 @@
 //! What is refused: texts that are no script, and sources, sinks and keepers that fail.
 
 use crate::kinds_tests::EMPTY;
-use crate::rows::{MANY, Streams, answered, build, check, compare, keepers, printed, streams};
+use crate::rows::{
+    MANY, Section, Streams, answered, build, check, compare, keepers, printed, streams,
+};
 use base_outside::{MemorySink, MemorySource};
 use std::alloc::Global;
 use std::test::Fail;
@@ -68,7 +70,7 @@ const BROKEN: [(&str, &str); 37] = [
         "not a script: step 1 rule 5\n",
     ),
     (
-        r#"{"members":1,"keys":[{"key":"n","kind":"gcounter"}],"steps":[{"do":"update","at":0,"key":"n","op":"delete"}]}"#,
+        r#"{"members":1,"keys":[{"key":"n","kind":"gcounter"}],"steps":[{"do":"update","at":0,"key":"n","op":"clear"}]}"#,
         "not a script: step 1 rule 5\n",
     ),
     (
@@ -253,6 +255,27 @@ fn bounds_keys_and_steps(rt: HostRuntime) -> Result<(), Fail> {
         let (told, _) = printed(alloc, script.as_str(), keepers(alloc, 0, &[])?)?;
         assert_eq!(rt; told, status, "at {keys} {steps}");
     }
+    Ok(())
+}
+
+/// The last step that a script may have is none.
+const LAST_BROKEN: [Section; 3] = [
+    (
+        1,
+        r#"{"members":1,"keys":[{"key":"n","kind":"flag"}],"steps":["#,
+        &[],
+    ),
+    (4095, r#"{"do":"round"},"#, &[]),
+    (1, r#"{"do":"fly"}]}"#, &[]),
+];
+
+#[test]
+fn tells_the_rule_that_the_last_step_breaks(rt: HostRuntime) -> Result<(), Fail> {
+    let alloc = rt.alloc();
+    let script = build(alloc, &LAST_BROKEN)?;
+    let answer = printed(alloc, script.as_str(), keepers(alloc, 0, &[])?)?;
+    let text = b"not a script: step 4096 rule 5\n";
+    check(&rt, &answer, Status::NotAScript, text, "the last step");
     Ok(())
 }
 

@@ -1,6 +1,6 @@
 //! The words, and what `gen` and `sum` write.
 
-use crate::rows::{Answer, MANY, answered, build, check, keepers, streams};
+use crate::rows::{Answer, MANY, Number, answered, build, check, keepers, streams};
 use std::alloc::Global;
 use std::test::Fail;
 use top_call::Status;
@@ -129,6 +129,74 @@ fn generates_and_sums(rt: HostRuntime) -> Result<(), Fail> {
     for (line, text) in rows {
         let written = written(rt.alloc(), line)?;
         assert_eq!(rt; written.as_str(), text, "at {line}");
+    }
+    Ok(())
+}
+
+/// A number that stays as it is.
+fn fixed(number: u64) -> Number {
+    (number, 0, 1, 1)
+}
+
+/// Step `i` of a generated script, by the remainder of `i` by 8, and a comma.
+fn generated_step(alloc: Global, i: u64) -> Result<String, Fail> {
+    let at = fixed(i % 5);
+    let by = fixed(i);
+    let (step, numbers) = match i % 8 {
+        1 => (
+            r#"{"at":#,"by":#,"do":"update","key":"hits","op":"increment"},"#,
+            [at, by, by],
+        ),
+        2 => (
+            r#"{"at":#,"do":"update","element":"item-#","key":"cart","op":"add"},"#,
+            [at, fixed(i % 40), by],
+        ),
+        3 => (
+            r#"{"at":#,"by":#,"do":"update","key":"bal","op":"decrement"},"#,
+            [at, by, by],
+        ),
+        4 => (r#"{"at":#,"do":"flush"},"#, [at, by, by]),
+        5 => (
+            r#"{"at":#,"do":"update","element":"item-#","key":"cart","op":"remove"},"#,
+            [at, fixed((i % 40 * 7 + 7) % 40), by],
+        ),
+        6 => (
+            r#"{"at":#,"do":"gossip","to":#},"#,
+            [at, fixed((i % 5 + 1) % 5), by],
+        ),
+        7 => (r#"{"do":"round"},"#, [at, by, by]),
+        _ => (
+            r#"{"at":#,"do":"update","key":"note","now":#,"op":"assign","text":"n#"},"#,
+            [at, by, by],
+        ),
+    };
+    build(alloc, &[(1, step, &numbers)])
+}
+
+const GENERATED_HEAD: &str =
+    r#"{"keys":[{"key":"bal","kind":"pncounter"},{"durable":true,"key":"cart","kind":"orset"},{"key":"hits","kind":"gcounter"},{"key":"note","kind":"lwwregister"}],"members":5,"steps":["#;
+
+const GENERATED_END: &str = "{\"do\":\"remove\",\"id\":4},{\"do\":\"settle\"}]}\n";
+
+/// The generated script of so many steps.
+fn generated(alloc: Global, steps: u64) -> Result<String, Fail> {
+    let mut text = String::from_str(alloc, GENERATED_HEAD)?;
+    for before in 0..steps {
+        let step = generated_step(alloc, before.saturating_add(1))?;
+        text.push_str(step.as_str())?;
+    }
+    text.push_str(GENERATED_END)?;
+    Ok(text)
+}
+
+#[test]
+fn generates_the_largest(rt: HostRuntime) -> Result<(), Fail> {
+    let alloc = rt.alloc();
+    for steps in [9, 4094] {
+        let line = format!(in alloc; "gen {steps}")?;
+        let written = written(alloc, line.as_str())?;
+        let wanted = generated(alloc, steps)?;
+        assert!(rt; written.as_str() == wanted.as_str(), "at {line}");
     }
     Ok(())
 }
