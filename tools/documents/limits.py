@@ -138,12 +138,12 @@ def of_a_delta_group(program):
 
 
 def of_identities(program):
-    restarts = script([{"do": "restart", "id": i} for i in range(64)])
-    joins = script([*restarts["steps"][:63], {"do": "join", "place": 1}])
+    restarts = script([{"do": "restart", "id": i} for i in range(255)])
+    joins = script([*restarts["steps"][:254], {"do": "join", "place": 1}])
     return (
-        has_answer(program, restarts, 63, "id 63 view 63")
-        and has_answer(program, restarts, 64, "too many identities")
-        and has_answer(program, joins, 64, "too many identities")
+        has_answer(program, restarts, 254, "id 254 view 254")
+        and has_answer(program, restarts, 255, "too many identities")
+        and has_answer(program, joins, 255, "too many identities")
     )
 
 

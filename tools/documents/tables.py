@@ -142,7 +142,7 @@ def levels_table(table, run):
 def kinds_table(table, run):
     names = {
         "increment": {"by": 1}, "decrement": {"by": 1}, "add": {"element": "x"},
-        "remove": {"element": "x"}, "enable": {}, "assign": {"text": "x", "now": 0},
+        "remove": {"element": "x"}, "enable": {}, "assign": {"text": "x", "now": 0}, "delete": {},
     }
     kinds = [codes_of(kind)[0] for _, (kind, *_) in table.rows]
     run.check(table.place, sorted(kinds) == sorted(KINDS), "the six kinds")
@@ -152,7 +152,7 @@ def kinds_table(table, run):
         right = True
         for op, own in names.items():
             step = {"do": "update", "at": 0, "key": "n", "op": op, **own}
-            answer = "done" if op in fits else "wrong kind"
+            answer = "done" if op in [*fits, "delete"] else "wrong kind"
             right = right and limits.has_answer(run.program, script([step], keys=keys), 1, answer)
         example = json.loads((TOP / "examples" / codes_of(example)[0]).read_text())
         right = right and any(key["kind"] == kind for key in example["keys"])
