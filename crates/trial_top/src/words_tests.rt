@@ -158,11 +158,15 @@ fn generated_step(alloc: Global, i: u64) -> Result<String, Fail> {
         4 => (r#"{"at":#,"do":"flush"},"#, [at, by, by]),
         5 => (
             r#"{"at":#,"do":"update","element":"item-#","key":"cart","op":"remove"},"#,
-            [at, fixed((i % 40 * 7 + 7) % 40), by],
+            [
+                at,
+                fixed((i % 40).saturating_mul(7).saturating_add(7) % 40),
+                by,
+            ],
         ),
         6 => (
             r#"{"at":#,"do":"gossip","to":#},"#,
-            [at, fixed((i % 5 + 1) % 5), by],
+            [at, fixed((i % 5).saturating_add(1) % 5), by],
         ),
         7 => (r#"{"do":"round"},"#, [at, by, by]),
         _ => (
