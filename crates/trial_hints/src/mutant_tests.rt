@@ -9,7 +9,7 @@ use std::process::Abort;
 use std::test::Fail;
 
 // A step of each form that may be a command, with all of its names.
-const COMMANDS: [&str; 11] = [
+const COMMANDS: [&str; 12] = [
     r#"{"do":"get","at":0,"key":"n","level":"all"}"#,
     r#"{"do":"flush","at":0}"#,
     r#"{"do":"gossip","at":0,"to":0}"#,
@@ -21,6 +21,7 @@ const COMMANDS: [&str; 11] = [
     r#"{"do":"update","op":"remove","at":0,"key":"n","element":"a","level":"all"}"#,
     r#"{"do":"update","op":"enable","at":0,"key":"n","level":{"majority":1}}"#,
     r#"{"do":"update","op":"assign","at":0,"key":"n","text":"a","now":0,"level":"all"}"#,
+    r#"{"do":"update","op":"delete","at":0,"key":"n","level":"all"}"#,
 ];
 
 // A step of each other form, with all of its names.
