@@ -23,7 +23,7 @@ use Rattle.member_keeper.specs.declared.keeper.Keeper.{Ghosts as Keeping}
 use Rattle.member_keeper.specs.Tables.{Table, put, put_all}
 use Rattle.member_keeper.specs.Calls.{Becomes}
 use Rattle.member_write_behind.specs.Gathering.{Gathered, table_of}
-use Rattle.data_value.specs.Spelled.{byte_of, history_spelled}
+use Rattle.data_value.specs.DataSpelled.{history_byte, history_spelled}
 use Rattle.world_members.specs.Keeping.{Given, Keeps, IsCleared}
 use Rattle.script_reading.specs.declared.script.Script.{Script}
 use Rattle.script_reading.specs.WellFormed.{HasNoClients}
@@ -150,16 +150,16 @@ module _ {K : Type 0} (keeping : Keeping K) where
           before_of (x ∷ xs) zero g e = (x, refl, sym (same_Some (gathering period x) g e))
           before_of (x ∷ xs) (suc place) g e = before_of xs place g e
 
-      ends_behind : (last : Playing Kind Op Shown) → kept.EndsOver six_kinds byte_of history_spelled over given script last ws mid → EndsBehind keeping given script last before after
+      ends_behind : (last : Playing Kind Op Shown) → kept.EndsOver six_kinds history_byte history_spelled over given script last ws mid → EndsBehind keeping given script last before after
       ends_behind last h = record {
         called = h.called;
-        stored = at_each (IsHandedOn keeping false) (λ place old new. (Rose (keeping.faults old) (keeping.faults new) → ⊥) → (table : Table) → keeping.table new ≡ Some table → HoldsStore byte_of history_spelled script.keys table (last.world.stores place)) period before mid after keeps.count handed
+        stored = at_each (IsHandedOn keeping false) (λ place old new. (Rose (keeping.faults old) (keeping.faults new) → ⊥) → (table : Table) → keeping.table new ≡ Some table → HoldsStore history_byte history_spelled script.keys table (last.world.stores place)) period before mid after keeps.count handed
             (λ place old k w was is left none table told.
             h.stored.each place (gathering period old) w was is table
             (sym (left.table refl (λ rose. none (rose_from (count_by not (given place)) (keeping.faults old) (keeping.faults w.inner) (keeping.faults k) (keeps.each place (gathering period old) w was is).counted rose))) ∙ told));
       }
 
-      whole_behind : HasNoClients script → (text : List ℕ) → kept.IsWholeReport six_kinds byte_of history_spelled over given script ws mid text → IsWholeBehind keeping given script before after text
+      whole_behind : HasNoClients script → (text : List ℕ) → kept.IsWholeReport six_kinds history_byte history_spelled over given script ws mid text → IsWholeBehind keeping given script before after text
       whole_behind plain text h =
           let so = h.plain plain in
           let ends = so.run.ends in
@@ -179,6 +179,7 @@ module _ {K : Type 0} (keeping : Keeping K) where
         kept = at_each (IsHandedOn keeping false) (λ place. Keeps (untold keeping) (h.run.given place)) period before mid after h.run.kept.count handed
             (λ place old k w was is left. keeps_inside false period (h.run.given place) old k w (h.run.kept.each place (gathering period old) w was is) left);
         others = λ place past. h.run.others place (subst (λ n. n ≤ place) (sym (length-map before (gathering period))) past);
+        cleared = λ place within. h.run.cleared place (subst (λ n. place < n) (sym (length-map before (gathering period))) within);
         begun = record { begun = h.run.begun.begun; plain = h.run.begun.plain };
         whole = λ loads. whole_behind h.run.given h.run.kept plain text (h.run.whole (loads_behind loads));
       };

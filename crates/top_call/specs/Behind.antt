@@ -12,7 +12,7 @@ use Rattle.model_kinds.specs.declared.shown.Shown.{Shown}
 use Rattle.model_members.specs.Script.{Playing}
 use Rattle.member_keeper.specs.Tables.{Table}
 use Rattle.member_keeper.specs.declared.keeper.Keeper.{Ghosts as Keeping}
-use Rattle.data_value.specs.Spelled.{byte_of, history_spelled}
+use Rattle.data_value.specs.DataSpelled.{history_byte, history_spelled}
 use Rattle.world_members.specs.Keeping.{Given, Keeps, IsCleared}
 use Rattle.script_reading.specs.declared.script.Script.{Script}
 use Rattle.report_lines.specs.Kept as kept
@@ -29,16 +29,16 @@ module _ {K : Type 0} (keeping : Keeping K) where
   -- The members' calls were answered as often as in a run that ended here. Each told table holds its place's store then, unless its keeper's count rose
   pub record EndsBehind (given : Given) (script : Script) (last : Playing Kind Op Shown) (before after : List K) : Type 0 where
     pub called : (place : ℕ) → place < 8 → length (given place) ≡ last.calls place
-    pub stored : AtEachPlace (λ place old new. (Rose (keeping.faults old) (keeping.faults new) → ⊥) → (table : Table) → keeping.table new ≡ Some table → HoldsStore byte_of history_spelled script.keys table (last.world.stores place)) before after
+    pub stored : AtEachPlace (λ place old new. (Rose (keeping.faults old) (keeping.faults new) → ⊥) → (table : Table) → keeping.table new ≡ Some table → HoldsStore history_byte history_spelled script.keys table (last.world.stores place)) before after
 
   -- The text is the report of the run with these answers, and where no count rose it is a function of the script
   pub record IsWholeBehind (given : Given) (script : Script) (before after : List K) (text : List ℕ) : Type 0 where
-    pub reported : kept.IsPlainReport six_kinds byte_of history_spelled keeping given script (ending six_kinds byte_of history_spelled (answers_by given) script) before after text
-    pub over : EndsBehind given script (ending six_kinds byte_of history_spelled (answers_by given) script) before after
+    pub reported : kept.IsPlainReport six_kinds history_byte history_spelled keeping given script (ending six_kinds history_byte history_spelled (answers_by given) script) before after text
+    pub over : EndsBehind given script (ending six_kinds history_byte history_spelled (answers_by given) script) before after
 
   -- Members got these answers: at each place no more of them are failures than the count of the keeper inside rose by. The text tells of the run with them
   abbrev pub IsRunBehind : Script → List K → List K → List ℕ → Type 0
-  IsRunBehind = kept.IsRunOver six_kinds byte_of history_spelled (untold keeping) (kept.Begins six_kinds byte_of history_spelled (untold keeping)) IsWholeBehind
+  IsRunBehind = kept.IsRunOver six_kinds history_byte history_spelled (untold keeping) (kept.Begins six_kinds history_byte history_spelled (untold keeping)) IsWholeBehind
 
   -- the keepers inside before a place forgot all, the count of the place's rose, and those behind it were not called
   pub record IsNotClearedBehind (place : ℕ) (before after : List K) : Type 0 where
