@@ -117,7 +117,7 @@ fn members_show_what_is_meant(rt: HostRuntime) -> Result<(), Fail> {
         Kind::Flag,
         Kind::LwwRegister,
     ];
-    let mut random = Random::new(1);
+    let mut random = Random::new(3);
     for kind in kinds {
         play_all(rt.alloc(), kind, &mut random)?;
     }

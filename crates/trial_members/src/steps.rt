@@ -23,9 +23,9 @@ fn alone<T: SpelledData<Kind = Kind, Op = Op>>(
     member(alloc, Kind::GCounter, id, view, failing)
 }
 
-fn increment<T: SpelledData<Kind = Kind, Op = Op>>(amount: u64) -> Result<Input<T>, Fail> {
+/// An operation on the key, at the member alone.
+fn update<T: SpelledData<Kind = Kind, Op = Op>>(op: Op) -> Result<Input<T>, Fail> {
     let key = key()?;
-    let op = Op::Increment(amount);
     Ok(Input::Update {
         key,
         op,
@@ -62,7 +62,7 @@ fn machine_increment<T: SpelledData<Kind = Kind, Op = Op>>(
     alloc: Global,
     node: &mut Node<T, MemoryKeeper>,
 ) -> Result<(Fate, bool), Fail> {
-    let input = increment(5)?;
+    let input = update(Op::Increment(5))?;
     machine_step(alloc, node, &input)
 }
 
@@ -86,11 +86,12 @@ fn a_step_is_one_of_the_machine(rt: HostRuntime) -> Result<(), Fail> {
     Ok(())
 }
 
-/// What a member answers to an increment.
-fn reply_to_increment<T: SpelledData<Kind = Kind, Op = Op>>(
+/// What a member answers to an operation.
+fn reply_to<T: SpelledData<Kind = Kind, Op = Op>>(
     node: &mut Node<T, MemoryKeeper>,
+    op: Op,
 ) -> Result<Reply, Fail> {
-    let input = increment(3)?;
+    let input = update(op)?;
     Ok(node.step(&input)?.reply)
 }
 
@@ -98,7 +99,7 @@ fn reply_to_increment<T: SpelledData<Kind = Kind, Op = Op>>(
 fn failed_store<T: SpelledData<Kind = Kind, Op = Op>>(
     node: &mut Node<T, MemoryKeeper>,
 ) -> Result<bool, Fail> {
-    let reply = reply_to_increment(node)?;
+    let reply = reply_to(node, Op::Increment(3))?;
     Ok(matches!(reply, Reply::StoreFailed) && has_the_key(node))
 }
 
@@ -108,5 +109,37 @@ fn a_failed_store_is_told_and_the_entry_changed(rt: HostRuntime) -> Result<(), F
     let mut node: Node<Data, MemoryKeeper> = alone(alloc, vec![in alloc; 0]?)?;
     assert!(rt; failed_store(&mut node)?);
     assert_eq!(rt; node.into_keeper().entries().len(), 0);
+    Ok(())
+}
+
+/// What a member answers to a get.
+fn reply_to_get<T: SpelledData<Kind = Kind, Op = Op>>(
+    node: &mut Node<T, MemoryKeeper>,
+) -> Result<Reply, Fail> {
+    let key = key()?;
+    let input = Input::Get {
+        key,
+        level: Level::Local,
+    };
+    Ok(node.step(&input)?.reply)
+}
+
+/// Whether a member tells that its key is deleted, to an update of any kind and to a get.
+fn tells_deleted<T: SpelledData<Kind = Kind, Op = Op>>(
+    node: &mut Node<T, MemoryKeeper>,
+) -> Result<bool, Fail> {
+    for op in [Op::Delete, Op::Increment(3), Op::Enable] {
+        if !matches!(reply_to(node, op)?, Reply::Deleted) {
+            return Ok(false);
+        }
+    }
+    Ok(matches!(reply_to_get(node)?, Reply::Deleted))
+}
+
+#[test]
+fn a_deleted_key_is_told(rt: HostRuntime) -> Result<(), Fail> {
+    let mut node: Node<Data, MemoryKeeper> = alone(rt.alloc(), Vec::new(rt.alloc()))?;
+    assert!(rt; matches!(reply_to(&mut node, Op::Delete)?, Reply::Done));
+    assert!(rt; tells_deleted(&mut node)?);
     Ok(())
 }
