@@ -218,8 +218,8 @@ def words_table(table, run):
     report = run.program.run(["run"], given)[1]
     for line, (words, _) in table.rows:
         place = f"{table.page}:{line}"
-        words = codes_of(words)[0].replace("N", "8").split()
-        if words[0] in ("run", "plain"):
+        words = codes_of(words)[0].replace("N", "8").replace("P", "8").split()
+        if words[0] in ("run", "plain", "behind"):
             right = run.program.run(words, given)[:2] == (0, report)
         else:
             of = limits.is_generated if words[0] == "gen" else limits.is_summed
