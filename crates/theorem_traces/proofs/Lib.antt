@@ -1,0 +1,11 @@
+pub mod Quiet
+pub mod Events
+pub mod QuietSteps
+pub mod Holding
+pub mod Showing
+pub mod Recording
+pub mod Updates
+pub mod Ticks
+pub mod TickRecords
+pub mod Gets
+pub mod LawfulRuns
