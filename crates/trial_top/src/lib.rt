@@ -35,7 +35,6 @@ mod membership_tests;
 #[cfg(test)]
 mod one_client_tests;
 #[cfg(test)]
-#[cfg(test)]
 mod printing_tests;
 #[cfg(test)]
 mod prune_tests;
