@@ -67,7 +67,7 @@ counted =
 abbrev pub ATrace : Type 0
 ATrace =
     (told counted ≡ tells 0 (codes "n") (Recorded (Operation (Increment 5))) ∷ tells 1 (codes "n") (Held ((0, 1) ∷ [])) ∷ tells 1 (codes "n") (Shown (codes "5"))
-        ∷ tells 0 (codes "n") (Shown (codes "5")) ∷ tells 1 (codes "n") (Shown (codes "5")) ∷ [])
+    ∷ tells 0 (codes "n") (Shown (codes "5")) ∷ tells 1 (codes "n") (Shown (codes "5")) ∷ [])
     × (judged counted ≡ Lawful)
 
 -- THE SAME LINES BY HAND
@@ -99,14 +99,14 @@ abbrev pub departed : Trace Kind Op
 departed =
     trace 4 (key (codes "n") GCounter ∷ [])
     (Asks 3 (Update (codes "n") (Increment 10) Local) ∷ Asks 3 Flush ∷ Round ∷ ScriptStep.Remove 3 ∷ Asks 0 (Install 1) ∷ Asks 1 (Install 1) ∷ Asks 2 (Install 1) ∷ Asks 0 Tick ∷ Asks 1 (Gossip 0) ∷ Asks 2 (Gossip 0)
-        ∷ Round ∷ Round ∷ Round ∷ Asks 0 Tick ∷ Asks 0 Flush ∷ Deliver 0 2 None ∷ ScriptStep.Remove 0 ∷ Asks 1 (Install 2) ∷ Asks 2 (Install 2) ∷ Deliver 0 1 None ∷ Asks 1 Tick ∷ Asks 2 (Gossip 1)
-        ∷ Round ∷ Round ∷ Round ∷ Asks 1 Tick ∷ Asks 1 (Get (codes "n") Local) ∷ [])
+    ∷ Round ∷ Round ∷ Round ∷ Asks 0 Tick ∷ Asks 0 Flush ∷ Deliver 0 2 None ∷ ScriptStep.Remove 0 ∷ Asks 1 (Install 2) ∷ Asks 2 (Install 2) ∷ Deliver 0 1 None ∷ Asks 1 Tick ∷ Asks 2 (Gossip 1)
+    ∷ Round ∷ Round ∷ Round ∷ Asks 1 Tick ∷ Asks 1 (Get (codes "n") Local) ∷ [])
 
 abbrev pub OwnerDeparts : Type 0
 OwnerDeparts =
     (told departed ≡ tells 3 (codes "n") (Recorded (Operation (Increment 10))) ∷ tells 0 (codes "n") (Held ((3, 1) ∷ [])) ∷ tells 1 (codes "n") (Held ((3, 1) ∷ [])) ∷ tells 2 (codes "n") (Held ((3, 1) ∷ []))
-        ∷ tells 0 (codes "n") (Recorded (Prune 3)) ∷ tells 2 (codes "n") (Held ((0, 1) ∷ (3, 1) ∷ [])) ∷ tells 1 (codes "n") (Held ((0, 1) ∷ (3, 1) ∷ []))
-        ∷ tells 1 (codes "n") (Shown (codes "10")) ∷ tells 1 (codes "n") (Shown (codes "10")) ∷ tells 2 (codes "n") (Shown (codes "10")) ∷ [])
+    ∷ tells 0 (codes "n") (Recorded (Prune 3)) ∷ tells 2 (codes "n") (Held ((0, 1) ∷ (3, 1) ∷ [])) ∷ tells 1 (codes "n") (Held ((0, 1) ∷ (3, 1) ∷ []))
+    ∷ tells 1 (codes "n") (Shown (codes "10")) ∷ tells 1 (codes "n") (Shown (codes "10")) ∷ tells 2 (codes "n") (Shown (codes "10")) ∷ [])
     × (judged departed ≡ Lawful)
 
 -- FAILING STORES: an update and a prune are recorded, though no store took them
@@ -124,7 +124,7 @@ abbrev pub FailingStores : Type 0
 FailingStores =
     (told unstored_update ≡ tells 0 (codes "d") (Recorded (Operation (Increment 5))) ∷ tells 0 (codes "d") (Shown (codes "5")) ∷ [])
     × (told unstored_prune ≡ tells 1 (codes "d") (Recorded (Operation (Increment 5))) ∷ tells 0 (codes "d") (Held ((1, 1) ∷ []))
-        ∷ tells 0 (codes "d") (Recorded (Prune 1)) ∷ tells 0 (codes "d") (Shown (codes "5")) ∷ [])
+    ∷ tells 0 (codes "d") (Recorded (Prune 1)) ∷ tells 0 (codes "d") (Shown (codes "5")) ∷ [])
     × (judged unstored_update ≡ Lawful)
     × (judged unstored_prune ≡ Lawful)
 
@@ -134,12 +134,12 @@ abbrev pub deleted : Trace Kind Op
 deleted =
     trace 2 (key (codes "n") GCounter ∷ [])
     (Asks 0 (Update (codes "n") (Increment 5) Local) ∷ Asks 0 (Get (codes "n") Local) ∷ Asks 0 (Update (codes "n") Delete Local) ∷ Asks 0 (Update (codes "n") (Increment 1) Local) ∷ Asks 0 (Get (codes "n") Local)
-        ∷ Asks 0 Flush ∷ Deliver 0 1 None ∷ [])
+    ∷ Asks 0 Flush ∷ Deliver 0 1 None ∷ [])
 
 abbrev pub DeletedKey : Type 0
 DeletedKey =
     (told deleted ≡ tells 0 (codes "n") (Recorded (Operation (Increment 5))) ∷ tells 0 (codes "n") (Shown (codes "5")) ∷ tells 0 (codes "n") (Recorded (Operation Delete)) ∷ tells 0 (codes "n") (Shown (codes "deleted"))
-        ∷ tells 1 (codes "n") (Held ((0, 2) ∷ [])) ∷ tells 0 (codes "n") (Shown (codes "deleted")) ∷ tells 1 (codes "n") (Shown (codes "deleted")) ∷ [])
+    ∷ tells 1 (codes "n") (Held ((0, 2) ∷ [])) ∷ tells 0 (codes "n") (Shown (codes "deleted")) ∷ tells 1 (codes "n") (Shown (codes "deleted")) ∷ [])
     × (judged deleted ≡ Lawful)
 
 -- EACH RULE, BY LINES OF A SET
