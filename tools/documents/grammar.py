@@ -125,7 +125,7 @@ class Grammar:
         """Whether a text tells how an operation ended."""
         if self.match(self.rows[ENDED], text):
             return True
-        return re.fullmatch(rf" finished \d+ (done|not found|value {VALUE})", text) is not None
+        return re.fullmatch(rf" finished \d+ (done|deleted|not found|value {VALUE})", text) is not None
 
     def is_answer(self, text):
         """Whether a text is an answer, with outcomes behind that of a tick."""
@@ -142,7 +142,7 @@ class Grammar:
         """Whether a line is one of the final block."""
         if re.fullmatch(r"final view \d+|member \d+ place \d+ view \d+", line):
             return True
-        found = re.fullmatch(rf"{KEY} ({VALUE}|-) known (-|\d+:\d+(?: \d+:\d+)*) marks (.*)", line)
+        found = re.fullmatch(rf"{KEY} ({VALUE}|deleted|-) known (-|\d+:\d+(?: \d+:\d+)*) marks (.*)", line)
         if not found:
             return False
         if found[3] == "-":

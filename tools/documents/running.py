@@ -79,6 +79,8 @@ class Copy:
         for name in ("docs", "examples", "tools"):
             shutil.copytree(TOP / name, self.folder / name)
         shutil.copy(TOP / "README.md", self.folder)
+        # The script of one's own that the README plays.
+        shutil.copy(TOP / "examples" / "gap.json", self.folder / "my_script.json")
         out = self.folder / "crates" / "replicator" / "out"
         out.mkdir(parents=True)
         shutil.copy(program.path, out / "replicator")
