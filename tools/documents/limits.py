@@ -194,22 +194,6 @@ OTHERS = [
     ),
 ]
 
-# Scripts whose lines for a person the pages show.
-HINTED = [
-    script([*[{"do": "round"}] * 3, {"do": "flush", "at": 0, "note": ""}]),
-    script(
-        [
-            *[{"do": "round"}] * 2,
-            {
-                "do": "threads",
-                "clients": [[*[{"do": "flush", "at": 0}] * 16, {"do": "flush", "at": 0, "tmes": 2}]],
-            },
-        ]
-    ),
-    script([*[{"do": "round"}] * 2, get(key="nn")]),
-]
-
-
 def is_generated(program, count):
     """Whether the generated script of so many steps is the one of the page."""
     status, said, _ = program.run(["gen", str(count)])

@@ -1,13 +1,17 @@
 """Plays the scripts that a page shows in its blocks, and compares the reports behind them."""
 
 import json
+import re
 
 from documents.grammar import Grammar
 from documents.limits import script
-from documents.pages import parts_of
+from documents.pages import Table, parts_of
 from documents.running import TOP
 
 NAMES = {"members", "keys", "steps"}
+# Of a page whose steps stand in place of the last ones of its script: of how many, and how the last of
+# them is answered.
+IN_PLACE_OF_THE_LAST = {"README.md": (4, "value 12")}
 
 
 def value_of(text):
@@ -29,6 +33,7 @@ class Stories:
     def __init__(self, page, run):
         self.page, self.run = page, run
         self.script, self.report, self.is_whole, self.stage = None, "", False, 0
+        self.in_place = dict(IN_PLACE_OF_THE_LAST)
         # All that blocks have shown, in which the pieces between words have to stand.
         self.shown = ""
 
@@ -39,6 +44,8 @@ class Stories:
             self.json(block)
         elif self.is_report(block.text):
             self.lines(block)
+        elif "ASKED" in block.text:
+            self.form(block)
         else:
             self.run.skip(block.place, "a block that is no script, no report and no command")
 
@@ -82,6 +89,14 @@ class Stories:
 
     def grow(self, block, steps):
         """Adds steps to the script that grows; of a page without one they are played by themselves."""
+        if self.script is not None and self.page in self.in_place:
+            count, answer = self.in_place.pop(self.page)
+            steps = [*self.script["steps"][:-count], *steps]
+            status, said = self.run.program.report({**self.script, "steps": steps})
+            self.shown += said
+            right = any(re.match(rf"{len(steps)} .* {answer}$", line) for line in said.split("\n"))
+            self.run.check(block.place, status == 0 and right, f"no {answer}: {said}")
+            return
         if self.script is None or self.is_whole:
             rounds = [{"do": "round"}] * 2
             status, said = self.run.program.report(script([*rounds, *steps], members=2))
@@ -94,6 +109,14 @@ class Stories:
         [path] = (TOP / "examples" / "tutorial").glob(f"{self.stage}_*.json")
         same = value_of(path.read_text()) == grown
         self.run.check(block.place, same, f"the script is not that of {path.name}")
+
+    def form(self, block):
+        """The form of a line: each of its parts is one of the table behind it."""
+        parts = parts_of(self.page, (TOP / self.page).read_text())
+        table = next(it for it in parts if isinstance(it, Table) and it.line > block.line)
+        named = set(re.findall(r"[A-Z]+", " ".join(cells[0] for _, cells in table.rows)))
+        used = set(re.findall(r"[A-Z]+", block.text)) - {"TO", "MESSAGE"}
+        self.run.check(block.place, used <= named, f"no row for {used - named}")
 
     def lines(self, block):
         """A report behind a whole script has to be its report, and else to stand in the last one."""

@@ -3,6 +3,8 @@
 import json
 import os
 import re
+import resource
+from pathlib import Path
 
 from documents import limits
 from documents.limits import MOST_BYTES, add, get, script
@@ -10,6 +12,8 @@ from documents.pages import codes_of
 from documents.running import TOP
 
 K = [{"key": "n", "kind": "gcounter"}]
+# So many MiB of address space, from enough for the longest script to too few for it.
+LIMITS_OF_MEMORY = [128, 96, 64, 48, 40, 32, 28, 24, 20, 16]
 KINDS = ["gcounter", "pncounter", "gset", "flag", "lwwregister", "orset"]
 
 # A value for each name of a step.
@@ -183,9 +187,9 @@ def broken_table(table, run):
 
 
 def rules_table(table, run):
+    # The next table and examples/refused break each.
     run.check(table.place, [cells[0] for _, cells in table.rows] == [str(i) for i in range(1, 15)],
               "fourteen rules in order")
-    run.skip(table.place, "what the rules say in words: the next table and examples/refused break each")
 
 
 def lines_table(table, run):
@@ -221,10 +225,20 @@ def words_table(table, run):
         words = codes_of(words)[0].replace("N", "8").replace("P", "8").split()
         if words[0] in ("run", "plain", "behind"):
             right = run.program.run(words, given)[:2] == (0, report)
+        elif words == ["upgrade"]:
+            entry = TOP / "examples" / "words" / "upgrade"
+            upgraded = entry.with_suffix(".stdout").read_bytes()
+            right = all(run.program.run(words, it)[:2] == (0, upgraded) for it in (entry.read_bytes(), upgraded))
         else:
             of = limits.is_generated if words[0] == "gen" else limits.is_summed
             right = of(run.program, int(words[1]))
         run.check(place, right, " ".join(words))
+
+
+# What `S`, `R` and `P` stand for in the texts of the statuses that are brought about.
+STANDS_AT = {"S": "4", "R": "5", "P": "23"}
+# A stored entry of which a byte was changed.
+CHANGED = TOP / "examples" / "words" / "upgrade_changed"
 
 
 def read_fault(program):
@@ -236,11 +250,26 @@ def read_fault(program):
         os.close(folder)
 
 
+def with_little_memory(program, text):
+    """A run of the longest script, which is given less memory than its bytes take."""
+    longest = text + b" " * (MOST_BYTES - len(text))
+    if b"AddressSanitizer" in Path(program.path).read_bytes():
+        options = "max_allocation_size_mb=4:allocator_may_return_null=1"
+        return program.run(["run"], longest, env={**os.environ, "ASAN_OPTIONS": options})
+    for limit in (size * 2**20 for size in LIMITS_OF_MEMORY):
+        how = {"preexec_fn": lambda: resource.setrlimit(resource.RLIMIT_AS, (limit, limit))}
+        found = program.run(["run"], longest, **how)
+        if found[0] != 0:
+            break
+    return found
+
+
 def status_of(program, status):
     """The status and the text of a run that has to end with this status, or None if none can be made."""
     text = json.dumps(script([])).encode()
     with open("/dev/full", "wb") as full:
         made = {
+            7: lambda: with_little_memory(program, text),
             0: lambda: program.run(["gen", "1"]),
             1: lambda: program.run(["plain", "extra"]),
             2: lambda: program.run(["run"], b""),
@@ -248,6 +277,7 @@ def status_of(program, status):
             4: lambda: read_fault(program),
             5: lambda: program.run(["run"], text, stdout=full),
             6: lambda: program.run(["run"], text + b" " * MOST_BYTES),
+            9: lambda: program.run(["upgrade"], CHANGED.read_bytes()),
         }
         return made[status]() if status in made else None
 
@@ -259,19 +289,27 @@ def status_table(table, run):
         for status in map(int, cells[0].split(",")):
             found = status_of(run.program, status)
             if found is None:
-                run.skip(place, f"status {status}: no script and no stream brings it about")
+                run.skip(place, f"status {status}: the program's databases are always cleared")
                 continue
             said = found[1] if isinstance(found[1], str) else found[1].decode()
             right = found[0] == status
-            if len(cells) == 2 or status in (1, 2, 3, 6):
-                texts = [code.replace(" S ", " 4 ").replace(" R", " 5") for code in wanted]
+            if len(cells) == 2 or status in (1, 2, 3, 6, 9):
+                texts = [re.sub(r"\b[SRP]\b", lambda it: STANDS_AT[it[0]], code) for code in wanted]
                 right = right and (not texts or "," in cells[0] or said.rstrip("\n") in texts)
             run.check(place, right, f"status {status}")
 
 
 def parts_tables(table, run):
-    run.skip(table.place, "the parts of a line: the grammar of the tables below is tried on all reports")
+    """The parts of a line are those that the grammar reads, which is tried on all reports."""
+    named = {codes_of(cells[0])[0] for _, cells in table.rows if codes_of(cells[0])}
+    run.check(table.place, named in PARTS, f"the parts of a line: {named}")
 
+
+# The parts of a step's line, and of the final block.
+PARTS = [
+    {"N", "client C", "ASKED", "ANSWER", " sent", " finished OP RESULT", "RESULT", "ENDED"},
+    {"final view N", "member I place P view N", "known", "marks"},
+]
 
 # By their heads.
 CHECKS = {

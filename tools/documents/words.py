@@ -5,16 +5,18 @@ import re
 import shutil
 import subprocess
 
-from documents.limits import HINTED, has_answer
-from documents.pages import Table, codes_of
+from documents.grammar import VALUE
+from documents.hints import forms_of_steps, said_of
+from documents.limits import has_answer, script
+from documents.pages import Block, Table, codes_of
 from documents.running import TOP
 
 SUFFIXES = (".md", ".json", ".html", ".svg", ".antt", ".rt", ".stdout", ".txt")
 # What stands for a name of the reader's own.
-STANDS_FOR = re.compile(r"\b[A-Z]+\b")
+STANDS_FOR = re.compile(r"\b[A-Z_]*[A-Z]\b")
 # Commands in the middle of a line.
 INLINE = re.compile(r"(rt (try|run) .*|replicator (gen|sum) \d+|tools/try_schema .*)")
-KNOWN = {"rt", "rt version", "rt try", "replicator", "run", "plain", "gen N", "sum N", "not json", "bad words"}
+KNOWN = {"rt", "rt version", "rt try", "replicator", "run", "plain", "gen N", "sum N", "upgrade", "not json", "bad words"}
 
 
 def schema_words(value):
@@ -35,6 +37,11 @@ def code_words():
     yield from re.findall(r"\w+", (TOP / "crates.txt").read_text())
     for path in (TOP / "crates" / "top_call" / "src").glob("*.rt"):
         yield from re.findall(r"ensures\*? (\w+)", path.read_text())
+    for path in (TOP / "crates" / "base_outside" / "src").glob("*.rt"):
+        yield from re.findall(r"pub struct (\w+)", path.read_text())
+    # Debian's packages that the tools install.
+    for name in ("try_schema", "try_viewer"):
+        yield from re.findall(r'"(python3-\w+|chromium)"', (TOP / "tools" / name).read_text())
 
 
 def page_words(parts):
@@ -47,13 +54,16 @@ def page_words(parts):
 def reports():
     """The reports of the examples, and the generated script, which is one of them."""
     paths = [*(TOP / "examples").glob("*.stdout"), *(TOP / "examples" / "words").glob("*.stdout")]
-    return "\n".join(path.read_text() for path in sorted(paths))
+    return "\n".join(path.read_text(errors="replace") for path in sorted(paths))
 
 
-def hints(program):
-    """The lines for a person of the scripts that are made for them."""
-    for text in HINTED:
-        yield program.run(["run"], json.dumps(text).encode())[2].decode().rstrip("\n")
+def hints():
+    """The lines for a person of the examples that are refused."""
+    return "\n".join(path.read_text() for path in sorted((TOP / "examples" / "refused").rglob("*.hint")))
+
+
+# A command, a word, the end of a file's name, and a character of key names.
+MORE_KNOWN = {"rt ci", "behind", ".stdout", "_"}
 
 
 class Words:
@@ -61,27 +71,45 @@ class Words:
 
     def __init__(self, page, parts, run, copy):
         self.page, self.run, self.copy = page, run, copy
-        self.reports = reports()
+        self.reports = reports() + hints()
+        self.blocks = "\n".join(part.text for part in parts if isinstance(part, Block))
+        self.said = None
         schema = json.loads((TOP / "docs" / "script.schema.json").read_text())
-        self.known = KNOWN | set(schema_words(schema)) | set(code_words()) | set(page_words(parts))
+        self.known = KNOWN | MORE_KNOWN | set(schema_words(schema)) | set(code_words()) | set(page_words(parts))
 
     def code(self, code, shown):
         """Tries a piece: a file, a command, a text that a block or a report has shown, or a known name."""
         text = code.text
         if self.is_path(text):
             self.run.check(code.place, self.is_there(text), f"there is no {text}")
-        elif text.startswith("rattle-kit"):
+        elif re.match(r"rattle-kit|[0-9a-f]{16}$", text):
             self.version(code)
         elif INLINE.fullmatch(text):
             self.command(code.place, text)
         elif re.fullmatch(r"\w+::\w+", text):
             self.run.check(code.place, self.is_function(text), f"there is no function {text}")
-        elif re.match(r"not a script: step .*:|played, but", text):
-            self.run.check(code.place, text in hints(self.run.program), f"no hint is {text}")
-        elif self.is_shown(text, shown + self.reports) or text in self.known or self.is_value(text):
+        elif re.match(r"not a script: step |played, but|an? |update, ", text):
+            self.run.check(code.place, text in self.told(), f"no hint is {text}")
+        elif text == "1e999":
+            given = json.dumps(script([])).replace("1", "1e999", 1).encode()
+            right = self.run.program.run(["run"], given)[:2] == (2, b"not json\n")
+            self.run.check(code.place, right, f"{text} is read")
+        elif text.startswith('[{"key"'):
+            played = script([], keys=json.loads(text))
+            self.run.check(code.place, self.run.program.report(played)[0] == 0, "no keys of a script")
+        elif self.is_shown(text, shown + self.reports + self.blocks):
+            self.run.count += 1
+        elif text in self.known or self.is_value(text):
             self.run.count += 1
         elif not STANDS_FOR.search(text):
             self.run.skip(code.place, f"`{text}`")
+
+    def told(self):
+        """What the program says of the scripts that are made for hints, and the forms that it names."""
+        if self.said is None:
+            program = self.run.program
+            self.said = {*said_of(program), *forms_of_steps(program)}
+        return self.said
 
     def table(self, table, in_full):
         """Tries a table: its files and commands, and of examples the steps that are to be looked at."""
@@ -118,7 +146,7 @@ class Words:
         self.run.check(place, status == 0, f"{text} ends with {status}: {said[-200:]}{errors[-200:]}")
 
     def version(self, code):
-        """The kit's line has to be that of the kit here, if there is one."""
+        """The kit's line or its logic has to be that of the kit here, if there is one."""
         if not shutil.which("rt"):
             self.run.skip(code.place, "the kit's line: no rt here")
             return
@@ -131,7 +159,8 @@ class Words:
         named = not STANDS_FOR.search(text.replace("README", "").replace(".md", ""))
         docs = re.fullmatch(r"(\.\./)?(docs/)?[A-Z]+\.md", text) is not None
         ends = text.endswith((*SUFFIXES, "/")) and not text.startswith(".")
-        return plain and (docs or named and (ends or text.startswith(("tools/", "../", ".vscode"))))
+        starts = ("tools/", "crates/", "../", ".vscode")
+        return plain and (docs or named and (ends or text.startswith(starts)))
 
     def is_there(self, text):
         """Whether a file or folder is there, from the page or from a folder that pages mean."""
@@ -155,4 +184,4 @@ class Words:
 
     @staticmethod
     def is_value(text):
-        return re.fullmatch(r"-?\d+|true|false|null|2\^\d+( - 1)?", text) is not None
+        return re.fullmatch(rf"{VALUE}|false|null|2\^\d+( - 1)?", text) is not None

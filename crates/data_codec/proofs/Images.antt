@@ -17,8 +17,9 @@ use Rattle.data_envelope.specs.Images.{Parts, StandsFor}
 use Rattle.data_envelope.proofs.Holding.{held_pruned}
 use Rattle.data_envelope.proofs.Entries.{pruned_is}
 use Rattle.data_envelope.proofs.MarkPrunes.{mark_of_prune, none_performed}
-use Rattle.data_codec.specs.Envelopes.{envelope_spelled}
-use Rattle.data_codec.specs.Entries.{mark_piece, entry_piece, entry_spelled, entry_digest}
+use Rattle.data_codec.specs.Envelopes.{spelled_in, envelope_spelled}
+use Rattle.data_codec.specs.Entries.{mark_piece, entry_piece, entry_in, entry_spelled, entry_digest}
+use Rattle.data_codec.specs.Stored.{sealed, envelope_stored, entry_stored}
 
 begun_piece : (r : ℕ) (o : Option Marker) → is_performed o ≡ false → option_map (mark_spelled r) o ≡ mark_piece {Op = ℕ} None r (begun o)
 begun_piece r None h = refl
@@ -61,13 +62,22 @@ module _ {State Kind Op : Type 0} (D : State → History Op → VersionVector �
       byte_means parts.value log (versions entry.history) (performed_in parts.marks) (held_pruned D parts log (versions entry.history) stands.holds) stands.holds.state
       ∙ ap (history_byte (kind_of parts.value)) (cut_of_part log entry.history stands.taken.part)
 
+  -- in each format
+  pub format_is : (format : ℕ) → spelled_in byte_of spelled format parts ≡ entry_in history_byte history_spelled format (kind_of parts.value) entry
+  format_is format =
+      ap (λ (b : ℕ). format ∷ b ∷ marks_spelled parts.marks ++ numbers_spelled (number_at parts.versions) ++ spelled parts.value) byte_is
+      ∙ ap (λ (t : List ℕ). format ∷ history_byte (kind_of parts.value) entry.history ∷ t ++ numbers_spelled (number_at parts.versions) ++ spelled parts.value) marks_are
+      ∙ ap (λ (f : ℕ → ℕ). format ∷ history_byte (kind_of parts.value) entry.history ∷ pieces_spelled (entry_piece entry) ++ numbers_spelled f ++ spelled parts.value) numbers_are
+      ∙ ap (λ (t : List ℕ). format ∷ history_byte (kind_of parts.value) entry.history ∷ pieces_spelled (entry_piece entry) ++ numbers_spelled (without (is_pruned entry.history) (versions entry.history)) ++ t) data_are
+
   pub spelled_is : envelope_spelled byte_of spelled parts ≡ entry_spelled history_byte history_spelled (kind_of parts.value) entry
   unfolding entry_spelled
-  spelled_is =
-      ap (λ (b : ℕ). 1 ∷ b ∷ marks_spelled parts.marks ++ numbers_spelled (number_at parts.versions) ++ spelled parts.value) byte_is
-      ∙ ap (λ (t : List ℕ). 1 ∷ history_byte (kind_of parts.value) entry.history ∷ t ++ numbers_spelled (number_at parts.versions) ++ spelled parts.value) marks_are
-      ∙ ap (λ (f : ℕ → ℕ). 1 ∷ history_byte (kind_of parts.value) entry.history ∷ pieces_spelled (entry_piece entry) ++ numbers_spelled f ++ spelled parts.value) numbers_are
-      ∙ ap (λ (t : List ℕ). 1 ∷ history_byte (kind_of parts.value) entry.history ∷ pieces_spelled (entry_piece entry) ++ numbers_spelled (without (is_pruned entry.history) (versions entry.history)) ++ t) data_are
+  spelled_is = format_is 1
+
+  -- what is stored is what is stored of the entry
+  pub stored_is : envelope_stored byte_of spelled parts ≡ entry_stored history_byte history_spelled (kind_of parts.value) entry
+  unfolding entry_stored
+  stored_is = ap sealed (format_is 2)
 
   -- a digest of the spelling is that of the entry
   pub digest_is : (digest : List ℕ) → digest ≡ sha1 (envelope_spelled byte_of spelled parts) → digest ≡ entry_digest history_byte history_spelled (kind_of parts.value) entry

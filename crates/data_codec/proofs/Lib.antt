@@ -1,2 +1,4 @@
 pub mod Images
 pub mod Envelopes
+pub mod Seals
+pub mod EnvelopePlaces

@@ -1,5 +1,5 @@
 -- What reading answers.
-use Rattle.std.specs.Prelude.{◌≡◌, ℕ, Result, Ok, Err}
+use Rattle.std.specs.Prelude.{◌≡◌, ℕ, ◌-◌, List, length, Result, Ok, Err}
 use Rattle.base_bytes.specs.declared.fault.Fault.{Fault}
 use Rattle.base_bytes.specs.declared.fault.FieldError.{FieldError}
 use Rattle.base_bytes.specs.declared.fault.ReadError.{ReadError}
@@ -27,6 +27,11 @@ Refuses total e read = (fault : FieldError) × Fails fault read × (e ≡ refusa
 abbrev pub IsWhole : {T : Type 0} → ℕ → Result (Head × T) CodecError → Result (Parts T) Fault → Type 0
 IsWhole total (Ok found) read = read ≡ Ok (record { value = found.1; versions = found.0.versions; marks = found.0.marks })
 IsWhole total (Err e) read = Refuses total e read
+
+-- the same where bytes may follow, and the place of these
+abbrev pub IsFront : {T : Type 0} → ℕ → Result ((Head × T) × ℕ) CodecError → Result (Parts T × List ℕ) Fault → Type 0
+IsFront total (Ok found) read = (rest : List ℕ) × (read ≡ Ok (record { value = found.0.1; versions = found.0.0.versions; marks = found.0.0.marks }, rest)) × (found.1 ≡ total - length rest)
+IsFront total (Err e) read = Refuses total e read
 
 -- an envelope of the parts that were read, or else why not
 abbrev pub IsRead : {T Kind Op Delta : Type 0} → ℕ → Result (Envelope T Kind Op Delta) CodecError → Result (Parts T) Fault → Type 0

@@ -18,10 +18,14 @@ module _ {Op : Type 0} where
   entry_piece entry removed = mark_piece (prune_of entry.history removed) removed (entry.marks removed)
 
 module _ {Kind Op : Type 0} (history_byte : Kind → History Op → ℕ) (history_spelled : Kind → History Op → List ℕ) where
-  -- format 1, the byte of the kind or of a deleted key of the kind, the marks, the numbers of records, and the data, nothing of pruned identities in these
+  -- the format, the byte of the kind or of a deleted key of the kind, the marks, the numbers of records, and the data, nothing of pruned identities in these
+  abbrev pub entry_in : ℕ → Kind → Entry Op → List ℕ
+  entry_in format kind entry =
+      format ∷ history_byte kind entry.history ∷ pieces_spelled (entry_piece entry) ++ numbers_spelled (without (is_pruned entry.history) (versions entry.history)) ++ history_spelled kind entry.history
+
+  -- format 1
   unfoldable pub entry_spelled : Kind → Entry Op → List ℕ
-  entry_spelled kind entry =
-      1 ∷ history_byte kind entry.history ∷ pieces_spelled (entry_piece entry) ++ numbers_spelled (without (is_pruned entry.history) (versions entry.history)) ++ history_spelled kind entry.history
+  entry_spelled kind entry = entry_in 1 kind entry
 
   -- SHA-1 of the spelling
   unfoldable pub entry_digest : Kind → Entry Op → List ℕ

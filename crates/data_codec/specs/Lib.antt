@@ -1,4 +1,5 @@
 pub mod Envelopes
+pub mod Stored
 pub mod Entries
 pub mod Answers
 pub mod Kept

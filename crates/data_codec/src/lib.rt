@@ -12,19 +12,28 @@
 //!   exactly where none was kept and one is answered; to change it drops what was kept; want of
 //!   memory leaves all as it was (`Digested::{new, envelope, change, digest, told, keep,
 //!   is_kept}`).
-//! - No spelling is a proper prefix of another's (`one_spelling`).
+//! - An entry is stored as its spelling with another first byte and SHA-1 behind it; what is read
+//!   of stored bytes is one of the two formats, what is one is read, and a fault is told by its
+//!   place (`spell_stored`, `read_stored`).
+//! - No spelling is a proper prefix of another's, in either format (`one_spelling`, `one_stored`).
+//!   So an envelope that stands among other bytes is read from its place on, and appended, without
+//!   its length being told (`read_at`, `append`).
 #![tactic(auto)]
 
 mod digested;
 mod error;
 mod laws;
+mod places;
 mod reading;
 mod spelling;
 mod steps;
+mod stored;
 
 pub use digested::Digested;
 pub use error::CodecError;
-pub use laws::one_spelling;
+pub use laws::{one_spelling, one_stored};
+pub use places::read_at;
 pub use reading::read;
-pub use spelling::{digest, spell};
+pub use spelling::{append, digest, spell, spell_stored};
 pub use steps::Steps;
+pub use stored::read_stored;

@@ -3,8 +3,9 @@ ghost use Rattle.model_history.specs.History.{History};
 ghost use Rattle.model_members.specs.Entry.{Entry};
 ghost use Rattle.data_envelope.specs.Images.{StandsFor};
 ghost use Rattle.data_envelope.specs.Words.{parts_of};
-ghost use Rattle.data_codec.specs.Envelopes.{envelope_spelled, IsEnvelope};
+ghost use Rattle.data_codec.specs.Envelopes.{spelled_in, envelope_spelled, IsEnvelope};
 ghost use Rattle.data_codec.specs.Entries.{entry_spelled, entry_digest};
+ghost use Rattle.data_codec.specs.Stored.{envelope_stored, entry_stored};
 ghost use Rattle.sha1.specs.Sha1.{sha1};
 
 use base_bytes::Memory;
@@ -13,16 +14,28 @@ use data_lattice::SpelledData;
 use sha1::Sha1;
 use std::alloc::Global;
 
-/// Appends the spelling of an envelope.
-fn append<T: SpelledData>(envelope: &Envelope<T>, into: &mut Vec<u8>) -> Result<(), Memory>
+/// Appends the spelling of an envelope in a format.
+fn append_in<T: SpelledData>(
+    format: u8,
+    envelope: &Envelope<T>,
+    into: &mut Vec<u8>,
+) -> Result<(), Memory>
     ensures readable { OnOk result (IsEnvelope T.IsSound T.mentioned (parts_of envelope.now)) }
-    ensures value { OnOk result (into.new.items ≡ into.old.items ++ envelope_spelled T.byte_of T.spelled (parts_of envelope.now)) }
+    ensures value { OnOk result (into.new.items ≡ into.old.items ++ spelled_in T.byte_of T.spelled format (parts_of envelope.now)) }
 {
-    into.push(1)?;
+    into.push(format)?;
     into.push(envelope.value().kind_byte())?;
     envelope.markers().spell(into)?;
     envelope.versions().spell(into)?;
     envelope.value().spell_data(into)
+}
+
+/// Appends the spelling of an envelope. After a refusal a part of it may have been appended.
+pub fn append<T: SpelledData>(envelope: &Envelope<T>, into: &mut Vec<u8>) -> Result<(), Memory>
+    ensures readable { OnOk result (IsEnvelope T.IsSound T.mentioned (parts_of envelope.now)) }
+    ensures value { OnOk result (into.new.items ≡ into.old.items ++ envelope_spelled T.byte_of T.spelled (parts_of envelope.now)) }
+{
+    append_in(1, envelope, into)
 }
 
 /// The spelling of an envelope.
@@ -35,6 +48,25 @@ pub fn spell<T: SpelledData>(alloc: Global, envelope: &Envelope<T>) -> Result<Ve
 {
     let mut bytes = Vec::new(alloc);
     append(envelope, &mut bytes)?;
+    Ok(bytes)
+}
+
+/// The bytes by which an envelope is stored: format 2, which is the byte 2, the spelling without its first byte, and the
+/// SHA-1 (FIPS 180-4) of all these.
+pub fn spell_stored<T: SpelledData>(
+    alloc: Global,
+    envelope: &Envelope<T>,
+) -> Result<Vec<u8>, Memory>
+    ensures value { IfOk result (λ bytes. bytes.items ≡ envelope_stored T.byte_of T.spelled (parts_of envelope.now)) }
+    ensures image { (log : History T.Op) (entry : Entry T.Op) → StandsFor T.IsDataOf (parts_of envelope.now) log entry
+        → IfOk result (λ bytes. bytes.items ≡ entry_stored T.history_byte T.history_spelled (T.kind_of envelope.now.value) entry) }
+    // What is stored is what `read_stored` reads again.
+    ensures readable { IfOk result (λ _bytes. IsEnvelope T.IsSound T.mentioned (parts_of envelope.now)) }
+{
+    let mut bytes = Vec::new(alloc);
+    append_in(2, envelope, &mut bytes)?;
+    let seal = Sha1::digest(&bytes);
+    bytes.extend_from_slice(&seal)?;
     Ok(bytes)
 }
 

@@ -1,9 +1,10 @@
-//! Two members in a service that has a transport of its own: here a loop that hands each message to its receiver.
+//! Two members in a service that has a transport of its own: here a loop that hands the bytes of each message to its receiver.
 #![tactic(auto)]
 
 use member_embedding::{
-    Data, Id, Input, Items, KeyDecl, Kind, Level, Memory, MemoryKeeper, Node, Op, Output, Post,
-    Posts, Reply, StepError, Text, TooLong, View, ViewList, are_distinct, push_shown,
+    CodecError, Data, Id, Input, Items, KeyDecl, Kind, Level, Memory, MemoryKeeper, Node, Op,
+    Output, Post, Posts, Reply, StepError, Text, TooLong, View, ViewList, accepts, are_distinct,
+    push_shown, read_message, spell_message,
 };
 use std::alloc::Global;
 use std::process::ExitCode;
@@ -21,6 +22,8 @@ enum Stopped {
     Full,
     #[error("two keys have one name, a name is too long, or the identity is no member")]
     Misused,
+    #[error("what was received is no message, or none that the other member sends")]
+    Garbled,
 }
 
 impl From<Memory> for Stopped {
@@ -40,6 +43,15 @@ impl From<StepError> for Stopped {
         match refused {
             StepError::HistoryFull => Stopped::Full,
             StepError::Memory => Stopped::Memory,
+        }
+    }
+}
+
+impl From<CodecError> for Stopped {
+    fn from(refused: CodecError) -> Stopped {
+        match refused {
+            CodecError::NotASpelling(_) => Stopped::Garbled,
+            CodecError::Memory => Stopped::Memory,
         }
     }
 }
@@ -68,17 +80,36 @@ fn step(member: &mut Member, input: Input<Data>) -> Result<Output<Data>, StepErr
     member.step(&input)
 }
 
-/// Hands a message to its receiver, and answers what this sends. A service would send and receive it.
-fn hand(from: Id, post: Post<Data>, to: &mut Member) -> Result<Posts<Data>, Stopped> {
-    let Post { to: _, message } = post;
+/// What a member sends for bytes that came as from another.
+fn receive(alloc: Global, from: Id, bytes: &[u8], to: &mut Member) -> Result<Posts<Data>, Stopped> {
+    let message = read_message::<Data>(alloc, bytes)?;
+    if !accepts(to.view(), to.id(), from, &message) {
+        return Err(Stopped::Garbled);
+    }
     Ok(step(to, Input::Take { from, message })?.posts)
 }
 
+/// Hands the bytes of a message to its receiver, and answers what this sends. A service would send and receive them.
+fn hand(
+    alloc: Global,
+    from: Id,
+    post: Post<Data>,
+    to: &mut Member,
+) -> Result<Posts<Data>, Stopped> {
+    let bytes = spell_message(alloc, &post.message)?;
+    receive(alloc, from, bytes.as_slice(), to)
+}
+
 /// Hands the messages of one member to another, and then what this answers back.
-fn exchange(from: &mut Member, to: &mut Member, posts: Posts<Data>) -> Result<(), Stopped> {
+fn exchange(
+    alloc: Global,
+    from: &mut Member,
+    to: &mut Member,
+    posts: Posts<Data>,
+) -> Result<(), Stopped> {
     for post in posts.into_vec() {
-        for answer in hand(from.id(), post, to)?.into_vec() {
-            hand(to.id(), answer, from)?;
+        for answer in hand(alloc, from.id(), post, to)?.into_vec() {
+            hand(alloc, to.id(), answer, from)?;
         }
     }
     Ok(())
@@ -140,7 +171,7 @@ fn flush(member: &mut Member) -> Result<Posts<Data>, Stopped> {
 fn shop(alloc: Global, first: &mut Member, second: &mut Member) -> Result<String, Stopped> {
     add(first, "milk")?;
     let posts = flush(first)?;
-    exchange(first, second, posts)?;
+    exchange(alloc, first, second, posts)?;
     shown(alloc, second, cart()?)
 }
 

@@ -3,7 +3,7 @@
 -- What a keeper has, key by key: which of it may be loaded, and what a key holds after it.
 -- What members stored may be loaded, where it names earlier identities alone.
 -- A new member with what a keeper had.
-use Rattle.std.proofs.Common.{◌≡◌, ℕ, zero, suc, ◌+◌, ◌/◌, ◌%◌, ◌^◌, ◌<◌, ◌≤◌, ◌⊎◌, Bool, true, false, ◌&&◌, ◌||◌, not, nat_lt, Option, Some, None, refl, ap, sym, ◌∙◌, subst, arith, inl, inr, ◌==◌, pow_mono, eq-eqb, eqb-true, ltb-true, lt-ltb, ◌≢◌, List, [], ◌∷◌, ◌++◌, length, take, get_or, set, ⊎_elim, map, find, slice_get, All, if◌then◌else◌, bytes_eq, get_or-set_same, get_or-set_other, length-set, Result, unwrap_or, option_map, nat_cmp, append-nil}
+use Rattle.std.proofs.Common.{◌≡◌, ℕ, zero, suc, ◌+◌, ◌/◌, ◌%◌, ◌^◌, ◌<◌, ◌≤◌, ◌⊎◌, Bool, true, false, ◌&&◌, ◌||◌, not, nat_lt, Option, Some, None, refl, ap, sym, ◌∙◌, subst, arith, inl, inr, ◌==◌, pow_mono, eq-eqb, eqb-true, ltb-true, lt-ltb, ◌≢◌, List, [], ◌∷◌, ◌++◌, length, take, get_or, set, ⊎_elim, map, find, slice_get, All, if◌then◌else◌, bytes_eq, get_or-set_same, get_or-set_other, length-set, unwrap_or, option_map, nat_cmp}
 use Rattle.std.specs.List.{list_any, range_with_len}
 use Rattle.std.proofs.Math.Nat.{div-eq_of_lt}
 use Rattle.std.proofs.lemmas.Bool.{cases_lt, cases_Bool, and_parts, cases_eq}
@@ -22,7 +22,6 @@ use Rattle.model_members.specs.Node as nodes
 use Rattle.model_members.proofs.Steps.{bytes_eq-same}
 use Rattle.model_members.specs.Entry.{Entry, Mark, empty_entry}
 use Rattle.model_members.specs.World.{Store, loaded_entry, loaded_node}
-use Rattle.base_bytes.specs.declared.fault.Fault.{Fault}
 use Rattle.base_vectors.specs.IdSets.{members_in}
 use Rattle.base_vectors.specs.Spelling.{AreSpellable}
 use Rattle.base_vectors.proofs.Laws.{number_at_above, number_at-empty}
@@ -34,10 +33,9 @@ use Rattle.data_markers.specs.SpellingLaws.{AreSpellable as AreMarks, IsSpellabl
 use Rattle.data_lattice.specs.declared.spelled.SpelledData.{Ghosts as Spelling}
 use Rattle.member_keeper.specs.declared.stored.Stored.{Stored}
 use Rattle.member_keeper.specs.Tables.{Table}
-use Rattle.data_codec.specs.Envelopes.{most_seq, envelope_spelled, IsEnvelope}
-use Rattle.data_codec.specs.Entries.{entry_spelled}
-use Rattle.data_codec.proofs.Images.{spelled_is}
-use Rattle.data_codec.proofs.Envelopes.{AreLaws, one_spelling_is}
+use Rattle.data_codec.specs.Envelopes.{most_seq, IsEnvelope}
+use Rattle.data_codec.specs.Stored.{envelope_stored, entry_stored, IsStored}
+use Rattle.data_codec.proofs.Images.{stored_is}
 use Rattle.member_node.specs.Stores.{IsEarlier, IsFit, AreFit, SpellsEntry, SpellsStore}
 use Rattle.member_node.specs.Loading.{MarkIsEarlier, NamesEarlier, IsSoundAt, IsFirstUnsound}
 use Rattle.member_node.specs.Restoring.{is_earlier, mark_names, names_at, is_named, names_others, IsFitFor, IsFitAt, Takes, TakesAt, HoldsOne}
@@ -432,6 +430,15 @@ module _ {T Kind Op Delta : Type 0} (ghosts : Ghosts T Kind Op Delta) (id given 
     mentioned = λ i e. held_earlier i (λ zero. let no : true ≡ false = sym e ∙ unmentioned parts.value log held (performed_in parts.marks) i stands.holds.state zero in cc no);
   }
 
+-- what stands at a key is what is stored of the parts that were kept
+stored_parts : {T Kind Op Delta : Type 0} (ghosts : Ghosts T Kind Op Delta) (spelling : Spelling T Kind Op Delta)
+    (byte_means : (state : T) (log : History Op) (held : VersionVector) (gone : IdentitySet) → IsPrunedCut log held gone → ghosts.IsDataOf state log held gone → spelling.byte_of state ≡ spelling.history_byte (ghosts.kind_of state) (cut log held))
+    (means : (state : T) (log : History Op) (held : VersionVector) (gone : IdentitySet) → IsPrunedCut log held gone → ghosts.IsDataOf state log held gone → spelling.spelled state ≡ spelling.history_spelled (ghosts.kind_of state) (cut log held))
+    (kinds : Text → Kind) (logs : Text → History Op) (store : Store Op) (stored : Stored) (e : SpellsEntry ghosts spelling kinds logs store stored) → stored.bytes ≡ envelope_stored spelling.byte_of spelling.spelled e.kept.parts
+stored_parts {T} {Kind} ghosts spelling byte_means means kinds logs store stored e =
+    e.bytes ∙ ap (λ (kind : Kind). entry_stored spelling.history_byte spelling.history_spelled kind e.entry) (sym e.kept.of_kind)
+    ∙ sym (stored_is ghosts.IsDataOf ghosts.kind_of spelling.byte_of spelling.spelled spelling.history_byte spelling.history_spelled byte_means means e.kept.parts (logs stored.key) e.entry e.kept.image)
+
 module _ {T Kind Op Delta : Type 0} (ghosts : Ghosts T Kind Op Delta) (spelling : Spelling T Kind Op Delta)
     (byte_means : (state : T) (log : History Op) (held : VersionVector) (gone : IdentitySet) → IsPrunedCut log held gone → ghosts.IsDataOf state log held gone → spelling.byte_of state ≡ spelling.history_byte (ghosts.kind_of state) (cut log held))
     (means : (state : T) (log : History Op) (held : VersionVector) (gone : IdentitySet) → IsPrunedCut log held gone → ghosts.IsDataOf state log held gone → spelling.spelled state ≡ spelling.history_spelled (ghosts.kind_of state) (cut log held))
@@ -447,8 +454,7 @@ module _ {T Kind Op Delta : Type 0} (ghosts : Ghosts T Kind Op Delta) (spelling 
         parts = parts;
         durable = (some.0, some.1, some.2, some.3, (some.4.0, some.4.1, sym kind ∙ ap kinds some.4.0 ∙ sym e.kept.of_kind));
         envelope = e.kept.readable;
-        spelled = e.bytes ∙ ap (λ (kind : Kind). entry_spelled spelling.history_byte spelling.history_spelled kind e.entry) (sym e.kept.of_kind)
-            ∙ sym (spelled_is ghosts.IsDataOf ghosts.kind_of spelling.byte_of spelling.spelled spelling.history_byte spelling.history_spelled byte_means means parts (logs stored.key) e.entry e.kept.image);
+        spelled = inr (stored_parts ghosts spelling byte_means means kinds logs store stored e);
         names = names_fit ghosts id given unmentioned parts (logs stored.key) e.entry e.kept.image e.kept.readable.spelled.marks f.1;
       }
 
@@ -522,12 +528,6 @@ names_loaded {T} {Kind} {Op} {Delta} states keys same distinct i j name e f =
 
 -- WHAT ITS KEYS STAND FOR
 
--- parts that are spelled alike are the same
-pub once_spelled : {T : Type 0} (is_known : ℕ → Bool) (data_in : ℕ → IdentitySet → List ℕ → Result (T × List ℕ) Fault) (byte : T → ℕ) (spelled : T → List ℕ) (IsSound : T → Type 0) (mentioned : T → ℕ → Bool) → AreLaws is_known data_in byte spelled IsSound mentioned
-    → (a b : Parts T) → IsEnvelope IsSound mentioned a → IsEnvelope IsSound mentioned b → envelope_spelled byte spelled a ≡ envelope_spelled byte spelled b → a ≡ b
-once_spelled is_known data_in byte spelled IsSound mentioned laws a b p q e =
-    (one_spelling_is is_known data_in byte spelled IsSound mentioned laws a b [] [] p q (append-nil (envelope_spelled byte spelled a) ∙ e ∙ sym (append-nil (envelope_spelled byte spelled b)))).0
-
 -- an empty log stands for an entry with no own record
 empty_log : {Kind Op Delta : Type 0} (IsDeltaOf : Delta → History Op → ℕ → ℕ → ℕ → Type 0) (parts : LogParts Kind Delta) (log : History Op) (entry : Entry Op) (id : ℕ) (kind : Kind) {State : Type 0} {D : State → History Op → VersionVector → IdentitySet → Type 0} (held : Parts State)
     → parts ≡ record { origin = id; kind = kind; last = 0; records = [] } → StandsFor D held log entry → at entry.history id ≡ 0 → StandsForLog IsDeltaOf parts log entry
@@ -538,8 +538,8 @@ empty_log {Kind} {Op} {Delta} IsDeltaOf parts log entry id kind held is stands n
 module _ {T Kind Op Delta : Type 0} (ghosts : Ghosts T Kind Op Delta) (spelling : Spelling T Kind Op Delta)
     (byte_means : (state : T) (log : History Op) (held : VersionVector) (gone : IdentitySet) → IsPrunedCut log held gone → ghosts.IsDataOf state log held gone → spelling.byte_of state ≡ spelling.history_byte (ghosts.kind_of state) (cut log held))
     (means : (state : T) (log : History Op) (held : VersionVector) (gone : IdentitySet) → IsPrunedCut log held gone → ghosts.IsDataOf state log held gone → spelling.spelled state ≡ spelling.history_spelled (ghosts.kind_of state) (cut log held))
-    (once : (a b : Parts T) → IsEnvelope spelling.IsSound ghosts.mentioned a → IsEnvelope spelling.IsSound ghosts.mentioned b
-    → envelope_spelled spelling.byte_of spelling.spelled a ≡ envelope_spelled spelling.byte_of spelling.spelled b → a ≡ b)
+    (once : (bytes : List ℕ) (a b : Parts T) → IsEnvelope spelling.IsSound ghosts.mentioned a → IsEnvelope spelling.IsSound ghosts.mentioned b
+    → IsStored spelling.byte_of spelling.spelled a bytes → IsStored spelling.byte_of spelling.spelled b bytes → a ≡ b)
     (kinds : Text → Kind) (logs : Text → History Op) (id : ℕ) (view : View) (table : Table) (store : Store Op) (spells : SpellsStore ghosts spelling kinds logs table store) where
   -- what a key took is what the store has
   record IsOfStore (state : KeyState T Kind Op Delta) : Type 0 where
@@ -553,9 +553,7 @@ module _ {T Kind Op Delta : Type 0} (ghosts : Ghosts T Kind Op Delta) (spelling 
 
   same_parts : (state : KeyState T Kind Op Delta) (one : HoldsOne ghosts spelling id view table state) (e : SpellsEntry ghosts spelling kinds logs store one.stored) → e.kept.parts ≡ one.parts
   same_parts state one e =
-      once e.kept.parts one.parts e.kept.readable one.fit.envelope
-      (spelled_is ghosts.IsDataOf ghosts.kind_of spelling.byte_of spelling.spelled spelling.history_byte spelling.history_spelled byte_means means e.kept.parts (logs one.stored.key) e.entry e.kept.image
-      ∙ ap (λ (kind : Kind). entry_spelled spelling.history_byte spelling.history_spelled kind e.entry) e.kept.of_kind ∙ sym e.bytes ∙ one.fit.spelled)
+      once one.stored.bytes e.kept.parts one.parts e.kept.readable one.fit.envelope (inr (stored_parts ghosts spelling byte_means means kinds logs store one.stored e)) one.fit.spelled
 
   none_in : (parts : Parts T) (log : History Op) (entry : Entry Op) → StandsFor ghosts.IsDataOf parts log entry → NamesEarlier ghosts id view.given parts → at entry.history id ≡ 0
   none_in parts log entry stands names =

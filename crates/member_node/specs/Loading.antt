@@ -16,7 +16,8 @@ use Rattle.data_markers.specs.declared.marker.Marker.TheVariants.{Initialized, P
 use Rattle.data_lattice.specs.declared.replica.Replica.{Ghosts}
 use Rattle.data_lattice.specs.declared.spelled.SpelledData.{Ghosts as Spelling}
 use Rattle.data_envelope.specs.Images.{Parts}
-use Rattle.data_codec.specs.Envelopes.{envelope_spelled, IsEnvelope}
+use Rattle.data_codec.specs.Envelopes.{IsEnvelope}
+use Rattle.data_codec.specs.Stored.{IsStored}
 use Rattle.member_keeper.specs.declared.stored.Stored.{Stored}
 use Rattle.member_keeper.specs.declared.keeper.Keeper.{Ghosts as Keeping}
 use Rattle.member_keeper.specs.Calls.{Becomes}
@@ -45,12 +46,12 @@ module _ {T Kind Op Delta : Type 0} (ghosts : Ghosts T Kind Op Delta) (id given 
     pub mentioned : (i : ℕ) → ghosts.mentioned parts.value i ≡ true → IsEarlier id given i
 
 module _ {T Kind Op Delta : Type 0} (ghosts : Ghosts T Kind Op Delta) (spelling : Spelling T Kind Op Delta) (keys : List (KeyState T Kind Op Delta)) (id given : ℕ) where
-  -- of a durable key, the spelling of an envelope of its kind that names earlier identities alone
+  -- of a durable key, an envelope of its kind in either format, which names earlier identities alone
   pub record IsSoundAt (stored : Stored) : Type 0 where
     pub parts : Parts T
     pub durable : Any (λ state. (state.name ≡ stored.key) × (state.durable ≡ true) × (state.kind ≡ ghosts.kind_of parts.value)) keys
     pub envelope : IsEnvelope spelling.IsSound ghosts.mentioned parts
-    pub spelled : stored.bytes ≡ envelope_spelled spelling.byte_of spelling.spelled parts
+    pub spelled : IsStored spelling.byte_of spelling.spelled parts stored.bytes
     pub names : NamesEarlier ghosts id given parts
 
   abbrev pub AreSound : Table → Type 0

@@ -23,7 +23,8 @@ use Rattle.data_lattice.specs.declared.spelled.SpelledData.{Ghosts as Spelling}
 use Rattle.data_envelope.specs.declared.envelope.Envelope.{Envelope}
 use Rattle.data_envelope.specs.Images.{Parts, StandsFor}
 use Rattle.data_envelope.specs.Words.{parts_of}
-use Rattle.data_codec.specs.Envelopes.{envelope_spelled, IsEnvelope}
+use Rattle.data_codec.specs.Envelopes.{IsEnvelope}
+use Rattle.data_codec.specs.Stored.{IsStored}
 use Rattle.member_keeper.specs.declared.stored.Stored.{Stored}
 use Rattle.member_node.specs.declared.key.KeyState.{KeyState}
 use Rattle.member_node.specs.declared.restoring.Unfit.{Unfit}
@@ -57,12 +58,12 @@ module _ {T : Type 0} (mentioned : T → ℕ → Bool) where
 -- WHAT MAY BE LOADED
 
 module _ {T Kind Op Delta : Type 0} (ghosts : Ghosts T Kind Op Delta) (spelling : Spelling T Kind Op Delta) (id given : ℕ) where
-  -- the key is durable, and the bytes spell these parts, which are of its kind and name earlier identities alone
+  -- the key is durable, and the bytes are these parts in either format, which are of its kind and name earlier identities alone
   pub record IsFitFor (state : KeyState T Kind Op Delta) (bytes : List ℕ) (parts : Parts T) : Type 0 where
     pub durable : state.durable ≡ true
     pub kind : state.kind ≡ ghosts.kind_of parts.value
     pub envelope : IsEnvelope spelling.IsSound ghosts.mentioned parts
-    pub spelled : bytes ≡ envelope_spelled spelling.byte_of spelling.spelled parts
+    pub spelled : IsStored spelling.byte_of spelling.spelled parts bytes
     pub names : NamesEarlier ghosts id given parts
 
   -- so it is for the key of this name, which stands there

@@ -12,15 +12,15 @@ use Rattle.model_members.specs.World.{Store}
 use Rattle.data_lattice.specs.declared.replica.Replica.{Ghosts}
 use Rattle.data_lattice.specs.declared.spelled.SpelledData.{Ghosts as Spelling}
 use Rattle.data_envelope.specs.Images.{Parts, StandsFor}
-use Rattle.data_codec.specs.Entries.{entry_spelled}
 use Rattle.data_codec.specs.Envelopes.{IsEnvelope}
+use Rattle.data_codec.specs.Stored.{entry_stored}
 use Rattle.member_keeper.specs.declared.stored.Stored.{Stored}
 use Rattle.member_keeper.specs.Tables.{Table}
 use Rattle.member_node.specs.declared.key.KeyState.{KeyState}
 
 module _ {T Kind Op Delta : Type 0} (spelling : Spelling T Kind Op Delta) where
   abbrev pub spelled_entry : nodes.KeyState Kind Op → Stored
-  spelled_entry k = record { key = k.name; bytes = entry_spelled spelling.history_byte spelling.history_spelled k.kind k.entry }
+  spelled_entry k = record { key = k.name; bytes = entry_stored spelling.history_byte spelling.history_spelled k.kind k.entry }
 
 module _ {T Kind Op Delta : Type 0} (ghosts : Ghosts T Kind Op Delta) (spelling : Spelling T Kind Op Delta) where
   -- an envelope stands for the entry that can be spelled, and read again
@@ -34,7 +34,7 @@ module _ {T Kind Op Delta : Type 0} (ghosts : Ghosts T Kind Op Delta) (spelling 
   pub record SpellsEntry (kinds : Text → Kind) (logs : Text → History Op) (store : Store Op) (stored : Stored) : Type 0 where
     pub entry : Entry Op
     pub has : store stored.key ≡ Some entry
-    pub bytes : stored.bytes ≡ entry_spelled spelling.history_byte spelling.history_spelled (kinds stored.key) entry
+    pub bytes : stored.bytes ≡ entry_stored spelling.history_byte spelling.history_spelled (kinds stored.key) entry
     pub kept : IsKept (kinds stored.key) (logs stored.key) entry
 
   -- and each entry of the store is spelled

@@ -9,8 +9,8 @@
 //!   the next entries' records and in which their histories are exactly pruned: the member after
 //!   the step stands for the model's next one after the same input and what became of the store,
 //!   the reply, the messages and the operation that ended by it are the model's, and where the
-//!   keeper tells its table, it tells it with the spellings of the durable entries that changed
-//!   put, or as it was if the store failed. Nothing of another kind than its key's, and nothing of
+//!   keeper tells its table, it tells it with the durable entries that changed put in format 2, or
+//!   as it was if the store failed. Nothing of another kind than its key's, and nothing of
 //!   an undeclared key, has any effect (`Node::step`, clause `step` (`IsStepOf`)).
 //! - A look at the number of an operation tells whether it is open in the model, or else the
 //!   model's first result of that number, if there is one (`Node::look` (`LooksAt`)).
@@ -21,9 +21,9 @@
 //!   member is then as before, but for its keeper, which tells what it told (`Node::step`, clauses
 //!   `full`, `refusal`, `unchanged`).
 //! - A new member has no record. One that is loaded stands for the model's, over the store that its
-//!   keeper's table spells; it has its own identity, view and no steps. Its keeper's table is
-//!   refused exactly at the first entry that is no spelling of an envelope of a declared durable
-//!   key's kind, or names an identity that was not given or is the new one's; a table that spells a
+//!   keeper's table holds; it has its own identity, view and no steps. Its keeper's table is refused
+//!   exactly at the first entry that is, in either format, no envelope of a declared durable key's
+//!   kind, or names an identity that was not given or is the new one's; a table that holds a
 //!   store of a run is never refused. After a refusal the old member comes back, but for its keeper
 //!   (`Node::new`, `Node::loaded`).
 #![tactic(auto)]

@@ -14,7 +14,7 @@ ghost use Rattle.member_node.specs.Restoring.{is_earlier, mark_names, names_at, 
 use crate::key::{KeyDecl, KeyState, index_of};
 use base_bytes::{Items, Memory, Text};
 use base_vectors::{IDENTITIES, Id};
-use data_codec::{CodecError, read};
+use data_codec::{CodecError, read_stored};
 use data_envelope::Envelope;
 use data_lattice::{Replica, SpelledData};
 use data_markers::{Marker, Markers};
@@ -135,7 +135,7 @@ fn read_for<T: SpelledData>(
     if !state.durable {
         return Err(Flaw::Damaged);
     }
-    match read::<T>(alloc, bytes) {
+    match read_stored::<T>(alloc, bytes) {
         Ok(entry) => {
             if is_fit(state, &entry, id, given) {
                 return Ok(entry);

@@ -7,13 +7,13 @@ use crate::key::KeyState;
 use crate::plan::{Plan, entry_at};
 use crate::reply::Fate;
 use base_bytes::{Items, Memory};
-use data_codec::spell;
+use data_codec::spell_stored;
 use data_envelope::Envelope;
 use data_lattice::SpelledData;
 use member_keeper::{Keeper, KeeperError, Stored};
 use std::alloc::Global;
 
-/// Adds the spelling of a key's new entry, if the key is durable and the entry another than before.
+/// Adds the stored bytes of a key's new entry, if the key is durable and the entry another than before.
 fn add<T: SpelledData>(
     alloc: Global,
     state: &KeyState<T>,
@@ -28,11 +28,11 @@ fn add<T: SpelledData>(
         return Ok(());
     }
     let key = state.name.copied();
-    let bytes = Items::from_vec(spell(alloc, entry)?);
+    let bytes = Items::from_vec(spell_stored(alloc, entry)?);
     stores.push(Stored { key, bytes })
 }
 
-/// What a plan has to store: the spelling of each durable entry that it changes.
+/// What a plan has to store: the stored bytes of each durable entry that it changes.
 pub(crate) fn stores<T: SpelledData>(
     alloc: Global,
     keys: &[KeyState<T>],

@@ -66,6 +66,18 @@ impl View {
         })
     }
 
+    /// The view with these parts, which are those of a view: whoever made them, or read them, tests that.
+    pub fn from_parts(number: u32, given: u8, members: Vec<Member>) -> View
+        requires { IsView (record { number = number; given = given; members = members.items }) }
+        ensures { result ≡ record { number = number; given = given; members = members.items } }
+    {
+        View {
+            number,
+            given,
+            members,
+        }
+    }
+
     /// The number of the view, from 0 on.
     pub fn number(&self) -> u32
         ensures number { result ≡ self.now.number }

@@ -13,7 +13,7 @@ use Rattle.model_kinds.specs.declared.kind.Kind.{Kind}
 use Rattle.model_kinds.specs.declared.operation.Op.{Op}
 use Rattle.data_lattice.specs.declared.replica.Replica.{Ghosts}
 use Rattle.data_lattice.specs.declared.spelled.SpelledData.{Ghosts as Spelling}
-use Rattle.data_codec.specs.Entries.{entry_spelled}
+use Rattle.data_codec.specs.Stored.{entry_stored}
 use Rattle.member_keeper.specs.declared.stored.Stored.{Stored}
 use Rattle.member_keeper.specs.Tables.{Table}
 use Rattle.member_node.specs.Stores.{SpellsEntry, SpellsStore}
@@ -42,9 +42,9 @@ module _ {X : Type 0} (p : X → Bool) where
 
 module _ {T Delta : Type 0} (ghosts : Ghosts T Kind Op Delta) (spelling : Spelling T Kind Op Delta) (kinds : Text → Kind) (logs : Text → History Op) (table : Table) (store : Store Op) (spells : SpellsStore ghosts spelling kinds logs table store) where
   abbrev spelled : Kind → Entry Op → List ℕ
-  spelled = entry_spelled spelling.history_byte spelling.history_spelled
+  spelled = entry_stored spelling.history_byte spelling.history_spelled
 
-  -- what stands at a name is the spelling of what the store has there
+  -- what stands at a name is what is stored of what the store has there
   holds_at : (name : Text) → bytes_at table name ≡ option_map (spelled (kinds name)) (store name)
   holds_at name = by_found (find (λ (stored : Stored). bytes_eq stored.key name) table) refl
     where

@@ -13,7 +13,7 @@ use Rattle.model_members.specs.Script.{KeeperAnswers, Playing, none_fails}
 use Rattle.model_kinds.specs.declared.kind.Kind.{Kind}
 use Rattle.model_kinds.specs.declared.operation.Op.{Op}
 use Rattle.model_kinds.specs.declared.shown.Shown.{Shown}
-use Rattle.data_codec.specs.Entries.{entry_spelled}
+use Rattle.data_codec.specs.Stored.{entry_stored}
 use Rattle.member_keeper.specs.Tables.{Table}
 use Rattle.member_keeper.specs.declared.keeper.Keeper.{Ghosts as Keeping}
 use Rattle.world_members.specs.Keeping.{Given, Keeps}
@@ -36,9 +36,9 @@ abbrev pub bytes_at : Table → Text → Option (List ℕ)
 bytes_at table name = option_map (λ stored. stored.bytes) (find (λ stored. bytes_eq stored.key name) table)
 
 module _ (history_byte : Kind → History Op → ℕ) (history_spelled : Kind → History Op → List ℕ) where
-  -- at each durable key stands the spelling of what the store has there, and nothing stands at another name
+  -- at each durable key stand the stored bytes of what the store has there, and nothing stands at another name
   pub record HoldsStore (keys : List ScriptKey) (table : Table) (store : Store Op) : Type 0 where
-    pub durable : All (λ key. key.durable ≡ true → bytes_at table key.key ≡ option_map (entry_spelled history_byte history_spelled key.kind) (store key.key)) keys
+    pub durable : All (λ key. key.durable ≡ true → bytes_at table key.key ≡ option_map (entry_stored history_byte history_spelled key.kind) (store key.key)) keys
     pub others : All (λ stored. Any (λ key. (key.key ≡ stored.key) × (key.durable ≡ true)) keys) table
 
 module _ {K : Type 0} (keeping : Keeping K) where

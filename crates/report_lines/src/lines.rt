@@ -1,9 +1,9 @@
-ghost use Rattle.std.specs.Prelude.{◌≡◌, ◌∷◌, ◌++◌, map, flat_map, string_bytes, OnOk, Some};
+ghost use Rattle.std.specs.Prelude.{◌≡◌, ◌∷◌, ◌++◌, map, flat_map, codes, string_bytes, OnOk, Some};
 ghost use Rattle.model_members.specs.Report.{words, reply_text, key_outcome_text};
 ghost use Rattle.model_kinds.specs.ShownText.{shown_text};
 ghost use Rattle.member_node.specs.Members.{meant};
 ghost use Rattle.member_node.specs.Replies.{meant_at_key};
-ghost use Rattle.report_lines.specs.Lines.{sketch_text, outcome_text, ask_words, head_words, answer_text, sent_text, finished_text, tails_text, event_text, ending_text, client_tails_text, client_line_text};
+ghost use Rattle.report_lines.specs.Lines.{sketch_text, delivered_words, outcome_text, ask_words, head_words, answer_text, sent_text, finished_text, tails_text, event_text, ending_text, client_tails_text, client_line_text};
 
 use base_bytes::Memory;
 use base_vectors::Id;
@@ -33,20 +33,38 @@ fn push_sketch(text: &mut String, sketch: Sketch) -> Result<(), Memory>
     Ok(())
 }
 
+/// Adds a text.
+fn push(text: &mut String, part: &str) -> Result<(), Memory>
+    ensures { OnOk result (string_bytes text.new ≡ string_bytes text.old ++ part.now) }
+{
+    text.push_str(part)?;
+    Ok(())
+}
+
+/// Adds what was delivered, after a space, if anything was.
+fn push_delivered(text: &mut String, sketch: &Option<Sketch>) -> Result<(), Memory>
+    ensures { OnOk result (string_bytes text.new ≡ string_bytes text.old ++ flat_map (λ word. codes " " ++ word) (delivered_words sketch.now)) }
+{
+    if let Some(sketch) = sketch {
+        text.push_str(" ")?;
+        push_sketch(text, *sketch)?;
+    }
+    Ok(())
+}
+
 /// Adds what a member was asked.
 fn push_ask(text: &mut String, at: Id, ask: &Ask) -> Result<(), Memory>
     ensures { OnOk result (string_bytes text.new ≡ string_bytes text.old ++ words (ask_words at ask.now)) }
 {
     let at = at.number();
     match ask {
-        Ask::Update { key, .. } => write!(text, "update {at} {}", key.as_str())?,
-        Ask::Get { key, .. } => write!(text, "get {at} {}", key.as_str())?,
-        Ask::Flush => write!(text, "flush {at}")?,
-        Ask::Gossip { to } => write!(text, "gossip {at} {}", to.number())?,
-        Ask::Tick => write!(text, "tick {at}")?,
-        Ask::Install { view } => write!(text, "install {at} view {view}")?,
+        Ask::Update { key, .. } => Ok(write!(text, "update {at} {}", key.as_str())?),
+        Ask::Get { key, .. } => Ok(write!(text, "get {at} {}", key.as_str())?),
+        Ask::Flush => Ok(write!(text, "flush {at}")?),
+        Ask::Gossip { to } => Ok(write!(text, "gossip {at} {}", to.number())?),
+        Ask::Tick => Ok(write!(text, "tick {at}")?),
+        Ask::Install { view } => Ok(write!(text, "install {at} view {view}")?),
     }
-    Ok(())
 }
 
 /// Adds what was done.
@@ -54,7 +72,7 @@ fn push_head(text: &mut String, head: &Head) -> Result<(), Memory>
     ensures { OnOk result (string_bytes text.new ≡ string_bytes text.old ++ words (head_words head.now)) }
 {
     match head {
-        Head::Asked { at, ask } => push_ask(text, *at, ask)?,
+        Head::Asked { at, ask } => push_ask(text, *at, ask),
         Head::Deliver {
             from,
             to,
@@ -62,22 +80,18 @@ fn push_head(text: &mut String, head: &Head) -> Result<(), Memory>
             sketch,
         } => {
             write!(text, "deliver {}>{} {index}", from.number(), to.number())?;
-            if let Some(sketch) = sketch {
-                text.push_str(" ")?;
-                push_sketch(text, *sketch)?;
-            }
+            push_delivered(text, sketch)
         }
         Head::Lose { from, to, index } => {
-            write!(text, "lose {}>{} {index}", from.number(), to.number())?;
+            Ok(write!(text, "lose {}>{} {index}", from.number(), to.number())?)
         }
-        Head::Round => text.push_str("round")?,
-        Head::Timeout { at, op } => write!(text, "timeout {} {op}", at.number())?,
-        Head::Remove { id } => write!(text, "remove {}", id.number())?,
-        Head::Join { place } => write!(text, "join {place}")?,
-        Head::Restart { id } => write!(text, "restart {}", id.number())?,
-        Head::Settle => text.push_str("settle")?,
+        Head::Round => push(text, "round"),
+        Head::Timeout { at, op } => Ok(write!(text, "timeout {} {op}", at.number())?),
+        Head::Remove { id } => Ok(write!(text, "remove {}", id.number())?),
+        Head::Join { place } => Ok(write!(text, "join {place}")?),
+        Head::Restart { id } => Ok(write!(text, "restart {}", id.number())?),
+        Head::Settle => push(text, "settle"),
     }
-    Ok(())
 }
 
 /// Adds what a tick made of the records of one identity that left, after a space.
@@ -114,40 +128,39 @@ fn push_reply(alloc: Global, text: &mut String, reply: &Reply) -> Result<(), Mem
     ensures { OnOk result (string_bytes text.new ≡ string_bytes text.old ++ reply_text shown_text (meant reply.now)) }
 {
     match reply {
-        Reply::Done => text.push_str("done")?,
-        Reply::Pending(op) => write!(text, "pending {op}")?,
+        Reply::Done => push(text, "done"),
+        Reply::Pending(op) => Ok(write!(text, "pending {op}")?),
         Reply::Value(shown) => {
             text.push_str("value ")?;
-            push_shown(alloc, text, shown)?;
+            push_shown(alloc, text, shown)
         }
-        Reply::Deleted => text.push_str("deleted")?,
-        Reply::NotFound => text.push_str("not found")?,
-        Reply::UnknownKey => text.push_str("unknown key")?,
-        Reply::WrongKind => text.push_str("wrong kind")?,
-        Reply::TooFew => text.push_str("too few")?,
-        Reply::Overflow { share, amount } => write!(text, "overflow {share} {amount}")?,
-        Reply::ClockSpent => text.push_str("clock spent")?,
-        Reply::SetFull => text.push_str("set full")?,
-        Reply::StoreFailed => text.push_str("store failed")?,
-        Reply::Taken => text.push_str("taken")?,
-        Reply::Already => text.push_str("already")?,
+        Reply::Deleted => push(text, "deleted"),
+        Reply::NotFound => push(text, "not found"),
+        Reply::UnknownKey => push(text, "unknown key"),
+        Reply::WrongKind => push(text, "wrong kind"),
+        Reply::TooFew => push(text, "too few"),
+        Reply::Overflow { share, amount } => Ok(write!(text, "overflow {share} {amount}")?),
+        Reply::ClockSpent => push(text, "clock spent"),
+        Reply::SetFull => push(text, "set full"),
+        Reply::StoreFailed => push(text, "store failed"),
+        Reply::Taken => push(text, "taken"),
+        Reply::Already => push(text, "already"),
         Reply::Gap(lacking) => {
             let lacking = lacking.number();
-            write!(text, "gap {lacking}")?;
+            Ok(write!(text, "gap {lacking}")?)
         }
-        Reply::NotFromMember => text.push_str("not from member")?,
-        Reply::Installed => text.push_str("installed")?,
-        Reply::OldView => text.push_str("old view")?,
-        Reply::NotAPeer => text.push_str("not a peer")?,
-        Reply::Ticked(outcomes) => push_ticked(text, "done", outcomes.as_slice())?,
+        Reply::NotFromMember => push(text, "not from member"),
+        Reply::Installed => push(text, "installed"),
+        Reply::OldView => push(text, "old view"),
+        Reply::NotAPeer => push(text, "not a peer"),
+        Reply::Ticked(outcomes) => push_ticked(text, "done", outcomes.as_slice()),
         Reply::TickedStoreFailed(outcomes) => {
-            push_ticked(text, "store failed", outcomes.as_slice())?;
+            push_ticked(text, "store failed", outcomes.as_slice())
         }
-        Reply::NotLeader(leader) => write!(text, "not leader {}", leader.number())?,
-        Reply::TimedOut => text.push_str("timed out")?,
-        Reply::NoSuchOp => text.push_str("no such op")?,
+        Reply::NotLeader(leader) => Ok(write!(text, "not leader {}", leader.number())?),
+        Reply::TimedOut => push(text, "timed out"),
+        Reply::NoSuchOp => push(text, "no such op"),
     }
-    Ok(())
 }
 
 /// Adds what came of an event.
@@ -155,27 +168,26 @@ fn push_answer(alloc: Global, text: &mut String, answer: &Answer) -> Result<(), 
     ensures { OnOk result (string_bytes text.new ≡ string_bytes text.old ++ answer_text answer.now) }
 {
     match answer {
-        Answer::Reply(reply) => push_reply(alloc, text, reply)?,
-        Answer::Gone => text.push_str("gone")?,
-        Answer::HistoryFull => text.push_str("history full")?,
-        Answer::NoSuchView => text.push_str("no such view")?,
-        Answer::NoSuchMessage => text.push_str("no such message")?,
-        Answer::Lost => text.push_str("lost")?,
-        Answer::Nothing => text.push_str("nothing")?,
-        Answer::View(number) => write!(text, "view {number}")?,
-        Answer::NewId { id, view } => write!(text, "id {} view {view}", id.number())?,
-        Answer::LastMember => text.push_str("last member")?,
-        Answer::PlaceTaken => text.push_str("place taken")?,
-        Answer::TooManyIdentities => text.push_str("too many identities")?,
-        Answer::ClearFailed => text.push_str("clear failed")?,
-        Answer::LoadFailed => text.push_str("load failed")?,
-        Answer::Damaged(key) => write!(text, "damaged {}", key.as_str())?,
+        Answer::Reply(reply) => push_reply(alloc, text, reply),
+        Answer::Gone => push(text, "gone"),
+        Answer::HistoryFull => push(text, "history full"),
+        Answer::NoSuchView => push(text, "no such view"),
+        Answer::NoSuchMessage => push(text, "no such message"),
+        Answer::Lost => push(text, "lost"),
+        Answer::Nothing => push(text, "nothing"),
+        Answer::View(number) => Ok(write!(text, "view {number}")?),
+        Answer::NewId { id, view } => Ok(write!(text, "id {} view {view}", id.number())?),
+        Answer::LastMember => push(text, "last member"),
+        Answer::PlaceTaken => push(text, "place taken"),
+        Answer::TooManyIdentities => push(text, "too many identities"),
+        Answer::ClearFailed => push(text, "clear failed"),
+        Answer::LoadFailed => push(text, "load failed"),
+        Answer::Damaged(key) => Ok(write!(text, "damaged {}", key.as_str())?),
         Answer::Settled { messages, blocked } => {
-            write!(text, "done messages {messages} blocked {blocked}")?;
+            Ok(write!(text, "done messages {messages} blocked {blocked}")?)
         }
-        Answer::Stopped => text.push_str("stopped")?,
+        Answer::Stopped => push(text, "stopped"),
     }
-    Ok(())
 }
 
 /// Adds the messages that were sent, each with its receiver.

@@ -48,7 +48,7 @@ fn threads_told<
     T: SpelledData<Kind = Kind, Op = Op> + Send,
     K: Keeper + Drop + Send,
     R: Threads + Wait + Sync,
-    G: Gate,
+    G: Gate + Sync,
 >(
     rt: &R,
     alloc: Global,
@@ -78,7 +78,7 @@ fn one_step<
     T: SpelledData<Kind = Kind, Op = Op> + Send,
     K: Keeper + Drop + Send,
     R: Threads + Wait + Sync,
-    G: Gate,
+    G: Gate + Sync,
 >(
     rt: &R,
     alloc: Global,
@@ -106,7 +106,7 @@ fn steps_told<
     T: SpelledData<Kind = Kind, Op = Op> + Send,
     K: Keeper + Drop + Send,
     R: Threads + Wait + Sync,
-    G: Gate,
+    G: Gate + Sync,
 >(
     rt: &R,
     alloc: Global,
@@ -137,7 +137,7 @@ pub fn report_with_clients<
     T: SpelledData<Kind = Kind, Op = Op> + Send,
     K: Keeper + Drop + Send,
     R: Threads + Wait + Sync,
-    G: Gate,
+    G: Gate + Sync,
 >(rt: &R, alloc: Global, gate: &G, script: &Script, keepers: Vec<K>) -> Played<K>
 where
     T::Delta: Send,

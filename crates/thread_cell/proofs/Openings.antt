@@ -1,5 +1,6 @@
 -- The table at its beginning.
 use Rattle.std.proofs.Common.{◌≡◌, ℕ, zero, suc, ◌+◌, ◌<◌, ◌≤◌, Bool, true, false, List, [], ◌∷◌, length, drop, get_or, replicate, refl, ap, sym, ◌∙◌, arith}
+use Rattle.std.proofs.lemmas.List.{length-replicate}
 use Rattle.std.specs.Prelude.{is_some}
 use mathlib.Core.Logic.{dite}
 use native.Mathlib.Decide.{ℕ_discrete}
@@ -42,8 +43,8 @@ zeros (suc n) zero = refl
 zeros (suc n) (suc p) = zeros n p
 
 module _ {M I F O R : Type 0} where
-  pub opens : (key : Opening M I F O R) → IsKept {E = Entry M I F O R} client_of (places_of key) (clients_of key) key (opening (replicate 8 0) [] (beginner (places_of key) (clients_of key) key))
-  opens key = begins_kept {E = Entry M I F O R} client_of (places_of key) (clients_of key) key (replicate 8 0) refl (zeros 8) (each_inside 0 (flags key.machines)) (each_once 0 (flags key.machines)) (each_once 0 (replicate key.clients true))
+  pub opens : (key : Opening M I F O R) → IsKept {E = Entry M I F O R} client_of (places_of key) (clients_of key) key (opening (replicate 144 0) [] (beginner (places_of key) (clients_of key) key))
+  opens key = begins_kept {E = Entry M I F O R} client_of (places_of key) (clients_of key) key (replicate 144 0) (length-replicate {A = ℕ} 144 0) (zeros 144) (each_inside 0 (flags key.machines)) (each_once 0 (flags key.machines)) (each_once 0 (replicate key.clients true))
 
   -- the flag of a place comes first of those from there on
   pub flag_first : (ms : Machines M I F O R) (p : ℕ) → p < 8 → drop p (flags ms) ≡ is_some (machine_at ms p) ∷ drop (suc p) (flags ms)

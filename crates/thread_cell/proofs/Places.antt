@@ -10,7 +10,7 @@ use Rattle.thread_cell.specs.declared.view.ClientCalls.{ClientCalls}
 use Rattle.thread_cell.specs.declared.view.View.{View}
 use Rattle.thread_cell.specs.Lists.{longer, at, with_at, same, times}
 use Rattle.thread_cell.specs.Views.{IsLive, nobody, beginner, standing_for, met, extended}
-use Rattle.thread_cell.specs.Rule.{most, stands, FitsPlaces, KeepsPlaces, Looked}
+use Rattle.thread_cell.specs.Rule.{most, word_of, stands, FitsPlaces, KeepsPlaces, Looked}
 use Rattle.thread_cell.proofs.Prefixes.{prefix_self, prefix_trans, prefix_more, prefix_length, longer_begins, begins_longer, begins_longer_too, longer_whole, longer_whole_too}
 use Rattle.thread_cell.proofs.Lists.{at-with_at, at-with_other, with_at_ind, with_at_within, at-longer_each, longer_each_within, weigh-append, weigh-set, weigh_at_least, weigh_two, weigh_within, weigh_met, each_set, each_snoc}
 
@@ -168,17 +168,17 @@ module _ {E K : Type 0} (places : List ℕ) (key : K) where
         opening = ⊎_elim (λ o. inl o) (λ o. absurd (let none : stands p v ≡ 0 = ap (stands p) o in omega arith)) mine.opening;
       }
 
-      pub extends_places : KeepsPlaces places key longer_log (set words p (length (at v.known p) + 1)) (set views id (extended p e v))
+      pub extends_places : KeepsPlaces places key longer_log (set words (word_of p) (length (at v.known p) + 1)) (set views id (extended p e v))
       extends_places =
           let n : length (at v.known p) ≡ length (at log p) = ap (λ (h : List E). length h) is_whole in
           let inside : p < 8 = kept.inside p is_place in
           let count = kept.count in
           let one_more = length-append (at log p) (e ∷ []) in
           record {
-            count = length-set words p _ ∙ count;
-            lengths = with_at_ind (λ q h. q < 8 → get_or (set words p (length (at v.known p) + 1)) q 0 ≡ length h) log p (at log p ++ e ∷ [])
-                (λ _. get_or-set_same words p (length (at v.known p) + 1) 0 (omega arith) ∙ omega arith)
-                (λ q away l. get_or-set_other words p q (length (at v.known p) + 1) 0 away ∙ kept.lengths q l);
+            count = length-set words (word_of p) _ ∙ count;
+            lengths = with_at_ind (λ q h. q < 8 → get_or (set words (word_of p) (length (at v.known p) + 1)) (word_of q) 0 ≡ length h) log p (at log p ++ e ∷ [])
+                (λ _. get_or-set_same words (word_of p) (length (at v.known p) + 1) 0 (omega arith) ∙ omega arith)
+                (λ q away l. get_or-set_other words (word_of p) (word_of q) (length (at v.known p) + 1) 0 (λ same. away (omega arith)) ∙ kept.lengths q l);
             bound = with_at_ind (λ q h. length h ≤ most) log p (at log p ++ e ∷ []) (omega arith) (λ q _. kept.bound q);
             inside = kept.inside;
             once = kept.once;
@@ -188,11 +188,11 @@ module _ {E K : Type 0} (places : List ℕ) (key : K) where
           }
 
 -- the table at its beginning
-pub begins_places : (E : Type 0) {K : Type 0} (places : List ℕ) (key : K) (clients : List ℕ) (words : List ℕ) → length words ≡ 8 → ((p : ℕ) → get_or words p 0 ≡ 0) → ((p : ℕ) → 0 < times p places → p < 8) → ((p : ℕ) → times p places ≤ 1)
+pub begins_places : (E : Type 0) {K : Type 0} (places : List ℕ) (key : K) (clients : List ℕ) (words : List ℕ) → length words ≡ 144 → ((p : ℕ) → get_or words p 0 ≡ 0) → ((p : ℕ) → 0 < times p places → p < 8) → ((p : ℕ) → times p places ≤ 1)
     → KeepsPlaces {E = E} places key [] words (beginner places clients key ∷ [])
 begins_places E places key clients words count zeros inside once = record {
   count = count;
-  lengths = λ p _. zeros p;
+  lengths = λ p _. zeros (word_of p);
   bound = λ p. omega arith;
   inside = inside;
   once = once;

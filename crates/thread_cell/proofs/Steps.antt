@@ -11,7 +11,7 @@ use Rattle.thread_cell.specs.declared.view.ClientCalls.{ClientCalls}
 use Rattle.thread_cell.specs.declared.view.View.{View}
 use Rattle.thread_cell.specs.Lists.{first, rest, at, with_at, same, times}
 use Rattle.thread_cell.specs.Views.{IsLive, numbers, with_call, nobody, beginner, standing_for, noted, place_left, place_given, client_left, client_given, met, extended}
-use Rattle.thread_cell.specs.Rule.{most, stands, serves, calls_at, made_by, FitsPlaces, FitsClients, KeepsPlaces, KeepsClients, IsKept, looks, IsNewCall, extends, arrives}
+use Rattle.thread_cell.specs.Rule.{most, word_of, place_at, stands, serves, calls_at, made_by, FitsPlaces, FitsClients, KeepsPlaces, KeepsClients, IsKept, looks, IsNewCall, extends, arrives}
 use Rattle.thread_cell.proofs.Lists.{each_snoc, weigh-append, weigh_at_least, weigh-parts, at_first, at_rest}
 use Rattle.thread_cell.proofs.Places.{parts_places, meets_places, looked, extends_places, begins_places}
 use Rattle.thread_cell.proofs.Clients.{parts_clients, meets_clients, extends_clients, begins_clients}
@@ -21,6 +21,9 @@ get_past [] i le = refl
 get_past (x ∷ h) zero le = absurd (omega arith)
 get_past (x ∷ h) (suc i) le = get_past h i (omega arith)
 
+pub place_of_word : (p : ℕ) → place_at (word_of p) ≡ p
+place_of_word p = omega arith
+
 numbers-parts : (c : ℕ) (xs : List ClientCalls) → times c (numbers (rest xs)) + times c (numbers (first xs)) ≡ times c (numbers xs)
 numbers-parts c [] = refl
 numbers-parts c (x ∷ xs) = omega arith
@@ -29,15 +32,15 @@ module _ {E K : Type 0} (client_of : E → ℕ) (places clients : List ℕ) (key
   module _ (slots id : ℕ) (me : Me E (View E K)) where
     -- extend
     pub extend_allowed : (p n : ℕ) (e : E) (who : ClientCalls) (others : List ClientCalls) → 0 < stands p me.0 → n ≡ length (at me.0.known p) → n < most → me.0.clients ≡ who ∷ others → who.number ≡ client_of e
-        → Allows (IsKept client_of places clients key) slots id me p (λ m. either (m == n) (n + 1) m) (extends (step slots p n (n + 1) (some e)) me)
+        → Allows (IsKept client_of places clients key) slots id me (word_of p) (λ m. either (m == n) (n + 1) m) (extends (step slots (word_of p) n (n + 1) (some e)) me)
     extend_allowed p n e who others stood is_length room first_is by s kept _ here _ =
         let a = kept.of_places in
         let fits = a.each id me.0 here in
         let whole : at me.0.known p ≡ at kept.log p = fits.whole p stood in
         let is_log : n ≡ length (at kept.log p) = is_length ∙ ap (λ (h : List E). length h) whole in
         let place : 0 < times p places = let w = weigh_at_least (stands p) s.views id me.0 here in let t = a.stood p in omega arith in
-        let found : get_or s.words p 0 ≡ n = a.lengths p (a.inside p place) ∙ sym is_log in
-        let next : either (get_or s.words p 0 == n) (n + 1) (get_or s.words p 0) ≡ length (at me.0.known p) + 1 = ap (λ b. either b (n + 1) (get_or s.words p 0)) (eq-eqb (get_or s.words p 0) n found) ∙ ap (λ (k : ℕ). k + 1) is_length in
+        let found : get_or s.words (word_of p) 0 ≡ n = a.lengths p (a.inside p place) ∙ sym is_log in
+        let next : either (get_or s.words (word_of p) 0 == n) (n + 1) (get_or s.words (word_of p) 0) ≡ length (at me.0.known p) + 1 = ap (λ b. either b (n + 1) (get_or s.words (word_of p) 0)) (eq-eqb (get_or s.words (word_of p) 0) n found) ∙ ap (λ (k : ℕ). k + 1) is_length in
         let clients_kept = extends_clients client_of clients kept.log kept.own s.views kept.of_clients id me.0 here p e n who others first_is by is_log in (
           extended p e me.0,
           keeps,
@@ -45,11 +48,14 @@ module _ {E K : Type 0} (client_of : E → ℕ) (places clients : List ℕ) (key
           record {
             log = with_at kept.log p (at kept.log p ++ e ∷ []);
             own = with_at kept.own (client_of e) (at kept.own (client_of e) ++ (p, n) ∷ []);
-            of_places = subst (λ (k : ℕ). KeepsPlaces places key (with_at kept.log p (at kept.log p ++ e ∷ [])) (set s.words p k) (set s.views id (extended p e me.0))) (sym next)
+            of_places = subst (λ (k : ℕ). KeepsPlaces places key (with_at kept.log p (at kept.log p ++ e ∷ [])) (set s.words (word_of p) k) (set s.views id (extended p e me.0))) (sym next)
                 (extends_places places key kept.log s.words s.views a id me.0 here p e stood (let l = is_length in omega arith));
             of_clients = subst (λ (k : ℕ). KeepsClients client_of clients (with_at kept.log p (at kept.log p ++ e ∷ [])) (with_at kept.own (client_of e) (at kept.own (client_of e) ++ (p, n) ∷ [])) (set s.views id (record { began = me.0.began; known = with_at me.0.known p (at me.0.known p ++ e ∷ []); first_met = me.0.first_met; first_places = me.0.first_places; second_met = me.0.second_met; second_places = me.0.second_places; met_began = me.0.met_began; places = me.0.places; clients = with_call me.0.clients (p, k) }))) is_length clients_kept;
           },
-          (λ x is. (found, ap (λ (y : E). (extended p y me.0, me.1)) (maybe.some-injective e x is), new_call kept.log kept.own p n kept.of_clients.calls is_log s.views kept.of_clients.each here is_length)),
+          (λ x is.
+              let new : IsNewCall p (length (at me.0.known p)) me.0 = new_call kept.log kept.own p n kept.of_clients.calls is_log s.views kept.of_clients.each here is_length in
+              subst (λ (q : ℕ). (get_or s.words (word_of p) 0 ≡ n) × ◌≡◌ {A = Me E (View E K)} (extended p e me.0, me.1) (extended q x me.0, me.1) × IsNewCall q (length (at me.0.known q)) me.0) (sym (place_of_word p))
+              (found, ap (λ (y : E). (extended p y me.0, me.1)) (maybe.some-injective e x is), new)),
         )
       where
         new_call : (log : List (List E)) (own : List (List (ℕ × ℕ))) (q n : ℕ) → ((c q i : ℕ) → calls_at q i (at own c) ≡ made_by client_of c (slice_get (at log q) i)) → n ≡ length (at log q) → (views : List (View E K))
@@ -154,7 +160,7 @@ seat_enters {E} {K} client_of places clients key slots i ps cs s kept _ _ =
     )
 
 -- the table at its beginning
-pub begins_kept : {E K : Type 0} (client_of : E → ℕ) (places clients : List ℕ) (key : K) (words : List ℕ) → length words ≡ 8 → ((p : ℕ) → get_or words p 0 ≡ 0) → ((p : ℕ) → 0 < times p places → p < 8) → ((p : ℕ) → times p places ≤ 1) → ((c : ℕ) → times c clients ≤ 1)
+pub begins_kept : {E K : Type 0} (client_of : E → ℕ) (places clients : List ℕ) (key : K) (words : List ℕ) → length words ≡ 144 → ((p : ℕ) → get_or words p 0 ≡ 0) → ((p : ℕ) → 0 < times p places → p < 8) → ((p : ℕ) → times p places ≤ 1) → ((c : ℕ) → times c clients ≤ 1)
     → IsKept client_of places clients key (opening words [] (beginner places clients key))
 begins_kept {E} client_of places clients key words count zeros inside once once_clients = record {
   log = [];

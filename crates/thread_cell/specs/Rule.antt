@@ -1,6 +1,7 @@
 -- The rule over the table, in two halves, and what each kind of step tells.
 -- The word of a place is the length of its history. A key says what the table began with; it has the places and the clients.
-use Rattle.std.specs.Prelude.{◌≡◌, ◌⊎◌, ℕ, ◌*◌, ◌<◌, ◌≤◌, ◌==◌, if◌then◌else◌, List, [], ◌∷◌, length, slice_get, slice_index, Option, Some, None}
+-- Places' words are 16 apart, so that no two of them lie in one line of a cache, and none lies in that of the first word, at which seats look.
+use Rattle.std.specs.Prelude.{◌≡◌, ◌⊎◌, ℕ, ◌+◌, ◌-◌, ◌*◌, ◌/◌, ◌<◌, ◌≤◌, ◌==◌, if◌then◌else◌, List, [], ◌∷◌, length, slice_get, slice_index, Option, Some, None}
 use mathlib.Core.Option.{some}
 use mathlib.Core.List.{IsPrefix}
 use lib.ListN.{get_elem?}
@@ -13,6 +14,13 @@ use Rattle.thread_cell.specs.Views.{numbers, nobody, noted, extended}
 -- no history has more entries
 abbrev pub most : ℕ
 most = 16384
+
+-- the word of a place, and the place of a word
+abbrev pub word_of : ℕ → ℕ
+word_of p = 16 * p + 16
+
+abbrev pub place_at : ℕ → ℕ
+place_at word = word / 16 - 1
 
 module _ {E K : Type 0} where
   abbrev pub stands : ℕ → View E K → ℕ
@@ -38,8 +46,8 @@ module _ {E K : Type 0} where
 
   -- The words are the lengths of the histories. Each place has exactly one view that stands for it
   pub record KeepsPlaces (places : List ℕ) (key : K) (log : List (List E)) (words : List ℕ) (views : List (View E K)) : Type 0 where
-    pub count : length words ≡ 8
-    pub lengths : (p : ℕ) → p < 8 → slice_index words p ≡ length (at log p)
+    pub count : length words ≡ 144
+    pub lengths : (p : ℕ) → p < 8 → slice_index words (word_of p) ≡ length (at log p)
     pub bound : (p : ℕ) → length (at log p) ≤ most
     pub inside : (p : ℕ) → 0 < times p places → p < 8
     pub once : (p : ℕ) → times p places ≤ 1
@@ -97,7 +105,7 @@ module _ {E K : Type 0} where
 
   -- the step announces the entry
   abbrev pub extends : Step E → Me E (View E K) → ℕ → Me E (View E K) → Type 0
-  extends st m found n = (e : E) → st.said ≡ some e → (found ≡ st.first) × (n ≡ (extended st.word e m.0, m.1)) × IsNewCall st.word (length (at m.0.known st.word)) m.0
+  extends st m found n = (e : E) → st.said ≡ some e → (found ≡ st.first) × (n ≡ (extended (place_at st.word) e m.0, m.1)) × IsNewCall (place_at st.word) (length (at m.0.known (place_at st.word))) m.0
 
   -- a new seat has seen nothing and stands for nothing
   abbrev pub arrives : Step E → Me E (View E K) → ℕ → Me E (View E K) → Type 0

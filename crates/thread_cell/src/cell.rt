@@ -2,6 +2,7 @@ ghost use Rattle.std.specs.Prelude.{◌≡◌, ◌<◌, IsTrue, vec_len, vec_cap
 
 use crate::name::Name;
 use crate::note::Note;
+use crate::reading::Steps;
 use crate::receipt::Receipt;
 use crate::rule::Place;
 use crate::session::Session;
@@ -9,14 +10,12 @@ use crate::spot::Spot;
 use crate::table::CellTable;
 use std::alloc::Global;
 use std::marker::{Model, PhantomData};
+use std::sync::ledger::Ledger;
 use thread_machine::entry::Entry;
 use thread_machine::machine::Machine;
 
 /// The greatest number of entries of a history.
 pub const MOST: usize = 16384;
-
-/// The greatest number of calls of a session: a whole history at each of eight places.
-const MOST_CALLS: usize = 131072;
 
 /// Why a call was not made.
 #[derive(Drop)]
@@ -115,11 +114,13 @@ impl<M: Machine, N: Name, P: Spot> Cell<M, N, P> {
         self.history.len()
     }
 
-    /// The entry at an index of the history.
-    pub fn entry(&self, index: usize) -> &Entry<M>
+    /// The entry at an index of the history. That is a step.
+    pub fn entry<L: Ledger>(&self, index: usize, steps: &mut Steps<L>) -> &Entry<M>
         requires { index < length (at self.now.seen.known P.PLACE) }
-        ensures { slice_get (at self.now.seen.known P.PLACE) index ≡ Some result.now }
+        ensures entry { slice_get (at self.now.seen.known P.PLACE) index ≡ Some result.now }
+        ensures steps { steps.new ≡ steps.old + 1 }
     {
+        steps.tick();
         &self.history[index]
     }
 
@@ -219,9 +220,6 @@ impl<M: Machine, N: Name, P: Spot> Cell<M, N, P> {
     /// Makes a step for a session's client, and adds its entry to the history. Cell and session have then seen what
     /// either had seen, and the entry, whose stamp is one more than the greater of both clocks.
     ///
-    /// The first call at a cell, and the first of a session, takes the memory of all that may come, so that no call
-    /// moves what is there: each costs the same, at any length of the history.
-    ///
     /// # Errors
     ///
     /// The history is full, the machine made no step, or there was no memory. Then nothing was added, and the input is
@@ -273,13 +271,12 @@ impl<M: Machine, N: Name, P: Spot> Cell<M, N, P> {
     }
 }
 
-// Takes the memory of a whole history and of all calls of a session, and tells whether it was there.
+// Takes the memory of an entry more and of a call more, where there is none, and tells whether it was there. It is taken in
+// pieces that grow.
 fn make_room<E>(history: &mut Vec<E>, calls: &mut Vec<(usize, usize)>) -> bool
-    requires { vec_len history.old < MOST }
     ensures history { history.new.items ≡ history.old.items }
     ensures calls { calls.new.items ≡ calls.old.items }
     ensures room { IsTrue result → (vec_len history.new < vec_capacity history.new) × (vec_len calls.new < vec_capacity calls.new) }
 {
-    let more = MOST_CALLS.saturating_sub(calls.len()).max(1);
-    history.reserve(MOST - history.len()).is_ok() && calls.reserve(more).is_ok()
+    history.reserve(1).is_ok() && calls.reserve(1).is_ok()
 }

@@ -25,7 +25,8 @@
 //!   has then seen the longer history at each place, and keeps its own history, machine and calls
 //!   (`Cell::note`, `Session::note`, `Cell::meet`, `Session::meet`).
 //! - `entry`, `length` and `machine` read the cell; `into_machine` gives up its place (these
-//!   calls).
+//!   calls). On a lent cell a history is read by `entry` alone, and each read is counted
+//!   (`Cell::entry`, clause `steps`).
 //! - Closing takes all cells and all sessions of the table. Each machine is a replay of its place's
 //!   history; each session's calls are, each once, the entries with its client's number; all
 //!   together they are all entries, each once; what any session or cell had seen are beginnings of
@@ -42,6 +43,7 @@ pub mod histories;
 pub mod name;
 pub mod note;
 pub mod opening;
+pub mod reading;
 pub mod receipt;
 pub mod rule;
 pub mod session;

@@ -17,6 +17,10 @@ use std::marker::{Model, PhantomData};
 use thread_machine::entry::Entry;
 use thread_machine::machine::Machine;
 
+/// How many words a table has: one at which seats look, and behind it one for each place, each 16 words from the last, so that
+/// threads that change the words of different places share no line of a cache.
+pub(crate) const WORDS: usize = 144;
+
 /// The table at which cells and sessions have their seats. Contracts see what it began with.
 #[derive(Drop)]
 pub struct CellTable<M: Machine, N: Name> {
@@ -32,14 +36,14 @@ impl<M: Machine, N: Name> Model for CellTable<M, N> {
 
     ghost view = { λ t. t.table.shared.key };
 
-    ghost invariant = { λ t. (t.table.shared.table_id ≡ N.table) × (t.table.shared.table_id.words ≡ 8) × (t.table.shared.table_id.slots ≡ 0) };
+    ghost invariant = { λ t. (t.table.shared.table_id ≡ N.table) × (t.table.shared.table_id.words ≡ 144) × (t.table.shared.table_id.slots ≡ 0) };
 }
 
 impl<M: Machine, N: Name> CellTable<M, N> {
     pub(crate) fn new(
         table: Table<Entry<M>, Known<M>, Opening<M>, OneOrder, Global>,
     ) -> CellTable<M, N>
-        requires { (table.shared.table_id ≡ N.table) × (table.shared.table_id.words ≡ 8) × (table.shared.table_id.slots ≡ 0) }
+        requires { (table.shared.table_id ≡ N.table) × (table.shared.table_id.words ≡ 144) × (table.shared.table_id.slots ≡ 0) }
         ensures { result ≡ table.shared.key }
     {
         CellTable {
@@ -102,9 +106,10 @@ impl<M: Machine, N: Name> CellTable<M, N> {
         ensures seat { (seat.new.table_id ≡ N.table) × (seat.new.me ≡ (extended place entry.now seat.old.me.0, seat.old.me.1)) }
         ensures is_new { IsNewCall place (length (at seat.old.me.0.known place)) seat.old.me.0 }
     {
+        let word = 16 * place + 16;
         self.table
             .shared
-            .compare_exchange_with::<Extend>(seat, place, count, count + 1, entry);
+            .compare_exchange_with::<Extend>(seat, word, count, count + 1, entry);
     }
 
     // An entry more at the place of one seat, made for the client of the other. Both then know what either knew, and the entry.

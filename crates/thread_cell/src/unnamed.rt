@@ -5,7 +5,7 @@ use crate::opening::Opening;
 use crate::rule::{Known, OneOrder, Place};
 use crate::session::Session;
 use crate::spot::{Spot0, Spot1, Spot2, Spot3, Spot4, Spot5, Spot6, Spot7};
-use crate::table::CellTable;
+use crate::table::{CellTable, WORDS};
 use atomic_table::Table;
 use std::alloc::{AllocError, Global};
 use std::marker::Model;
@@ -34,7 +34,7 @@ impl<M: Machine> Model for Unnamed<M> {
 
     ghost view = { λ u. record { table = u.table.shared.table_id; opening = u.opening } };
 
-    ghost invariant = { λ u. (u.table.shared.key ≡ u.opening) × (u.table.shared.table_id.words ≡ 8) × (u.table.shared.table_id.slots ≡ 0) × (u.seat.table_id ≡ u.table.shared.table_id) × (u.seat.me ≡ (beginner (places_of u.opening) (clients_of u.opening) u.opening, [])) × (u.sessions.items ≡ []) × (u.opening.clients ≤ vec_capacity u.sessions) };
+    ghost invariant = { λ u. (u.table.shared.key ≡ u.opening) × (u.table.shared.table_id.words ≡ 144) × (u.table.shared.table_id.slots ≡ 0) × (u.seat.table_id ≡ u.table.shared.table_id) × (u.seat.me ≡ (beginner (places_of u.opening) (clients_of u.opening) u.opening, [])) × (u.sessions.items ≡ []) × (u.opening.clients ≤ vec_capacity u.sessions) };
 }
 
 /// A table with its cells: one for each place that has a machine.
@@ -78,7 +78,7 @@ impl<M: Machine> Unnamed<M> {
         if let Err(error) = sessions.reserve(clients as usize) {
             return Err((opening.machines, error));
         }
-        match Table::of_words(alloc, &[0; 8], &opening) {
+        match Table::of_words(alloc, &[0; WORDS], &opening) {
             Ok((table, seat)) => Ok(Unnamed {
                 alloc,
                 opening,

@@ -67,9 +67,9 @@ module _ {T K Kind Delta : Type 0} {data_of : Data T Kind Op Delta} {keeping : K
         subst (IsBack table one) same (record { table_is = all_get (λ (s : Session data_of keeping). s.seen.table ≡ table) sessions k one tables is; goes_on = goes_on_self one });
   }
 
-  pub table_at : (jobs : List (Job T K Kind Delta data_of keeping)) (i : ℕ) (x : Job T K Kind Delta data_of keeping) → All (λ (j : Job T K Kind Delta data_of keeping). j.session.seen.table ≡ table) jobs → i < length jobs → x ≡ get_or jobs i x
-      → x.session.seen.table ≡ table
-  table_at jobs i x tables lt is = subst (λ (j : Job T K Kind Delta data_of keeping). j.session.seen.table ≡ table) (sym is) (tables i x lt)
+  pub table_of : (jobs : List (Job T K Kind Delta data_of keeping)) (k : ℕ) (job : Job T K Kind Delta data_of keeping) → All (λ (j : Job T K Kind Delta data_of keeping). j.session.seen.table ≡ table) jobs → slice_get jobs k ≡ Some job
+      → (job.session.seen.table ≡ table) × (k < length jobs)
+  table_of jobs k job tables is = (all_get (λ (j : Job T K Kind Delta data_of keeping). j.session.seen.table ≡ table) jobs k job tables is, slice_get_within jobs k job is)
 
   -- new jobs are of the table
   pub jobs_tables : (sessions : List (Session data_of keeping)) (jobs : List (Job T K Kind Delta data_of keeping)) → All (λ (s : Session data_of keeping). s.seen.table ≡ table) sessions → jobs ≡ map job_of sessions
@@ -115,23 +115,6 @@ module _ {T K Kind Delta : Type 0} {data_of : Data T Kind Op Delta} {keeping : K
       one : (k : ℕ) (session other : Session data_of keeping) → slice_get sessions k ≡ Some session → ((job : Job T K Kind Delta data_of keeping) × (slice_get jobs k ≡ Some job) × (session_of job ≡ other)) → IsBack table session other
       one k session other begun (job, is, same) =
           subst (IsBack table session) same (have.each k (job_of session) job (get_mapped job_of sessions k session begun) is).back
-
-  -- each by its number
-  pub have_played : (old new : List (Job T K Kind Delta data_of keeping)) → length new ≡ length old
-      → ((i : ℕ) (d : Job T K Kind Delta data_of keeping) → i < length old → HasPlayed meaning ids views table clients i (get_or old i d) (get_or new i d)) → HavePlayed meaning ids views table clients old new
-  have_played old new count each = record {
-    count = count;
-    each = λ k one other is there.
-        let did = each k one (slice_get_within old k one is) in
-        subst (λ (y : Job T K Kind Delta data_of keeping). HasPlayed meaning ids views table clients k one y) (get_or_from_slice_get new k other one there)
-        (subst (λ (x : Job T K Kind Delta data_of keeping). HasPlayed meaning ids views table clients k x (get_or new k one)) (get_or_from_slice_get old k one one is) did);
-  }
-
-  -- of a call that was made there with an equal job, and left an equal one
-  pub changed : (i : ℕ) (x y a b made : Job T K Kind Delta data_of keeping) → a ≡ x → b ≡ y → b ≡ made → HasPlayed meaning ids views table clients i a made → HasPlayed meaning ids views table clients i x y
-  changed i x y a b made first last same did =
-      subst (λ (z : Job T K Kind Delta data_of keeping). HasPlayed meaning ids views table clients i x z) (sym same ∙ last)
-      (subst (λ (z : Job T K Kind Delta data_of keeping). HasPlayed meaning ids views table clients i z made) first did)
 
   pub run_done : (sessions : List (Session data_of keeping)) (jobs after later shown : List (Job T K Kind Delta data_of keeping)) (played : List (Played T K Kind Delta data_of keeping)) → jobs ≡ map job_of sessions → HavePlayed meaning ids views table clients jobs after
       → All (λ (j : Job T K Kind Delta data_of keeping). j.complete ≡ true) shown → later ≡ after → shown ≡ later → played ≡ map played_of later → AreAllPlayed meaning ids views table clients sessions played

@@ -2,7 +2,7 @@
 --     IsBack, AreBack        sessions that go on
 --     HasPlayed, HavePlayed        what a client did, and each of them
 --     AreAllPlayed        what clients did that made all of their commands
-use Rattle.std.specs.Prelude.{◌≡◌, ℕ, List, [], length, true, false, Option, Some, slice_get}
+use Rattle.std.specs.Prelude.{◌≡◌, ℕ, List, [], length, replicate, true, false, Option, Some, slice_get}
 use Rattle.atomic_table.specs.Seated.{TableId}
 use Rattle.model_kinds.specs.declared.operation.Op.{Op}
 use Rattle.data_lattice.specs.declared.replica.Replica.{Ghosts as Data}
@@ -19,7 +19,7 @@ use Rattle.thread_clients.specs.Paths.{IsPath}
 module _ {T K Kind Delta : Type 0} {data_of : Data T Kind Op Delta} {keeping : Keeping K} where
   -- a session with no line yet
   abbrev pub job_of : Session data_of keeping → Job T K Kind Delta data_of keeping
-  job_of session = record { session = session; lines = []; complete = false }
+  job_of session = record { session = session; lines = []; complete = false; apart = replicate 16 0 }
 
   abbrev pub played_of : Job T K Kind Delta data_of keeping → Played T K Kind Delta data_of keeping
   played_of job = record { session = job.session; lines = job.lines }

@@ -5,6 +5,7 @@ ghost use Rattle.thread_clients.specs.Playing.{HasPlayed, HavePlayed, AreAllPlay
 use crate::client::Lines;
 use crate::desk::Desk;
 use crate::gate::Gate;
+use crate::working::{Works, work_beside};
 use base_bytes::{Items, Memory};
 use data_lattice::SpelledData;
 use member_keeper::Keeper;
@@ -13,10 +14,12 @@ use model_kinds::Op;
 use script_reading::Client;
 use std::alloc::Global;
 use std::sync::Wait;
-use std::thread::{Threads, for_each_mut};
+use std::thread::Threads;
 use thread_cell::session::Session;
 use thread_cluster::Cluster;
+use thread_cluster::member::Member;
 use thread_cluster::section::Section;
+use thread_cluster::site::Apart;
 use thread_machine::machine::Machine;
 
 /// What a client did: its session, and one line for each command.
@@ -32,14 +35,12 @@ pub(crate) struct Job<T: SpelledData<Op = Op>, K: Keeper + Drop> {
     pub(crate) session: Session<Node<T, K>>,
     pub(crate) lines: Lines,
     pub(crate) complete: bool,
+    pub(crate) apart: Apart,
 }
 
 /// Runs the client of a number.
-fn play<T: SpelledData<Op = Op>, K: Keeper + Drop, N: Section, G: Gate>(
-    rt: &impl Wait,
-    alloc: Global,
-    gate: &G,
-    cluster: &Cluster<Node<T, K>, N>,
+fn play<T: SpelledData<Op = Op>, K: Keeper + Drop, N: Section, R: Wait, G: Gate>(
+    desk: &Desk<Node<T, K>, N, R, G>,
     clients: &[Client],
     number: usize,
     job: &mut Job<T, K>,
@@ -47,16 +48,10 @@ fn play<T: SpelledData<Op = Op>, K: Keeper + Drop, N: Section, G: Gate>(
     requires table { job.old.session.seen.table ≡ N.table }
     requires client { number < length clients.now }
     requires few { length clients.now ≤ 8 }
-    ensures { HasPlayed ⟦<Node<T, K> as Machine>⟧ N.ids cluster.now.views N.table clients.now number job.old job.new }
+    ensures { HasPlayed ⟦<Node<T, K> as Machine>⟧ N.ids desk.now.cluster.now.views N.table clients.now number job.old job.new }
 {
     let client = &clients[number];
     let session = &mut job.session;
-    let desk = Desk {
-        rt,
-        alloc,
-        gate,
-        cluster,
-    };
     match desk.run_client(session, number as u32, client) {
         Ok(lines) => {
             job.lines = lines;
@@ -68,13 +63,32 @@ fn play<T: SpelledData<Op = Op>, K: Keeper + Drop, N: Section, G: Gate>(
     }
 }
 
+/// Clients with what their calls need.
+#[derive(Drop)]
+struct Clients<'a, M: Member, N: Section, R: Wait, G: Gate> {
+    desk: Desk<'a, M, N, R, G>,
+    clients: &'a [Client],
+}
+
+impl<'a, T: SpelledData<Op = Op>, K: Keeper + Drop, N: Section, R: Wait, G: Gate> Works<Job<T, K>>
+    for Clients<'a, Node<T, K>, N, R, G> {
+    ghost MayWork = { λ all number job. (job.session.seen.table ≡ N.table) × (number < length all.clients.now) × (length all.clients.now ≤ 8) };
+
+    ghost HasWorked = { λ all number old new. HasPlayed ⟦<Node<T, K> as Machine>⟧ N.ids all.desk.cluster.now.views N.table all.clients.now number old new };
+
+    /// Runs the client of a number.
+    fn work(&self, number: usize, job: &mut Job<T, K>) {
+        play(&self.desk, self.clients, number, job);
+    }
+}
+
 /// Runs each client beside the others.
 fn play_all<
     T: SpelledData<Op = Op> + Send,
     K: Keeper + Drop + Send,
     N: Section + Send + Sync,
     R: Threads + Wait + Sync,
-    G: Gate,
+    G: Gate + Sync,
 >(
     rt: &R,
     alloc: Global,
@@ -91,15 +105,13 @@ where
     requires tables { All (λ job. job.session.seen.table ≡ N.table) jobs.old }
     ensures { HavePlayed ⟦<Node<T, K> as Machine>⟧ N.ids cluster.now.views N.table clients.now jobs.old jobs.new }
 {
-    let threads = jobs.len().max(1);
-    for_each_mut(
+    let desk = Desk {
         rt,
-        jobs,
-        threads,
-        &|number: usize, job: &mut Job<T, K>|
-            requires { (job.now.session.seen.table ≡ N.table) × (number < length clients.now) × (length clients.now ≤ 8) }
-        { play(rt, alloc, gate, cluster, clients, number, job) },
-    );
+        alloc,
+        gate,
+        cluster,
+    };
+    work_beside(rt, &Clients { desk, clients }, jobs);
 }
 
 /// Whether all of the clients made all of their commands.
@@ -130,6 +142,7 @@ fn jobs_of<T: SpelledData<Op = Op>, K: Keeper + Drop>(
             session,
             lines: Items::new(alloc),
             complete: false,
+            apart: [0; 16],
         });
     }
     jobs
@@ -179,7 +192,7 @@ pub fn run_clients<
     K: Keeper + Drop + Send,
     N: Section + Send + Sync,
     R: Threads + Wait + Sync,
-    G: Gate,
+    G: Gate + Sync,
 >(
     rt: &R,
     alloc: Global,

@@ -1,6 +1,6 @@
 /// Is told when a client calls a member for a command, and when the call came back. It may hold the client meanwhile. Clients
 /// are told by their numbers, and so are the commands of each, from 0 on.
-pub trait Gate: Sync {
+pub trait Gate {
     /// The client is about to call.
     fn before(&self, client: u32, call: u32);
 

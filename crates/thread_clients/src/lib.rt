@@ -19,6 +19,7 @@ mod ending;
 mod gate;
 mod telling;
 mod turning;
+mod working;
 
 pub use clients::{Played, run_clients};
 pub use gate::{Gate, OpenGate};

@@ -30,6 +30,13 @@ module _ {T Kind Op Delta : Type 0} {ghosts : Ghosts T Kind Op Delta} where
       ap (λ (k : ℕ). messages_to id (take k posts)) (add-one i)
       ∙ (ap (messages_to id) (take_snoc posts i post (get_item posts i post lt is)) ∙ messages_to-append id (take i posts) (post ∷ []))
 
+  pub count_more : (id count next : ℕ) (posts : List (Post T Kind Op Delta ghosts)) (i : ℕ) (post : Post T Kind Op Delta ghosts) → i < length posts → post ≡ get_or posts i post
+      → count ≡ length (messages_to id (take i posts)) → next ≡ count + length (messages_to id (post ∷ [])) → next ≡ length (messages_to id (take (i + 1) posts))
+  count_more id count next posts i post lt is so_far step =
+      let grown : length (messages_to id (take (i + 1) posts)) ≡ length (messages_to id (take i posts)) + length (messages_to id (post ∷ [])) =
+      ap length (one_more id posts i post lt is) ∙ length-append (messages_to id (take i posts)) (messages_to id (post ∷ [])) in
+      omega arith
+
   pub left_more : (id skip left next : ℕ) (posts : List (Post T Kind Op Delta ghosts)) (i : ℕ) (post : Post T Kind Op Delta ghosts) → i < length posts → post ≡ get_or posts i post
       → left ≡ skip - length (messages_to id (take i posts)) → next ≡ left - length (messages_to id (post ∷ [])) → next ≡ skip - length (messages_to id (take (i + 1) posts))
   left_more id skip left next posts i post lt is so_far step =

@@ -1,6 +1,9 @@
 pub mod Lists
 pub mod Posts
+pub mod Books
+pub mod Postings
 pub mod Growing
+pub mod Unheard
 pub mod Stepping
 pub mod Telling
 pub mod Copying

@@ -1,6 +1,6 @@
 -- Lists, and results.
-use Rattle.std.proofs.Common.{◌≡◌, ℕ, zero, suc, ◌+◌, ◌-◌, ◌<◌, ◌≤◌, List, [], ◌∷◌, ◌++◌, length, take, drop, Some, None, slice_get, refl, ap, sym, ◌∙◌, subst, arith}
-use Rattle.std.specs.Prelude.{Result, Ok, Err, IfOk, OnOk, IfErr, OnErr}
+use Rattle.std.proofs.Common.{◌≡◌, ℕ, zero, suc, ◌+◌, ◌-◌, ◌<◌, ◌≤◌, List, [], ◌∷◌, ◌++◌, length, take, drop, Option, Some, None, slice_get, refl, ap, sym, ◌∙◌, subst, arith}
+use Rattle.std.specs.Prelude.{IfSome, IfNone, Result, Ok, Err, IfOk, OnOk, IfErr, OnErr}
 use mathlib.Core.List.{IsPrefix}
 
 module _ {A : Type 0} where
@@ -89,6 +89,15 @@ module _ {A : Type 0} where
       simple [] = refl
       simple (z ∷ zs) = ap (λ w. z ∷ w) (simple zs)
   no_more xs (y ∷ ys) e = absurd (omega arith)
+
+module _ {A : Type 0} where
+  pub if_some : (o : Option A) (P Q : A → Type 0) → ((x : A) → P x → Q x) → IfSome o P → IfSome o Q
+  if_some None P Q f h = tt
+  if_some (Some x) P Q f h = f x h
+
+  pub if_none : (o : Option A) (P Q : Type 0) → (P → Q) → IfNone o P → IfNone o Q
+  if_none None P Q f h = f h
+  if_none (Some x) P Q f h = tt
 
 module _ {A B : Type 0} where
   pub if_ok : (r : Result A B) (P Q : A → Type 0) → ((x : A) → P x → Q x) → IfOk r P → IfOk r Q

@@ -203,6 +203,12 @@ module _ {M I F O R X : Type 0} (posted : ℕ → O → List X) (taken : ℕ →
             subst (AreHeard (posts posted (ids p) (at new from))) (sym grown)
             (heard_next (posts posted (ids p) (at new from)) (takes taken (ids from) (at old p)) next.post t (still_heard p from old new more h) there (record { message = sym next.message_is; stamp = before }))
 
+    -- where nothing was taken
+    pub hears_none : (p : ℕ) (known : List (List (Entry M I F O R))) → at known p ≡ [] → Hears posted taken ids p known
+    hears_none p known none = record {
+      from = λ q. subst (λ (h : List (Entry M I F O R)). AreHeard (posts posted (ids p) (at known q)) (takes taken (ids q) h)) (sym none) (record { each = λ k take e. absurd cc });
+    }
+
     -- the first of the copies is of the next post
     pub next_copy : (q : ℕ) (m : X) (more : List X) (p : ℕ) (known : List (List (Entry M I F O R))) → AreCopies (length (takes taken (ids q) (at known p))) (m ∷ more) (posts posted (ids p) (at known q)) → IsNext posted taken ids q m p known
     next_copy q m more p known are =

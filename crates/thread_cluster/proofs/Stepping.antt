@@ -146,11 +146,11 @@ has_met {M = M} {I = I} {F = F} {O = O} {R = R} p table c one two s first last n
 
 module _ {M I F O R : Type 0} (meaning : Ghosts M I F O R) (p : ℕ) (input : I) (c c' : CellParts M I F O R) (s s' : ClientParts M I F O R) where
   -- why a step was refused, in what the session knows
-  pub is_cause : {A : Type 0} (Y : Type 0) (r : Result A (CellError R)) → ((r ≡ Err CellFull) ↔ (length (at c.seen.known p) ≡ 16384))
+  pub is_cause : {A : Type 0} (Y : Type 0) (r : Result A (CellError R)) → (r ≡ Err CellFull → length (at c.seen.known p) ≡ 16384)
       → ((refusal : R) → r ≡ Err (Refused refusal) → meaning.MayRefuse c.machine input refusal × meaning.IsUnchanged c.machine c'.machine)
       → OnErr r (Y × (s' ≡ s)) → AreAlike c s → Began meaning p c.seen.began (at c.seen.known p) c.machine → IfErr r (IsCause meaning p input s')
   is_cause Y (Ok x) full refused err alike began = tt
-  is_cause Y (Err CellFull) full refused err alike began = record { full = ap (λ (w : ClientParts M I F O R). length (at w.seen.known p)) err.1 ∙ (ap length (alike.same.same p) ∙ full.0 refl) }
+  is_cause Y (Err CellFull) full refused err alike began = record { full = ap (λ (w : ClientParts M I F O R). length (at w.seen.known p)) err.1 ∙ (ap length (alike.same.same p) ∙ full refl) }
   is_cause Y (Err (Refused refusal)) full refused err alike began =
       let same : at s'.seen.known p ≡ at c.seen.known p = ap (λ (w : ClientParts M I F O R). at w.seen.known p) err.1 ∙ alike.same.same p in record {
         start = began.start;

@@ -2,6 +2,7 @@
 --     KnowsMore, KnowsSame, GoesOn, Sees        it knows all that it knew; what a call leaves that adds nothing
 --     IsTake, GrewByTakes, Turns        its calls grew by takes
 --     StartsAt        what the member of a place began as
+--     Known        what is known, by place
 --     IsAnswered        a call's entry, with its answer in the replay
 --     IsRefusedAt, IsCause        why a call made no step
 --     IsShown        a look's answer in the replay
@@ -19,6 +20,10 @@ use Rattle.thread_cell.specs.declared.cell.CellError.TheVariants.{CellFull, Refu
 use Rattle.thread_cell.specs.Lists.{at}
 use Rattle.thread_cell.specs.Rule.{calls_at}
 use Rattle.thread_cell.specs.Values.{ClientParts}
+
+-- what is known, by place
+abbrev pub Known : Type 0 → Type 0 → Type 0 → Type 0 → Type 0 → Type 0
+Known M I F O R = List (List (Entry M I F O R))
 
 -- no place has the identity
 pub record IsNowhere (ids : ℕ → Option ℕ) (id : ℕ) : Type 0 where

@@ -1,5 +1,6 @@
 pub mod Passing
 pub mod Knowing
+pub mod Books
 pub mod Meeting
 pub mod Turning
 pub mod Places

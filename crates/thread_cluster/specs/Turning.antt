@@ -2,7 +2,7 @@
 --     HasHeard        so many of a member's posts are taken
 --     HasBegun        a turn that was cut off
 --     IsOneFull, IsOneRefused, IsCauseSomewhere        why it was
---     IsHeard, HasTurned, HasTurnedTo, HasTold, HaveTold, HasTurnedAll        from one place to another, from one to the first places, from all to all
+--     IsHeard, IsAllTaken, HasTurned, HasTurnedTo, HasTold, HaveTold, HasTurnedAll        from one place to another, from one to the first places, from all to all
 use Rattle.std.specs.Prelude.{◌≡◌, ◌≢◌, ℕ, ◌<◌, ◌≤◌, List, length, Option, Some}
 use Rattle.thread_machine.specs.declared.machine.Machine.{Ghosts}
 use Rattle.thread_machine.specs.declared.entry.Entry.{Entry}
@@ -11,7 +11,7 @@ use Rattle.thread_cell.specs.declared.cell.CellError.TheVariants.{CellFull, Refu
 use Rattle.thread_cell.specs.Lists.{at}
 use Rattle.thread_cell.specs.Values.{ClientParts}
 use Rattle.thread_cluster.specs.Passing.{posts, takes, AreHeard, AreAllHeard}
-use Rattle.thread_cluster.specs.Knowing.{IsFull, Turns, IsRefusedAt}
+use Rattle.thread_cluster.specs.Knowing.{Known, IsFull, Turns, IsRefusedAt}
 
 module _ {M I F O R X : Type 0} (taken : ℕ → I → List X) where
   -- a turn that was cut off: the session's calls grew by takes alone
@@ -39,20 +39,24 @@ module _ {M I F O R X : Type 0} (taken : ℕ → I → List X) where
       pub turned : Turns taken ids n old new
       pub heard : IsHeard p q old new
 
-    -- from one place to another one, where both have members
-    pub record HasTurnedTo (p q n : ℕ) (old new : ClientParts M I F O R) : Type 0 where
+    -- what was known first that the member at p posted to the one at q is taken there, in what is known now
+    pub record IsAllTaken (p q : ℕ) (first now : Known M I F O R) : Type 0 where
+      pub all : AreAllHeard (posts posted (ids q) (at first p)) (takes taken (ids p) (at now q))
+
+    -- from one place to another one, where both have members, of what was known first
+    pub record HasTurnedTo (p q n : ℕ) (first : Known M I F O R) (old new : ClientParts M I F O R) : Type 0 where
       pub turned : Turns taken ids n old new
-      pub heard : (i j : ℕ) → p ≢ q → ids p ≡ Some i → ids q ≡ Some j → IsHeard p q old new
+      pub heard : (i j : ℕ) → p ≢ q → ids p ≡ Some i → ids q ≡ Some j → IsAllTaken p q first new.seen.known
 
     -- from one place to those below a number
-    pub record HasTold (p below n : ℕ) (old new : ClientParts M I F O R) : Type 0 where
+    pub record HasTold (p below n : ℕ) (first : Known M I F O R) (old new : ClientParts M I F O R) : Type 0 where
       pub turned : Turns taken ids n old new
-      pub heard : (q i j : ℕ) → q < below → p ≢ q → ids p ≡ Some i → ids q ≡ Some j → IsHeard p q old new
+      pub heard : (q i j : ℕ) → q < below → p ≢ q → ids p ≡ Some i → ids q ≡ Some j → IsAllTaken p q first new.seen.known
 
     -- from those below a number to all
-    pub record HaveTold (below n : ℕ) (old new : ClientParts M I F O R) : Type 0 where
+    pub record HaveTold (below n : ℕ) (first : Known M I F O R) (old new : ClientParts M I F O R) : Type 0 where
       pub turned : Turns taken ids n old new
-      pub heard : (p q i j : ℕ) → p < below → p ≢ q → ids p ≡ Some i → ids q ≡ Some j → IsHeard p q old new
+      pub heard : (p q i j : ℕ) → p < below → p ≢ q → ids p ≡ Some i → ids q ≡ Some j → IsAllTaken p q first new.seen.known
 
     -- A TURN: the session's calls grew by so many takes, and each message that it knew of one member to another is taken in what it knows now
     pub record HasTurnedAll (n : ℕ) (old new : ClientParts M I F O R) : Type 0 where

@@ -1,10 +1,12 @@
-ghost use Rattle.std.specs.Prelude.{◌≡◌, ℕ, ◌≤◌, ◌+◌, [], length, drop, IfOk, IfErr, OnErr};
+ghost use Rattle.std.specs.Prelude.{◌≡◌, ℕ, ◌≤◌, ◌+◌, ◌-◌, [], length, drop, IfOk, IfErr, OnErr};
 ghost use Rattle.thread_cell.specs.Lists.{at};
 ghost use Rattle.thread_cluster.specs.Passing.{posts, takes, messages, AreApart, AreCopies};
 ghost use Rattle.thread_cluster.specs.Knowing.{Sees, IsAnswered, IsCause, IsShown};
 ghost use Rattle.thread_cluster.specs.Turning.{HasTaken, HasBegun, IsCauseSomewhere};
 ghost use Rattle.thread_cluster.specs.Sites.{place_of};
+ghost use Rattle.thread_cluster.specs.Books.{IsCounted};
 
+use crate::book::Counts;
 use crate::member::Member;
 use crate::peer::Peer;
 use crate::section::Section;
@@ -13,7 +15,9 @@ use base_bytes::Memory;
 use std::alloc::Global;
 use std::collections::VecDeque;
 use std::sync::Wait;
+use std::sync::ledger::Ledger;
 use thread_cell::cell::CellError;
+use thread_cell::reading::Steps;
 use thread_cell::receipt::Receipt;
 use thread_cell::session::Session;
 use thread_cell::spot::{Spot0, Spot1, Spot2, Spot3, Spot4, Spot5, Spot6, Spot7};
@@ -109,37 +113,36 @@ impl<'a, M: Member, N: Section> AnySite<'a, M, N> {
         }
     }
 
-    /// How many messages of a member this one took.
-    pub(crate) fn count_takes(
+    /// How many messages this member posted to each other one, and heard of it.
+    pub(crate) fn counts(
         &self,
         rt: &impl Wait,
         table: &CellTable<M, N>,
         session: &mut Session<M>,
-        from: &Peer<N>,
-    ) -> usize
+    ) -> Counts
         requires { session.old.seen.table ≡ N.table }
         ensures table { session.new.seen.table ≡ N.table }
         ensures sees { Sees session.old session.new }
-        ensures count { result ≡ length (takes M.taken (N.ids from.now.place) (at session.new.seen.known (place_of self.now))) }
+        ensures counted { IsCounted M.posted M.taken N.ids (place_of self.now) session.new.seen.known result }
     {
         match self {
-            AnySite::P0(site) => site.lock.lock(rt).count_takes(table, session, from),
-            AnySite::P1(site) => site.lock.lock(rt).count_takes(table, session, from),
-            AnySite::P2(site) => site.lock.lock(rt).count_takes(table, session, from),
-            AnySite::P3(site) => site.lock.lock(rt).count_takes(table, session, from),
-            AnySite::P4(site) => site.lock.lock(rt).count_takes(table, session, from),
-            AnySite::P5(site) => site.lock.lock(rt).count_takes(table, session, from),
-            AnySite::P6(site) => site.lock.lock(rt).count_takes(table, session, from),
-            AnySite::P7(site) => site.lock.lock(rt).count_takes(table, session, from),
+            AnySite::P0(site) => site.lock.lock(rt).counts(table, session),
+            AnySite::P1(site) => site.lock.lock(rt).counts(table, session),
+            AnySite::P2(site) => site.lock.lock(rt).counts(table, session),
+            AnySite::P3(site) => site.lock.lock(rt).counts(table, session),
+            AnySite::P4(site) => site.lock.lock(rt).counts(table, session),
+            AnySite::P5(site) => site.lock.lock(rt).counts(table, session),
+            AnySite::P6(site) => site.lock.lock(rt).counts(table, session),
+            AnySite::P7(site) => site.lock.lock(rt).counts(table, session),
         }
     }
 
-    /// The messages that this member posted to another one, from a number on.
+    /// The messages that this member posted to another one, from a number on. A step is an entry that posted one of them.
     ///
     /// # Errors
     ///
     /// Memory was refused.
-    pub(crate) fn copy_posts(
+    pub(crate) fn copy_posts<L: Ledger>(
         &self,
         rt: &impl Wait,
         table: &CellTable<M, N>,
@@ -147,45 +150,48 @@ impl<'a, M: Member, N: Section> AnySite<'a, M, N> {
         alloc: Global,
         to: &Peer<N>,
         number: usize,
+        steps: &mut Steps<L>,
     ) -> Result<VecDeque<M::Message>, Memory>
-        requires { session.old.seen.table ≡ N.table }
+        requires table { session.old.seen.table ≡ N.table }
+        requires few { number ≤ 16384 }
         ensures table { session.new.seen.table ≡ N.table }
         ensures sees { Sees session.old session.new }
         ensures copies { IfOk result (λ copies. copies.items ≡ drop number (messages (posts M.posted (N.ids to.now.place) (at session.new.seen.known (place_of self.now))))) }
+        ensures steps { steps.new ≤ steps.old + (length (posts M.posted (N.ids to.now.place) (at session.new.seen.known (place_of self.now))) - number) }
     {
         match self {
             AnySite::P0(site) => site
                 .lock
                 .lock(rt)
-                .copy_posts(table, session, alloc, to, number),
+                .copy_posts(table, session, alloc, to, number, steps),
             AnySite::P1(site) => site
                 .lock
                 .lock(rt)
-                .copy_posts(table, session, alloc, to, number),
+                .copy_posts(table, session, alloc, to, number, steps),
             AnySite::P2(site) => site
                 .lock
                 .lock(rt)
-                .copy_posts(table, session, alloc, to, number),
+                .copy_posts(table, session, alloc, to, number, steps),
             AnySite::P3(site) => site
                 .lock
                 .lock(rt)
-                .copy_posts(table, session, alloc, to, number),
+                .copy_posts(table, session, alloc, to, number, steps),
             AnySite::P4(site) => site
                 .lock
                 .lock(rt)
-                .copy_posts(table, session, alloc, to, number),
+                .copy_posts(table, session, alloc, to, number, steps),
             AnySite::P5(site) => site
                 .lock
                 .lock(rt)
-                .copy_posts(table, session, alloc, to, number),
+                .copy_posts(table, session, alloc, to, number, steps),
             AnySite::P6(site) => site
                 .lock
                 .lock(rt)
-                .copy_posts(table, session, alloc, to, number),
+                .copy_posts(table, session, alloc, to, number, steps),
             AnySite::P7(site) => site
                 .lock
                 .lock(rt)
-                .copy_posts(table, session, alloc, to, number),
+                .copy_posts(table, session, alloc, to, number, steps),
         }
     }
 

@@ -1,4 +1,4 @@
-ghost use Rattle.std.specs.Prelude.{◌≡◌, ℕ, ◌≤◌, false, Some, is_some, IfSome, IfNone, ◌↔◌};
+ghost use Rattle.std.specs.Prelude.{◌≡◌, ℕ, ◌≤◌, true, false, Some, is_some, IfSome, IfNone, ◌↔◌};
 ghost use Rattle.thread_cluster.specs.Passing.{AreApart};
 ghost use Rattle.thread_cluster.specs.Knowing.{IsNowhere};
 ghost use Rattle.thread_cluster.specs.Sites.{place_of};
@@ -8,6 +8,16 @@ use crate::cluster::Cluster;
 use crate::member::Member;
 use crate::section::Section;
 use base_vectors::Id;
+
+/// Whether there is an identity, and it is this one.
+fn is_one(given: Option<Id>, id: Id) -> bool
+    ensures { result ≡ true ↔ (given ≡ Some id) }
+{
+    match given {
+        Some(other) => other == id,
+        None => false,
+    }
+}
 
 impl<M: Member, N: Section> Cluster<M, N> {
     /// What is always so: no identity is at two places, and none at another place than the eight.
@@ -36,19 +46,47 @@ impl<M: Member, N: Section> Cluster<M, N> {
         }
     }
 
+    /// The place of an identity, if it has one.
+    fn place(&self, id: Id) -> Option<usize>
+        ensures some { IfSome result (λ place. N.ids place ≡ Some id) }
+        ensures none { IfNone result (IsNowhere N.ids id) }
+    {
+        if is_one(self.ids.p0, id) {
+            return Some(0);
+        }
+        if is_one(self.ids.p1, id) {
+            return Some(1);
+        }
+        if is_one(self.ids.p2, id) {
+            return Some(2);
+        }
+        if is_one(self.ids.p3, id) {
+            return Some(3);
+        }
+        if is_one(self.ids.p4, id) {
+            return Some(4);
+        }
+        if is_one(self.ids.p5, id) {
+            return Some(5);
+        }
+        if is_one(self.ids.p6, id) {
+            return Some(6);
+        }
+        if is_one(self.ids.p7, id) {
+            return Some(7);
+        }
+        None
+    }
+
     /// The member of an identity, if there is one.
     pub(crate) fn find(&self, id: Id) -> Option<AnySite<'_, M, N>>
         ensures some { IfSome result (λ site. N.ids (place_of site) ≡ Some id) }
         ensures none { IfNone result (IsNowhere N.ids id) }
     {
-        for place in 0..8 {
-            if let Some(site) = self.site(place) {
-                if site.peer().id == id {
-                    return Some(site);
-                }
-            }
+        match self.place(id) {
+            Some(place) => self.site(place),
+            None => None,
         }
-        None
     }
 
     /// Whether a member has the identity.

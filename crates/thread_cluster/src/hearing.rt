@@ -1,18 +1,19 @@
-ghost use Rattle.std.specs.Prelude.{◌≡◌, ◌+◌, ◌≤◌, length, drop};
+ghost use Rattle.std.specs.Prelude.{◌≡◌, ◌+◌, ◌-◌, ◌≤◌, length, drop};
 
+use crate::book::first_posting;
 use crate::locked::Locked;
 use crate::member::Member;
 use crate::peer::Peer;
 use crate::section::Section;
 use base_bytes::Memory;
-use base_vectors::Id;
 use std::alloc::Global;
 use std::collections::VecDeque;
+use std::sync::ledger::Ledger;
 use thread_cell::cell::CellError;
+use thread_cell::reading::Steps;
 use thread_cell::session::Session;
 use thread_cell::spot::Spot;
 use thread_cell::table::CellTable;
-use thread_machine::entry::Entry;
 
 impl<M: Member, N: Section, P: Spot> Locked<M, N, P> {
     ghost use Rattle.std.specs.Prelude.{IfOk, IfErr, OnErr};
@@ -26,26 +27,33 @@ impl<M: Member, N: Section, P: Spot> Locked<M, N, P> {
     fn count(&self, from: &Peer<N>) -> usize
         ensures { result ≡ length (takes M.taken (N.ids from.now.place) (at self.now.seen.known P.PLACE)) }
     {
-        let mut count = 0;
-        for i in 0..self.cell.length() {
-            count += taken_in::<M>(self.cell.entry(i), from.id);
-        }
-        count
+        let counts = self.book.counts();
+        counts.heard[from.place]
     }
 
-    // The messages that the place posted to a member, from a number on.
-    fn copies(
+    // The messages that the place posted to a member, from a number on. A step is an entry that posted one of them.
+    fn copies<L: Ledger>(
         &self,
         alloc: Global,
         to: &Peer<N>,
         number: usize,
+        steps: &mut Steps<L>,
     ) -> Result<VecDeque<M::Message>, Memory>
-        ensures { IfOk result (λ copies. copies.items ≡ drop number (messages (posts M.posted (N.ids to.now.place) (at self.now.seen.known P.PLACE)))) }
+        requires { number ≤ 16384 }
+        ensures copies { IfOk result (λ copies. copies.items ≡ drop number (messages (posts M.posted (N.ids to.now.place) (at self.now.seen.known P.PLACE)))) }
+        ensures steps { steps.new ≤ steps.old + (length (posts M.posted (N.ids to.now.place) (at self.now.seen.known P.PLACE)) - number) }
     {
+        let page = self.book.page(to.place);
+        let postings = page.postings.as_slice();
         let mut copies = VecDeque::new(alloc);
-        let mut left = number;
-        for i in 0..self.cell.length() {
-            left = M::copy_posted(&self.cell.entry(i).output, alloc, to.id, left, &mut copies)?;
+        if page.posted <= number {
+            return Ok(copies);
+        }
+        for k in first_posting(postings, number)..postings.len() {
+            let (index, before) = postings[k];
+            let skip = number.saturating_sub(before);
+            let entry = self.cell.entry(index, steps);
+            M::copy_posted(&entry.output, alloc, to.id, skip, &mut copies)?;
         }
         Ok(copies)
     }
@@ -77,43 +85,30 @@ impl<M: Member, N: Section, P: Spot> Locked<M, N, P> {
         Ok(taken)
     }
 
-    /// How many messages of a member the place took. The session and the cell have then seen the same.
-    pub fn count_takes(
-        &mut self,
-        table: &CellTable<M, N>,
-        session: &mut Session<M>,
-        from: &Peer<N>,
-    ) -> usize
-        requires { session.old.seen.table ≡ N.table }
-        ensures table { session.new.seen.table ≡ N.table }
-        ensures sees { Sees session.old session.new }
-        ensures count { result ≡ length (takes M.taken (N.ids from.now.place) (at session.new.seen.known P.PLACE)) }
-    {
-        self.meet(table, session);
-        self.count(from)
-    }
-
     /// Copies the messages that the place posted to a member, from a number on. The session and the cell have then seen
-    /// the same.
+    /// the same. A step is an entry that posted one of them.
     ///
     /// # Errors
     ///
     /// Memory was refused.
-    pub fn copy_posts(
+    pub fn copy_posts<L: Ledger>(
         &mut self,
         table: &CellTable<M, N>,
         session: &mut Session<M>,
         alloc: Global,
         to: &Peer<N>,
         number: usize,
+        steps: &mut Steps<L>,
     ) -> Result<VecDeque<M::Message>, Memory>
-        requires { session.old.seen.table ≡ N.table }
+        requires table { session.old.seen.table ≡ N.table }
+        requires few { number ≤ 16384 }
         ensures table { session.new.seen.table ≡ N.table }
         ensures sees { Sees session.old session.new }
         ensures copies { IfOk result (λ copies. copies.items ≡ drop number (messages (posts M.posted (N.ids to.now.place) (at session.new.seen.known P.PLACE)))) }
+        ensures steps { steps.new ≤ steps.old + (length (posts M.posted (N.ids to.now.place) (at session.new.seen.known P.PLACE)) - number) }
     {
         self.meet(table, session);
-        self.copies(alloc, to, number)
+        self.copies(alloc, to, number, steps)
     }
 
     /// Takes those of a member's messages that the place did not take yet: of these copies, which begin at a number.
@@ -144,14 +139,6 @@ impl<M: Member, N: Section, P: Spot> Locked<M, N, P> {
         let copies = skipped(copies, heard - number);
         self.take_all(table, session, from, copies)
     }
-}
-
-// 1 where the entry takes a message of the identity, else 0.
-fn taken_in<M: Member>(entry: &Entry<M>, from: Id) -> usize
-    ensures taken { result ≡ length (M.taken from entry.now.input) }
-    ensures one { result ≤ 1 }
-{
-    if M::takes(&entry.input, from) { 1 } else { 0 }
 }
 
 // The messages without so many of the first.

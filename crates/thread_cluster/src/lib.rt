@@ -21,6 +21,12 @@
 //!   of the member at some place. Refused, they grew by takes alone, and `HistoryFull` comes only
 //!   where some history is full or some member made all its steps (`Cluster::turn` (`HasTurnedAll`,
 //!   `HasBegun`, `IsTake`, `IsFullSomewhere`)).
+//! - A turn reads at most as many entries as there are messages to running members, in what the
+//!   session then knows, that weren't heard in what it knew before, whatever it answers
+//!   (`Cluster::turn_counted`, clause `steps` (`unheard`)).
+//! - **Always so of a book**: to each peer it has as many posts, by the entries that posted them,
+//!   and of each as many that were heard, as a walk over the history would give (`Locked`'s
+//!   invariant (`IsBook`, `IsPage`)).
 //! - A look tells how an operation stands at the member as it is after the history that the session
 //!   then knows there; calls stay. `Gone` as above (`Cluster::look` (`IsShownBy`, `Looks`)).
 //! - Whatever is answered, what the session knew at a place is the beginning of what it then knows
@@ -29,14 +35,17 @@
 //!   that the other posted to it, each with a higher stamp. So it is of the cells that a cluster
 //!   leaves (`Locked::into_cell`, `Cluster::into_cells` (`Hears`, `AllHear`)).
 //! - All of this for any machine that posts and takes messages; a message is copied as it is
-//!   (`Member`, `Cluster::{call_at, look_at, turn_all}`, `Member::copy_posted`).
+//!   (`Member`, `Cluster::{call_at, look_at, turn_all}`, `Member::{count_posted, copy_posted}`).
 #![tactic(auto)]
 
+mod accepting;
 mod any_site;
+pub mod book;
 pub mod call;
 mod calls;
 pub mod cluster;
 mod cluster_turn;
+mod counting;
 mod error;
 mod finding;
 mod hearing;

@@ -1,7 +1,11 @@
+use crate::accepting::accept;
+use crate::book::{Book, Counts};
 use crate::member::Member;
 use crate::peer::Peer;
+use crate::places::Identities;
 use crate::section::Section;
 use base_bytes::Memory;
+use std::alloc::Global;
 use std::marker::Model;
 use thread_cell::cell::{Cell, CellError};
 use thread_cell::receipt::Receipt;
@@ -9,21 +13,25 @@ use thread_cell::session::Session;
 use thread_cell::spot::Spot;
 use thread_cell::table::CellTable;
 
-/// What lies under the lock of a place: its cell, whose member took what each other one posted to it, in order.
+/// What lies under the lock of a place: its cell, whose member took what each other one posted to it, in order; and its book,
+/// which has what a walk over the cell's history would give.
 #[derive(Drop)]
 pub struct Locked<M: Member, N: Section, P: Spot> {
     pub(crate) cell: Cell<M, N, P>,
+    pub(crate) book: Book,
 }
 
 impl<M: Member, N: Section, P: Spot> Model for Locked<M, N, P> {
     ghost use Rattle.thread_cell.specs.Values.{CellParts};
+    ghost use Rattle.thread_cell.specs.Lists.{at};
     ghost use Rattle.thread_cluster.specs.Passing.{Hears};
+    ghost use Rattle.thread_cluster.specs.Books.{IsBook};
 
     ghost Value = { CellParts M M.Input M.Fate M.Output M.Refusal };
 
     ghost view = { λ l. l.cell };
 
-    ghost invariant = { λ l. Hears M.posted M.taken N.ids P.PLACE l.cell.seen.known };
+    ghost invariant = { λ l. Hears M.posted M.taken N.ids P.PLACE l.cell.seen.known × IsBook M.posted M.taken N.ids (at l.cell.seen.known P.PLACE) l.book };
 }
 
 impl<M: Member, N: Section, P: Spot> Locked<M, N, P> {
@@ -33,13 +41,16 @@ impl<M: Member, N: Section, P: Spot> Locked<M, N, P> {
     ghost use Rattle.thread_cluster.specs.Knowing.{Sees, IsAnswered, IsCause, IsShown};
     ghost use Rattle.thread_cluster.specs.Meeting.{AreAlike, HasMet, Took};
     ghost use Rattle.thread_cluster.specs.Turning.{IsCauseSomewhere};
+    ghost use Rattle.thread_cluster.specs.Books.{AreIds, IsCounted};
 
-    /// A cell whose place has no entry yet.
-    pub fn new(cell: Cell<M, N, P>) -> Locked<M, N, P>
-        requires { at cell.seen.known P.PLACE ≡ [] }
+    /// A cell whose place has no entry yet, with the identities of all places.
+    pub fn new(alloc: Global, cell: Cell<M, N, P>, ids: &Identities) -> Locked<M, N, P>
+        requires empty { at cell.seen.known P.PLACE ≡ [] }
+        requires ids { AreIds N.ids ids.now }
         ensures { result ≡ cell }
     {
-        Locked { cell }
+        let book = Book::new(alloc, ids);
+        Locked { cell, book }
     }
 
     /// The cell.
@@ -47,7 +58,7 @@ impl<M: Member, N: Section, P: Spot> Locked<M, N, P> {
         ensures cell { result ≡ self }
         ensures hears { Hears M.posted M.taken N.ids P.PLACE self.seen.known }
     {
-        let Locked { cell } = self;
+        let Locked { cell, book: _ } = self;
         cell
     }
 
@@ -58,6 +69,19 @@ impl<M: Member, N: Section, P: Spot> Locked<M, N, P> {
         ensures few { length (at self.now.seen.known P.PLACE) ≤ 16384 }
     {
         self.cell.facts();
+    }
+
+    /// How many messages the place posted to each other one, and heard of it. The session and the cell have then seen the
+    /// same.
+    pub(crate) fn counts(&mut self, table: &CellTable<M, N>, session: &mut Session<M>) -> Counts
+        requires { session.old.seen.table ≡ N.table }
+        ensures table { session.new.seen.table ≡ N.table }
+        ensures sees { Sees session.old session.new }
+        ensures counted { IsCounted M.posted M.taken N.ids P.PLACE session.new.seen.known result }
+    {
+        self.meet(table, session);
+        self.cell.facts();
+        self.book.counts()
     }
 
     /// Cell and session have then seen the same.
@@ -92,7 +116,7 @@ impl<M: Member, N: Section, P: Spot> Locked<M, N, P> {
     {
         self.meet(table, session);
         self.cell.facts();
-        self.cell.accept(table, session, input)
+        accept(&mut self.cell, &mut self.book, table, session, input, 8)
     }
 
     /// The member takes the next message of another one.
@@ -118,7 +142,14 @@ impl<M: Member, N: Section, P: Spot> Locked<M, N, P> {
     {
         let input = M::take(from.id, message);
         self.cell.facts();
-        self.cell.accept(table, session, input)
+        accept(
+            &mut self.cell,
+            &mut self.book,
+            table,
+            session,
+            input,
+            from.place,
+        )
     }
 
     /// What the member shows of what is asked. The session and the cell have then seen the same.

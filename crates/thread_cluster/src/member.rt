@@ -34,6 +34,10 @@ pub trait Member: Machine {
     fn takes(input: &Self::Input, from: Id) -> bool
         ensures { length (taken from input.now) ≡ (if result then 1 else 0) };
 
+    /// How many messages an output posts to an identity.
+    fn count_posted(output: &Self::Output, to: Id) -> usize
+        ensures { result ≡ length (posted to output.now) };
+
     /// Puts copies of the messages that an output posts to an identity behind these copies, but for the first ones:
     /// `skip` of them, as far as there are so many. Answers how many are still to be skipped.
     ///

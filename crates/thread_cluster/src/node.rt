@@ -1,4 +1,4 @@
-ghost use Rattle.std.specs.Prelude.{◌≡◌, ◌-◌, ◌++◌, ◌∷◌, [], length, drop, IfOk, OnOk};
+ghost use Rattle.std.specs.Prelude.{◌≡◌, ◌≤◌, ◌-◌, ◌++◌, ◌∷◌, [], length, drop, IfOk, OnOk};
 ghost use Rattle.thread_cluster.specs.Messages.{messages_to};
 
 use crate::member::Member;
@@ -40,6 +40,10 @@ where
         }
     }
 
+    fn count_posted(output: &Output<T>, to: Id) -> usize {
+        count_to(output.posts.as_slice(), to)
+    }
+
     fn copy_posted(
         output: &Output<T>,
         alloc: Global,
@@ -53,6 +57,25 @@ where
     fn look(&self, question: &u64) -> Result<Look, Memory> {
         Node::look(self, *question)
     }
+}
+
+/// How many messages are to an identity.
+fn count_to<T: Replica>(posts: &[Post<T>], to: Id) -> usize
+    ensures { result ≡ length (messages_to to posts.now) }
+{
+    let mut count = 0;
+    for post in posts {
+        count += one_to(post, to);
+    }
+    count
+}
+
+/// 1 where the message is to the identity, else 0.
+fn one_to<T: Replica>(post: &Post<T>, to: Id) -> usize
+    ensures count { result ≡ length (messages_to to (post.now ∷ [])) }
+    ensures one { result ≤ 1 }
+{
+    if post.to == to { 1 } else { 0 }
 }
 
 /// Puts copies of the messages to an identity behind these copies, but for the first `skip`. Answers how many are still to

@@ -1,6 +1,7 @@
 ghost use Rattle.std.specs.Prelude.{◌≡◌, is_some, IfSome};
 ghost use Rattle.thread_cluster.specs.Passing.{AreApart, Hears};
 ghost use Rattle.thread_cluster.specs.Opening.{IsNew, AreNew, AreWholeCells, AllHear};
+ghost use Rattle.thread_cluster.specs.Books.{AreIds};
 
 use crate::cluster::Cluster;
 use crate::member::Member;
@@ -16,16 +17,28 @@ use thread_cell::unnamed::Cells;
 
 /// The member of an identity behind a lock, where there is one.
 fn site_of<M: Member, N: Section, P: Spot>(
+    alloc: Global,
     cell: Option<Cell<M, N, P>>,
     id: Option<Id>,
+    ids: &Identities,
 ) -> Option<Site<M, N, P>>
-    requires { IsNew N.ids P.PLACE cell id }
+    requires new { IsNew N.ids P.PLACE cell id }
+    requires ids { AreIds N.ids ids.now }
     ensures { is_some result ≡ is_some (N.ids P.PLACE) }
 {
     match (cell, id) {
-        (Some(cell), Some(id)) => Some(Site::new(id, cell)),
+        (Some(cell), Some(id)) => Some(Site::new(alloc, id, cell, ids)),
         _ => None,
     }
+}
+
+/// What is so of new cells and identities: these are the identities of all places.
+fn listed<M: Member, N: Section>(cells: &Cells<M, N>, ids: &Identities)
+    requires { AreNew N.ids cells.now ids.now }
+    ensures { AreIds N.ids ids.now }
+{
+    let _cells = cells;
+    let _ids = ids;
 }
 
 /// The cell behind a lock, where there is one.
@@ -48,6 +61,7 @@ impl<M: Member, N: Section> Cluster<M, N> {
         ensures table { result.table ≡ cells.table }
         ensures views { result.views ≡ views }
     {
+        listed(&cells, &ids);
         let Cells {
             table,
             p0,
@@ -63,14 +77,16 @@ impl<M: Member, N: Section> Cluster<M, N> {
             alloc,
             views,
             table,
-            p0: site_of(p0, ids.p0),
-            p1: site_of(p1, ids.p1),
-            p2: site_of(p2, ids.p2),
-            p3: site_of(p3, ids.p3),
-            p4: site_of(p4, ids.p4),
-            p5: site_of(p5, ids.p5),
-            p6: site_of(p6, ids.p6),
-            p7: site_of(p7, ids.p7),
+            ids,
+            apart: [0; 16],
+            p0: site_of(alloc, p0, ids.p0, &ids),
+            p1: site_of(alloc, p1, ids.p1, &ids),
+            p2: site_of(alloc, p2, ids.p2, &ids),
+            p3: site_of(alloc, p3, ids.p3, &ids),
+            p4: site_of(alloc, p4, ids.p4, &ids),
+            p5: site_of(alloc, p5, ids.p5, &ids),
+            p6: site_of(alloc, p6, ids.p6, &ids),
+            p7: site_of(alloc, p7, ids.p7, &ids),
         }
     }
 
@@ -86,6 +102,8 @@ impl<M: Member, N: Section> Cluster<M, N> {
             alloc: _,
             views,
             table,
+            ids: _,
+            apart: _,
             p0,
             p1,
             p2,

@@ -10,7 +10,7 @@
 
 mod giving;
 mod lines;
-mod places;
+pub mod places;
 mod playing;
 
 pub use playing::play_section;

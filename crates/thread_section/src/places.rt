@@ -17,7 +17,7 @@ fn identity_at(view: &View, place: u8) -> Option<Id>
 }
 
 /// The identities of a view's members, by place.
-pub(crate) fn identities(view: &View) -> Identities
+pub fn identities(view: &View) -> Identities
     ensures { AreIdentities view.now result }
 {
     Identities {

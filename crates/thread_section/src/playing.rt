@@ -88,7 +88,7 @@ fn play_named<
     K: Keeper + Drop + Send,
     N: Place + Send + Sync,
     R: Threads + Wait + Sync,
-    G: Gate,
+    G: Gate + Sync,
 >(
     rt: &R,
     alloc: Global,
@@ -140,7 +140,7 @@ fn play_unnamed<
     T: SpelledData<Op = Op> + Send,
     K: Keeper + Drop + Send,
     R: Threads + Wait + Sync,
-    G: Gate,
+    G: Gate + Sync,
 >(
     rt: &R,
     alloc: Global,
@@ -172,7 +172,7 @@ pub fn play_section<
     T: SpelledData<Op = Op> + Send,
     K: Keeper + Drop + Send,
     R: Threads + Wait + Sync,
-    G: Gate,
+    G: Gate + Sync,
 >(
     rt: &R,
     alloc: Global,

@@ -1,31 +1,31 @@
 -- What is due, and what is written and told of it, is what a call that serves words promises.
 use Rattle.std.proofs.Common.{◌≡◌, ℕ, zero, suc, ◌+◌, ◌<◌, ◌≤◌, ◌⊎◌, inl, inr, List, [], ◌∷◌, ◌++◌, length, length-append, append-nil, String, Global, string_bytes, arith, refl, sym, ap, subst, ◌∙◌, None, Some, Ok, Err, MatchResult}
-use Rattle.std.specs.Prelude.{◌↔◌, slice_get}
+use Rattle.std.specs.Prelude.{◌↔◌, codes, slice_get}
 use Rattle.std.proofs.lemmas.Option.{none-some, same_Some}
 use Rattle.std.specs.Io.KnownBytes.{Appends, Consumes}
 use Rattle.std.specs.declared.option.Option.{Option}
 use Rattle.base_outside.specs.Causes.{Rose}
-use Rattle.base_outside.specs.Transfers.{ReadsToEnd, AppendsPrefix}
+use Rattle.base_outside.specs.Transfers.{ReadsToEnd, ReadsUpTo, AppendsPrefix}
 use Rattle.member_keeper.specs.declared.keeper.Keeper.{Ghosts as Keeping}
 use Rattle.script_reading.specs.declared.clients.Clients.{Clients}
-use Rattle.script_reading.specs.declared.clients.Clients.TheVariants.{Refused}
 use Rattle.script_reading.specs.declared.script.Script.{Script}
 use Rattle.script_reading.specs.declared.fault.Rule.{Rule}
 use Rattle.script_reading.specs.Reading.{Spells, Breaks, HasNoReading}
 use Rattle.report_lines.specs.Kept.{AreKept}
-use Rattle.top_call.specs.Answers.{Fulfils, Reports, IsReported, FailsAt, CannotClear, SomeRose, IsTextDue, CallsFor, IsUnlessRefused, limit}
-use Rattle.top_call.specs.Answers.{CallsFor as calls, IsTextDue as text_of}
-use Rattle.top_call.specs.Asking.{IsAsked, AskNothing, AskReport, AskNoReport, IsNoReport, clients_in}
+use Rattle.top_call.specs.Answers.{Fulfils, IsOfBytes, IsOfSource, IsOfTold, HasNoJson, TellsRule, TellsPlace, IsTooLong, FailsAt, CannotClear, SomeRose, IsTextDue, ScriptCallsFor, CallsFor, IsUnlessRefused}
+use Rattle.top_call.specs.Answers.{ScriptCallsFor as calls, IsTextDue as text_of}
+use Rattle.top_call.specs.Asking.{Reads, RunsNothing, IsAsked, AskNothing, AskToRead, AskToReadNothing, ReadsNothing, reads_in}
 use Rattle.top_call.specs.Behind.{untold}
-use Rattle.top_call.specs.Due.{IsDueFor, IsDue, IsRefusal, ComeBack, IsWritten, status_due, text_due}
-use Rattle.top_call.specs.Passages.{Passage, Traffic}
-use Rattle.top_call.specs.Serving.{Cause, IsDone, Answers, Returns}
+use Rattle.top_call.specs.Due.{IsDueFor, IsDue, IsRefusal, IsRefusedFor, ComeBack, IsWritten, status_due, text_due}
+use Rattle.top_call.specs.Passages.{Passage, Traffic, ReadsWhole, limit}
+use Rattle.top_call.specs.Serving.{Refuses, Cause, IsDone, Answers, Returns}
 use Rattle.top_call.specs.declared.due.Due.{Due}
-use Rattle.top_call.specs.declared.due.Due.TheVariants.{Fulfilled, NotCleared, BadWords, NotJson, NotAScript, ReadFailed, TooLong, Memory}
+use Rattle.top_call.specs.declared.due.Due.TheVariants.{Fulfilled, Upgraded, NotCleared, BadWords, NotJson, NotAScript, NotAnEnvelope, ReadFailed, TooLong, Memory}
 use Rattle.top_call.specs.declared.status.Status.{Status}
 use Rattle.top_call.specs.declared.status.Status.TheVariants as status
 use Rattle.top_call.specs.declared.words.Asked.{Asked}
-use Rattle.top_call.specs.declared.words.Asked.TheVariants.{Report, Generate, Summarize, Behind}
+use Rattle.top_call.specs.declared.words.Asked.TheVariants.{Report, Generate, Summarize, Behind, Upgrade}
+use Rattle.top_call.proofs.Entries.{entry_calls, no_entry_calls, length_calls}
 
 -- WHAT WAS READ
 
@@ -67,31 +67,40 @@ module _ (clients : Clients) (bytes : List ℕ) where
       ok_err script rule (sym h.2 ∙ rw same k.2)
 
   -- what status a script calls for
-  script_runs : (script : Script) (wanted : Status) → length bytes ≤ limit → Spells clients bytes script → CallsFor clients bytes wanted → status.Done ≡ wanted
+  script_runs : (script : Script) (wanted : Status) → length bytes ≤ limit → Spells clients bytes script → ScriptCallsFor clients bytes wanted → status.Done ≡ wanted
   script_runs script _ within h (calls.done other short k) = refl
   script_runs script _ within h (calls.not_json short k) = absurd (spells_json script h k)
   script_runs script _ within h (calls.not_a_script rule short k) = absurd (spells_breaks script rule h k)
   script_runs script _ within h (calls.too_long long) = absurd (omega arith)
 
-  json_called : (wanted : Status) → length bytes ≤ limit → HasNoReading bytes → CallsFor clients bytes wanted → status.NotJson ≡ wanted
+  json_called : (wanted : Status) → length bytes ≤ limit → HasNoReading bytes → ScriptCallsFor clients bytes wanted → status.NotJson ≡ wanted
   json_called _ within h (calls.done script short k) = absurd (spells_json script k h)
   json_called _ within h (calls.not_json short k) = refl
   json_called _ within h (calls.not_a_script rule short k) = absurd (breaks_json rule k h)
   json_called _ within h (calls.too_long long) = absurd (omega arith)
 
-  script_called : (rule : Rule) (wanted : Status) → length bytes ≤ limit → Breaks clients bytes rule → CallsFor clients bytes wanted → status.NotAScript ≡ wanted
+  script_called : (rule : Rule) (wanted : Status) → length bytes ≤ limit → Breaks clients bytes rule → ScriptCallsFor clients bytes wanted → status.NotAScript ≡ wanted
   script_called rule _ within h (calls.done script short k) = absurd (spells_breaks script rule k h)
   script_called rule _ within h (calls.not_json short k) = absurd (breaks_json rule h k)
   script_called rule _ within h (calls.not_a_script other short k) = refl
   script_called rule _ within h (calls.too_long long) = absurd (omega arith)
 
-  length_called : (wanted : Status) → limit < length bytes → CallsFor clients bytes wanted → status.TooLong ≡ wanted
+  length_called : (wanted : Status) → limit < length bytes → ScriptCallsFor clients bytes wanted → status.TooLong ≡ wanted
   length_called _ more (calls.done script short k) = absurd (omega arith)
   length_called _ more (calls.not_json short k) = absurd (omega arith)
   length_called _ more (calls.not_a_script rule short k) = absurd (omega arith)
   length_called _ more (calls.too_long long) = refl
 
--- clients in the script of what asks for its report
+-- what is made of bytes, or why it is not, by what is read
+module _ {K : Type 0} (keeping : Keeping K) (bytes : List ℕ) where
+  made_calls : (asked : Asked) (reads : Reads) (before after : List K) (text : List ℕ) (wanted : Status) → length bytes ≤ limit → IsOfBytes keeping asked reads bytes before after text → CallsFor reads bytes wanted → status.Done ≡ wanted
+  made_calls asked (Reads.AScript clients) before after text wanted within h call = script_runs clients bytes h.script wanted within h.spelled call
+  made_calls asked Reads.AnEntry before after text wanted within h call = entry_calls bytes h.0.parts wanted within h.0.is call
+
+  long_calls : (reads : Reads) (wanted : Status) → limit < length bytes → CallsFor reads bytes wanted → status.TooLong ≡ wanted
+  long_calls (Reads.AScript clients) wanted more call = length_called clients bytes wanted more call
+  long_calls Reads.AnEntry wanted more call = length_calls bytes wanted more call
+
 some_same : {X : Type 0} {x y : X} → Some x ≡ Some y → x ≡ y
 some_same {X} {x} {y} e = same_Some x y e
 
@@ -115,6 +124,7 @@ module _ {K : Type 0} (keeping : Keeping K) where
   fails_rise (Generate n) place before after h = absurd h
   fails_rise (Summarize n) place before after h = record { within = h.within; count = h.failed.count; rose = λ old new was is. (h.failed.each place old new was is refl).answered.counted }
   fails_rise (Behind n) place before after h = record { within = h.within; count = h.failed.count; rose = λ old new was is. (h.failed.each place old new was is refl).counted }
+  fails_rise Upgrade place before after h = absurd h
 
   -- a keeper that failed to be cleared counts a fault more
   clearing_rose : (asked : Asked) (read : Passage) (before after : List K) (text : List ℕ) → CannotClear keeping asked read before after text → SomeRose keeping before after
@@ -137,124 +147,130 @@ module _ {K : Type 0} (keeping : Keeping K) where
       (status_due due ≡ wanted) ⊎ (((status_due due ≡ status.ReadFailed) × read_rose) ⊎ (((status_due due ≡ status.ClearFailed) × keeper_rose) ⊎ (status_due due ≡ status.Memory)))
 
   module _ (read : Passage) (before after : List K) where
-    -- what is due where the report of the script on the source is asked for
-    abbrev IsReportDue : Asked → Clients → Due → Type 0
-    IsReportDue asked clients (Fulfilled text) = Reports keeping asked clients read before after (string_bytes text)
-    IsReportDue asked clients (NotCleared text) = CannotClear keeping asked read before after (string_bytes text)
-    IsReportDue asked clients BadWords = ⊥
-    IsReportDue asked clients Memory = Unit {0}
-    IsReportDue asked clients due = IsRefusal clients read due × (after ≡ before)
+    -- what is refused where something is read
+    record WasRefused (o : Option Reads) (due : Due) : Type 0 where
+      reads : Reads
+      is : o ≡ Some reads
+      why : IsRefusal reads read due
+      kept : after ≡ before
 
-    report_due : (clients : Clients) (due : Due) → IsDueFor keeping (Report clients) read before after due → IsReportDue (Report clients) clients due
-    report_due clients (Fulfilled text) h = h
-    report_due clients (NotCleared text) h = h
-    report_due clients BadWords h = h
-    report_due clients NotJson h = h
-    report_due clients (NotAScript text) h = h
-    report_due clients ReadFailed h = h
-    report_due clients TooLong h = h
-    report_due clients Memory h = h
+    refused_reads : (o : Option Reads) (due : Due) → IsRefusedFor o read before after due → WasRefused o due
+    refused_reads None due h = absurd h
+    refused_reads (Some reads) due h = record { reads = reads; is = refl; why = h.0; kept = h.1 }
 
-    behind_due : (n : ℕ) (due : Due) → IsDueFor keeping (Behind n) read before after due → IsReportDue (Behind n) Refused due
-    behind_due n (Fulfilled text) h = h
-    behind_due n (NotCleared text) h = h
-    behind_due n BadWords h = h
-    behind_due n NotJson h = h
-    behind_due n (NotAScript text) h = h
-    behind_due n ReadFailed h = h
-    behind_due n TooLong h = h
-    behind_due n Memory h = h
+    -- and of this
+    refusal_of : (o : Option Reads) (reads : Reads) (due : Due) → o ≡ Some reads → IsRefusedFor o read before after due → IsRefusal reads read due
+    refusal_of o reads due is h = (subst (λ o. IsRefusedFor o read before after due) is h).0
 
-    as_report : (asked : Asked) (clients : Clients) → clients_in asked ≡ Some clients → (due : Due) → IsDueFor keeping asked read before after due → IsReportDue asked clients due
-    as_report (Report allowed) clients is due h = subst (λ c. IsReportDue (Report allowed) c due) (some_same is) (report_due allowed due h)
-    as_report (Generate n) clients is due h = absurd (none-some clients is)
-    as_report (Summarize n) clients is due h = absurd (none-some clients is)
-    as_report (Behind n) clients is due h = subst (λ c. IsReportDue (Behind n) c due) (some_same is) (behind_due n due h)
+    -- what is made of what is read
+    of_source : (asked : Asked) (reads : Reads) → reads_in asked ≡ Some reads → (text : List ℕ) → Fulfils keeping asked read before after text → IsOfSource keeping asked reads read before after text
+    of_source (Report clients) reads is text h = subst (λ r. IsOfSource keeping (Report clients) r read before after text) (some_same is) h
+    of_source (Generate n) reads is text h = absurd (none-some reads is)
+    of_source (Summarize n) reads is text h = absurd (none-some reads is)
+    of_source (Behind n) reads is text h = subst (λ r. IsOfSource keeping (Behind n) r read before after text) (some_same is) h
+    of_source Upgrade reads is text h = subst (λ r. IsOfSource keeping Upgrade r read before after text) (some_same is) h
 
-    -- for the report of the script on a source that tells its bytes
-    report_called : (asked : Asked) (clients : Clients) (bytes : List ℕ) (due : Due) (wanted : Status) → read.old ≡ Some bytes → IsReportDue asked clients due → CallsFor clients bytes wanted
-        → IsCalled (Rose read.faults read.now) (SomeRose keeping before after) due wanted
-    report_called asked clients bytes (Fulfilled text) wanted told h call =
-        let all = all_read bytes h.has.bytes read.new (subst (λ o. ReadsToEnd o read.new h.has.bytes) told h.has.is_read.whole) in
-        inl (script_runs clients bytes h.script wanted (rw (← all) h.has.is_read.within) (rw (← all) h.has.spelled) call)
-    report_called asked clients bytes (NotCleared text) wanted told h call = inr (inr (inl (refl, clearing_rose asked read before after (string_bytes text) h)))
-    report_called asked clients bytes BadWords wanted told h call = absurd h
-    report_called asked clients bytes NotJson wanted told h call =
-        let all = all_read bytes h.0.0 read.new (subst (λ o. ReadsToEnd o read.new h.0.0) told h.0.1.whole) in
-        inl (json_called clients bytes wanted (rw (← all) h.0.1.within) (rw (← all) h.0.2) call)
-    report_called asked clients bytes (NotAScript text) wanted told h call =
-        let broken = h.0.1 in
-        let all = all_read bytes broken.0 read.new (subst (λ o. ReadsToEnd o read.new broken.0) told broken.1.whole) in
-        inl (script_called clients bytes h.0.0 wanted (rw (← all) broken.1.within) (rw (← all) broken.2) call)
-    report_called asked clients bytes ReadFailed wanted told h call = inr (inl (refl, h.0.0))
-    report_called asked clients bytes TooLong wanted told h call =
-        inl (length_called clients bytes wanted (more_read bytes h.0.0 read.new (subst (λ o. Consumes o read.new h.0.0) told h.0.2) h.0.1) call)
-    report_called asked clients bytes Memory wanted told h call = inr (inr (inr refl))
+    -- the bytes of a source that tells them are those that were read
+    told_bytes : (bytes found : List ℕ) → read.old ≡ Some bytes → ReadsWhole read found → found ≡ bytes
+    told_bytes bytes found told h = all_read bytes found read.new (subst (λ o. ReadsToEnd o read.new found) told h.whole)
+
+    module _ (bytes : List ℕ) (wanted : Status) (told : read.old ≡ Some bytes) where
+      source_called : (asked : Asked) (reads : Reads) (text : List ℕ) → IsOfSource keeping asked reads read before after text → CallsFor reads bytes wanted → status.Done ≡ wanted
+      source_called asked reads text h call =
+          let same = told_bytes bytes h.bytes told h.is_read in
+          made_calls keeping h.bytes asked reads before after text wanted h.is_read.within h.made (subst (λ b. CallsFor reads b wanted) (sym same) call)
+
+      json_refused : (reads : Reads) → IsRefusal reads read NotJson → CallsFor reads bytes wanted → status.NotJson ≡ wanted
+      json_refused (Reads.AScript clients) h call =
+          let same = told_bytes bytes h.0 told h.1 in
+          json_called clients h.0 wanted h.1.within h.2 (subst (λ b. ScriptCallsFor clients b wanted) (sym same) call)
+      json_refused Reads.AnEntry h call = absurd h
+
+      rule_refused : (reads : Reads) (text : String Global) → IsRefusal reads read (NotAScript text) → CallsFor reads bytes wanted → status.NotAScript ≡ wanted
+      rule_refused (Reads.AScript clients) text h call =
+          let broken = h.1 in
+          let same = told_bytes bytes broken.0 told broken.1 in
+          script_called clients broken.0 h.0 wanted broken.1.within broken.2 (subst (λ b. ScriptCallsFor clients b wanted) (sym same) call)
+      rule_refused Reads.AnEntry text h call = absurd h
+
+      place_refused : (reads : Reads) (text : String Global) → IsRefusal reads read (NotAnEnvelope text) → CallsFor reads bytes wanted → status.NotAnEnvelope ≡ wanted
+      place_refused (Reads.AScript clients) text h call = absurd h
+      place_refused Reads.AnEntry text h call =
+          let fault = h.1 in
+          let same = told_bytes bytes fault.0 told fault.1 in
+          no_entry_calls fault.0 wanted fault.1.within fault.2.none (subst (λ b. CallsFor Reads.AnEntry b wanted) (sym same) call)
+
+      long_refused : (reads : Reads) → IsRefusal reads read TooLong → CallsFor reads bytes wanted → status.TooLong ≡ wanted
+      long_refused reads h call = long_calls keeping bytes reads wanted (more_read bytes h.0 read.new (subst (λ o. Consumes o read.new h.0) told h.2) h.1) call
+
+      -- for what is made of a source that tells its bytes
+      calls_for : (asked : Asked) (reads : Reads) (due : Due) → reads_in asked ≡ Some reads → IsDueFor keeping asked read before after due → CallsFor reads bytes wanted
+          → IsCalled (Rose read.faults read.now) (SomeRose keeping before after) due wanted
+      calls_for asked reads (Fulfilled text) is h call = inl (source_called asked reads (string_bytes text) (of_source asked reads is (string_bytes text) h) call)
+      calls_for asked reads (Upgraded text) is h call = inl (source_called asked reads text.items (of_source asked reads is text.items h) call)
+      calls_for asked reads (NotCleared text) is h call = inr (inr (inl (refl, clearing_rose asked read before after (string_bytes text) h)))
+      calls_for asked reads BadWords is h call = absurd h
+      calls_for asked reads NotJson is h call = inl (json_refused reads (refusal_of (reads_in asked) reads NotJson is h) call)
+      calls_for asked reads (NotAScript text) is h call = inl (rule_refused reads text (refusal_of (reads_in asked) reads (NotAScript text) is h) call)
+      calls_for asked reads (NotAnEnvelope text) is h call = inl (place_refused reads text (refusal_of (reads_in asked) reads (NotAnEnvelope text) is h) call)
+      calls_for asked reads ReadFailed is h call = inr (inl (refl, (refusal_of (reads_in asked) reads ReadFailed is h).0))
+      calls_for asked reads TooLong is h call = inl (long_refused reads (refusal_of (reads_in asked) reads TooLong is h) call)
+      calls_for asked reads Memory is h call = inr (inr (inr refl))
 
     -- for a generated script
     generated_called : (n : ℕ) (due : Due) → IsDueFor keeping (Generate n) read before after due → IsCalled ⊥ ⊥ due status.Done
     generated_called n (Fulfilled text) h = inl refl
+    generated_called n (Upgraded bytes) h = inl refl
     generated_called n (NotCleared text) h = absurd h.run
-    generated_called n BadWords h = absurd h
-    generated_called n NotJson h = absurd h
-    generated_called n (NotAScript text) h = absurd h
-    generated_called n ReadFailed h = absurd h
-    generated_called n TooLong h = absurd h
     generated_called n Memory h = inr (inr (inr refl))
-
-    -- which leaves the keepers
-    generated_leaves : (n : ℕ) (due : Due) → IsDueFor keeping (Generate n) read before after due → after ≡ before
-    generated_leaves n (Fulfilled text) h = h.1
-    generated_leaves n (NotCleared text) h = absurd h.run
-    generated_leaves n BadWords h = absurd h
-    generated_leaves n NotJson h = absurd h
-    generated_leaves n (NotAScript text) h = absurd h
-    generated_leaves n ReadFailed h = absurd h
-    generated_leaves n TooLong h = absurd h
-    generated_leaves n Memory h = h
+    generated_called n due h = absurd h
 
     -- for the end of its run
     summary_called : (n : ℕ) (due : Due) → IsDueFor keeping (Summarize n) read before after due → IsCalled ⊥ (SomeRose keeping before after) due status.Done
     summary_called n (Fulfilled text) h = inl refl
+    summary_called n (Upgraded bytes) h = inl refl
     summary_called n (NotCleared text) h = inr (inr (inl (refl, clearing_rose (Summarize n) read before after (string_bytes text) h)))
-    summary_called n BadWords h = absurd h
-    summary_called n NotJson h = absurd h
-    summary_called n (NotAScript text) h = absurd h
-    summary_called n ReadFailed h = absurd h
-    summary_called n TooLong h = absurd h
     summary_called n Memory h = inr (inr (inr refl))
+    summary_called n due h = absurd h
+
+    -- what runs no script leaves the keepers
+    unrun_fulfils : (asked : Asked) → RunsNothing asked → (text : List ℕ) → Fulfils keeping asked read before after text → after ≡ before
+    unrun_fulfils (Generate n) none text h = h.1
+    unrun_fulfils Upgrade none text h = h.made.1
+    unrun_fulfils asked none text h = absurd none
+
+    unrun_clears : (asked : Asked) → RunsNothing asked → (text : List ℕ) → CannotClear keeping asked read before after text → after ≡ before
+    unrun_clears (Generate n) none text h = absurd h.run
+    unrun_clears Upgrade none text h = absurd h.run
+    unrun_clears asked none text h = absurd none
+
+    unrun_leaves : (asked : Asked) → RunsNothing asked → (due : Due) → IsDueFor keeping asked read before after due → after ≡ before
+    unrun_leaves asked none (Fulfilled text) h = unrun_fulfils asked none (string_bytes text) h
+    unrun_leaves asked none (Upgraded bytes) h = unrun_fulfils asked none bytes.items h
+    unrun_leaves asked none (NotCleared text) h = unrun_clears asked none (string_bytes text) h
+    unrun_leaves asked none BadWords h = absurd h
+    unrun_leaves asked none NotJson h = (refused_reads (reads_in asked) NotJson h).kept
+    unrun_leaves asked none (NotAScript text) h = (refused_reads (reads_in asked) (NotAScript text) h).kept
+    unrun_leaves asked none (NotAnEnvelope text) h = (refused_reads (reads_in asked) (NotAnEnvelope text) h).kept
+    unrun_leaves asked none ReadFailed h = (refused_reads (reads_in asked) ReadFailed h).kept
+    unrun_leaves asked none TooLong h = (refused_reads (reads_in asked) TooLong h).kept
+    unrun_leaves asked none Memory h = h none
 
     -- what is done with status `Done`
     is_fulfilled : (asked : Asked) (due : Due) → IsDueFor keeping asked read before after due → status_due due ≡ status.Done → Fulfils keeping asked read before after (text_due due)
     is_fulfilled asked (Fulfilled text) h none = h
-    is_fulfilled asked (NotCleared text) h none = absurd (cc none)
-    is_fulfilled asked BadWords h none = absurd (cc none)
-    is_fulfilled asked NotJson h none = absurd (cc none)
-    is_fulfilled asked (NotAScript text) h none = absurd (cc none)
-    is_fulfilled asked ReadFailed h none = absurd (cc none)
-    is_fulfilled asked TooLong h none = absurd (cc none)
-    is_fulfilled asked Memory h none = absurd (cc none)
+    is_fulfilled asked (Upgraded bytes) h none = h
+    is_fulfilled asked due h none = absurd (cc none)
 
-    -- where the report of the script on the source is asked for, it is that
-    is_report : (asked : Asked) (clients : Clients) → clients_in asked ≡ Some clients → (text : List ℕ) → Fulfils keeping asked read before after text → Reports keeping asked clients read before after text
-    is_report (Report allowed) clients is text h = subst (λ c. Reports keeping (Report allowed) c read before after text) (some_same is) h
-    is_report (Generate n) clients is text h = absurd (none-some clients is)
-    is_report (Summarize n) clients is text h = absurd (none-some clients is)
-    is_report (Behind n) clients is text h = subst (λ c. Reports keeping (Behind n) c read before after text) (some_same is) h
-
-    -- and what that says of told bytes
-    is_reported : (asked : Asked) (clients : Clients) (bytes earlier text : List ℕ) (written : Option (List ℕ)) → read.old ≡ Some bytes → Reports keeping asked clients read before after text → Appends (Some earlier) written text
-        → IsReported keeping asked clients bytes earlier read.new written before after
-    is_reported asked clients bytes earlier text written told h w =
-        let whole = subst (λ o. ReadsToEnd o read.new h.has.bytes) told h.has.is_read.whole in
-        let all = all_read bytes h.has.bytes read.new whole in
+    -- what is made of told bytes
+    of_told : (asked : Asked) (reads : Reads) (bytes earlier text : List ℕ) (written : Option (List ℕ)) → read.old ≡ Some bytes → IsOfSource keeping asked reads read before after text → Appends (Some earlier) written text
+        → IsOfTold keeping asked reads bytes earlier read.new written before after
+    of_told asked reads bytes earlier text written told h w =
+        let whole = subst (λ o. ReadsToEnd o read.new h.bytes) told h.is_read.whole in
         record {
-          script = h.script;
           text = text;
-          spelled = rw (← all) h.has.spelled;
-          allowed = h.has.allowed;
-          reported = h.reported;
-          all_read = none_left bytes h.has.bytes read.new whole;
+          made = subst (λ b. IsOfBytes keeping asked reads b before after text) (told_bytes bytes h.bytes told h.is_read) h.made;
+          all_read = none_left bytes h.bytes read.new whole;
           all_written = grown earlier text written w;
         }
 
@@ -273,6 +289,7 @@ module _ {K : Type 0} (keeping : Keeping K) (before after : List K) where
   come_back (Some (Generate n)) h = untold_kept h
   come_back (Some (Summarize n)) h = untold_kept h
   come_back (Some (Behind n)) h = h
+  come_back (Some Upgrade) h = untold_kept h
 
   come_back_told : (asked : Option Asked) → ((n : ℕ) → asked ≡ Some (Behind n) → ⊥) → ComeBack keeping asked before after → AreKept keeping before after
   come_back_told None none h = h
@@ -280,6 +297,7 @@ module _ {K : Type 0} (keeping : Keeping K) (before after : List K) where
   come_back_told (Some (Generate n)) none h = h
   come_back_told (Some (Summarize n)) none h = h
   come_back_told (Some (Behind n)) none h = absurd (none n refl)
+  come_back_told (Some Upgrade) none h = h
 
 module _ {K : Type 0} (keeping : Keeping K) (t : Traffic K) (served : Clients) (words : List (String Global)) (asked : Option Asked) (asks : (a : Asked) → (asked ≡ Some a) ↔ IsAsked served a words) where
   pub returned : ComeBack keeping asked t.before t.after → t.read.faults ≤ t.read.now → t.written.faults ≤ t.written.now → Returns keeping t served words
@@ -290,10 +308,10 @@ module _ {K : Type 0} (keeping : Keeping K) (t : Traffic K) (served : Clients) (
     sink_later = sink_later;
   }
 
--- who is asked for no report reads nothing
-pub no_report : (served : Clients) (words : List (String Global)) (asked : Option Asked) → ((a : Asked) → (asked ≡ Some a) ↔ IsAsked served a words) → AskNoReport served words → IsNoReport asked
-no_report served words None asks none = tt
-no_report served words (Some a) asks none = none a ((asks a).0 refl)
+-- words for which nothing is read ask for nothing for which something is
+pub reads_nothing : (served : Clients) (words : List (String Global)) (asked : Option Asked) → ((a : Asked) → (asked ≡ Some a) ↔ IsAsked served a words) → AskToReadNothing served words → ReadsNothing asked
+reads_nothing served words None asks none = tt
+reads_nothing served words (Some a) asks none = none a ((asks a).0 refl)
 
 -- WHAT WAS WRITTEN OF IT
 
@@ -301,54 +319,44 @@ below_some : {n m : ℕ} → n < m → 0 < m
 below_some h = omega arith
 
 module _ {K : Type 0} (keeping : Keeping K) (t : Traffic K) (served : Clients) (words : List (String Global)) where
-  for_report : (clients : Clients) → IsAsked served (Report clients) words → AskReport served words clients
-  for_report clients a = record { asked = Report clients; is = a; with_clients = refl }
+  -- words for which it was read, where something was refused
+  asked_to_read : (asked : Asked) (due : Due) (r : WasRefused keeping t.read t.before t.after (reads_in asked) due) → IsAsked served asked words → AskToRead served words r.reads
+  asked_to_read asked due r a = record { asked = asked; is = a; of = r.is }
 
-  for_behind : (n : ℕ) → IsAsked served (Behind n) words → AskReport served words Refused
-  for_behind n a = record { asked = Behind n; is = a; with_clients = refl }
+  -- a refusal, as the cause of a status
+  refusal_cause : (asked : Asked) (due : Due) (Why : Reads → Type 0) (text : List ℕ) → ((reads : Reads) → IsRefusal reads t.read due → Why reads) → IsAsked served asked words → IsRefusedFor (reads_in asked) t.read t.before t.after due → Appends t.written.old t.written.new text
+      → Refuses keeping t served words Why text
+  refusal_cause asked due Why text why a h w =
+      let r = refused_reads keeping t.read t.before t.after (reads_in asked) due h in
+      record { reads = r.reads; asked = asked_to_read asked due r a; why = why r.reads r.why; kept = r.kept; told = w }
 
   -- why a status is told
   due_cause : (asked : Asked) (due : Due) → IsAsked served asked words → IsDueFor keeping asked t.read t.before t.after due → Appends t.written.old t.written.new (text_due due) → Cause keeping t served words (status_due due)
   due_cause asked (Fulfilled text) a h w = (asked, string_bytes text, a, h, w)
+  due_cause asked (Upgraded bytes) a h w = (asked, bytes.items, a, h, w)
   due_cause asked (NotCleared text) a h w = (asked, string_bytes text, a, h, w)
   due_cause asked BadWords a h w = absurd h
   due_cause asked Memory a h w = w
-  due_cause (Report clients) NotJson a h w = record { clients = clients; asked = for_report clients a; why = h.0; kept = h.1; told = w }
-  due_cause (Report clients) (NotAScript text) a h w = (string_bytes text, record { clients = clients; asked = for_report clients a; why = h.0; kept = h.1; told = w })
-  due_cause (Report clients) ReadFailed a h w = record { clients = clients; asked = for_report clients a; why = h.0; kept = h.1; told = w }
-  due_cause (Report clients) TooLong a h w = record { clients = clients; asked = for_report clients a; why = h.0; kept = h.1; told = w }
-  due_cause (Behind n) NotJson a h w = record { clients = Refused; asked = for_behind n a; why = h.0; kept = h.1; told = w }
-  due_cause (Behind n) (NotAScript text) a h w = (string_bytes text, record { clients = Refused; asked = for_behind n a; why = h.0; kept = h.1; told = w })
-  due_cause (Behind n) ReadFailed a h w = record { clients = Refused; asked = for_behind n a; why = h.0; kept = h.1; told = w }
-  due_cause (Behind n) TooLong a h w = record { clients = Refused; asked = for_behind n a; why = h.0; kept = h.1; told = w }
-  due_cause (Generate n) NotJson a h w = absurd h
-  due_cause (Generate n) (NotAScript text) a h w = absurd h
-  due_cause (Generate n) ReadFailed a h w = absurd h
-  due_cause (Generate n) TooLong a h w = absurd h
-  due_cause (Summarize n) NotJson a h w = absurd h
-  due_cause (Summarize n) (NotAScript text) a h w = absurd h
-  due_cause (Summarize n) ReadFailed a h w = absurd h
-  due_cause (Summarize n) TooLong a h w = absurd h
+  due_cause asked NotJson a h w = refusal_cause asked NotJson (λ reads. HasNoJson reads t.read) (codes "not json\n") (λ reads why. why) a h w
+  due_cause asked (NotAScript text) a h w = (string_bytes text, refusal_cause asked (NotAScript text) (λ reads. TellsRule reads t.read (string_bytes text)) (string_bytes text) (λ reads why. why) a h w)
+  due_cause asked (NotAnEnvelope text) a h w = (string_bytes text, refusal_cause asked (NotAnEnvelope text) (λ reads. TellsPlace reads t.read (string_bytes text)) (string_bytes text) (λ reads why. why) a h w)
+  due_cause asked ReadFailed a h w = refusal_cause asked ReadFailed (λ reads. Rose t.read.faults t.read.now × ReadsUpTo t.read.old t.read.new limit) [] (λ reads why. why) a h w
+  due_cause asked TooLong a h w = refusal_cause asked TooLong (λ reads. IsTooLong t.read) (codes "too long\n") (λ reads why. why) a h w
 
   -- of what a beginning was written
   is_text_due : (asked : Asked) (due : Due) → 0 < length (text_due due) → IsAsked served asked words → IsDueFor keeping asked t.read t.before t.after due → IsTextDue keeping served words t.read t.before t.after (text_due due)
   is_text_due asked (Fulfilled text) some a h = text_of.fulfilled asked (string_bytes text) a h
+  is_text_due asked (Upgraded bytes) some a h = text_of.fulfilled asked bytes.items a h
   is_text_due asked (NotCleared text) some a h = text_of.not_cleared asked (string_bytes text) a h
   is_text_due asked BadWords some a h = absurd h
   is_text_due asked Memory some a h = absurd (omega arith)
   is_text_due asked ReadFailed some a h = absurd (omega arith)
-  is_text_due (Report clients) NotJson some a h = text_of.not_json clients (for_report clients a) h.0 h.1
-  is_text_due (Report clients) (NotAScript text) some a h = text_of.not_a_script clients (string_bytes text) (for_report clients a) h.0 h.1
-  is_text_due (Report clients) TooLong some a h = text_of.too_long clients (for_report clients a) h.0 h.1
-  is_text_due (Behind n) NotJson some a h = text_of.not_json Refused (for_behind n a) h.0 h.1
-  is_text_due (Behind n) (NotAScript text) some a h = text_of.not_a_script Refused (string_bytes text) (for_behind n a) h.0 h.1
-  is_text_due (Behind n) TooLong some a h = text_of.too_long Refused (for_behind n a) h.0 h.1
-  is_text_due (Generate n) NotJson some a h = absurd h
-  is_text_due (Generate n) (NotAScript text) some a h = absurd h
-  is_text_due (Generate n) TooLong some a h = absurd h
-  is_text_due (Summarize n) NotJson some a h = absurd h
-  is_text_due (Summarize n) (NotAScript text) some a h = absurd h
-  is_text_due (Summarize n) TooLong some a h = absurd h
+  is_text_due asked NotJson some a h = let r = refused_reads keeping t.read t.before t.after (reads_in asked) NotJson h in text_of.not_json r.reads (asked_to_read asked NotJson r a) r.why r.kept
+  is_text_due asked (NotAScript text) some a h =
+      let r = refused_reads keeping t.read t.before t.after (reads_in asked) (NotAScript text) h in text_of.not_a_script r.reads (string_bytes text) (asked_to_read asked (NotAScript text) r a) r.why r.kept
+  is_text_due asked (NotAnEnvelope text) some a h =
+      let r = refused_reads keeping t.read t.before t.after (reads_in asked) (NotAnEnvelope text) h in text_of.not_an_envelope r.reads (string_bytes text) (asked_to_read asked (NotAnEnvelope text) r a) r.why r.kept
+  is_text_due asked TooLong some a h = let r = refused_reads keeping t.read t.before t.after (reads_in asked) TooLong h in text_of.too_long r.reads (asked_to_read asked TooLong r a) r.why r.kept
 
   -- A call was asked for this, this was due, and this was written and told.
   pub record Called (end : Status) : Type 0 where
@@ -393,9 +401,9 @@ module _ {K : Type 0} (keeping : Keeping K) (t : Traffic K) (served : Clients) (
     unfolding done
     is_done = record {
       done = done;
-      told = λ clients bytes earlier a none left before.
+      told = λ reads bytes earlier a none left before.
           let so = done a.asked a.is none in
-          is_reported keeping t.read t.before t.after a.asked clients bytes earlier so.0 t.written.new left (is_report keeping t.read t.before t.after a.asked clients a.with_clients so.0 so.1)
+          of_told keeping t.read t.before t.after a.asked reads bytes earlier so.0 t.written.new left (of_source keeping t.read t.before t.after a.asked reads a.of so.0 so.1)
           (subst (λ o. Appends o t.written.new so.0) before so.2);
     }
 
@@ -422,9 +430,8 @@ module _ {K : Type 0} (keeping : Keeping K) (t : Traffic K) (served : Clients) (
     pub answers_all : Answers keeping t served words end
     answers_all = record {
       nothing = refused;
-      unrun = λ n h. generated_leaves keeping t.read t.before t.after n call.due (is_for (Generate n) h);
-      complete = λ clients bytes wanted a told calls.
-          unless _ _ wanted (report_called keeping t.read t.before t.after a.asked clients bytes call.due wanted told (as_report keeping t.read t.before t.after a.asked clients a.with_clients call.due (is_for a.asked a.is)) calls);
+      unrun = λ asked none h. unrun_leaves keeping t.read t.before t.after asked none call.due (is_for asked h);
+      complete = λ reads bytes wanted a told calls. unless _ _ wanted (calls_for keeping t.read t.before t.after bytes wanted told a.asked reads call.due a.of (is_for a.asked a.is) calls);
       generates = λ n h. unless _ _ status.Done (generated_called keeping t.read t.before t.after n call.due (is_for (Generate n) h));
       summarizes = λ n h. unless _ _ status.Done (summary_called keeping t.read t.before t.after n call.due (is_for (Summarize n) h));
     }

@@ -1,6 +1,7 @@
 pub mod Called
 pub mod Counts
 pub mod EachRun
+pub mod Entries
 pub mod Flushing
 pub mod Inside
 pub mod Refusals

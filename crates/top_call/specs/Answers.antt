@@ -3,7 +3,7 @@ use Rattle.std.specs.Prelude.{◌≡◌, ℕ, ◌+◌, ◌<◌, ◌≤◌, List,
 use Rattle.std.specs.declared.alloc.Global.{Global}
 use Rattle.model_kinds.specs.SixKinds.{six_kinds}
 use Rattle.base_outside.specs.Causes.{Rose}
-use Rattle.base_outside.specs.Transfers.{ReadsToEnd, ReadsCount}
+use Rattle.base_outside.specs.Transfers.{ReadsCount}
 use Rattle.member_keeper.specs.declared.keeper.Keeper.{Ghosts as Keeping}
 use Rattle.script_reading.specs.declared.clients.Clients.{Clients}
 use Rattle.script_reading.specs.declared.clients.Clients.TheVariants.{Refused}
@@ -19,49 +19,48 @@ use Rattle.report_lines.specs.Kept.{LoadWhatTheyTook, IsNotCleared, answers_by}
 use Rattle.report_lines.specs.Run.{decl_of, in_order, steps_of}
 use Rattle.member_node.specs.Members.{spelled_groups}
 use Rattle.theorem_digests.specs.Digests.{SettlesAgreeByDigests}
-use Rattle.top_call.specs.Asking.{IsAsked, AskNothing, AskReport}
+use Rattle.top_call.specs.Asking.{Reads, IsAsked, AskNothing, AskToRead}
 use Rattle.top_call.specs.Behind.{IsRunBehind, IsNotClearedBehind}
-use Rattle.top_call.specs.Passages.{Passage}
+use Rattle.top_call.specs.Passages.{Passage, ReadsWhole, limit}
+use Rattle.top_call.specs.Upgrading.{EntryCallsFor, HasNoEntry, Upgrades, not_an_envelope_text}
 use Rattle.top_call.specs.declared.words.Asked.{Asked}
-use Rattle.top_call.specs.declared.words.Asked.TheVariants.{Report, Generate, Summarize, Behind}
+use Rattle.top_call.specs.declared.words.Asked.TheVariants.{Report, Generate, Summarize, Behind, Upgrade}
 use Rattle.top_call.specs.declared.status.Status.{Status}
 use Rattle.top_call.specs.declared.status.Status.TheVariants.{Done, NotJson, NotAScript, ReadFailed, WriteFailed, TooLong, Memory, ClearFailed}
 
--- the most bytes of a script
-abbrev pub limit : ℕ
-limit = 8388608
-
 -- ---- what was read
-
--- The source was read to its end, and that were these bytes, not more than a script may have.
-pub record ReadsScript (read : Passage) (bytes : List ℕ) : Type 0 where
-  pub whole : ReadsToEnd read.old read.new bytes
-  pub within : length bytes ≤ limit
 
 -- The source was read to its end, and its bytes spell this script, which has clients only where these are allowed.
 pub record HasScript (clients : Clients) (read : Passage) (script : Script) : Type 0 where
   pub bytes : List ℕ
-  pub is_read : ReadsScript read bytes
+  pub is_read : ReadsWhole read bytes
   pub spelled : Spells clients bytes script
   pub allowed : All (IsAllowed clients) script.steps
 
--- Its bytes are no JSON text.
-abbrev pub HasNoJson : Passage → Type 0
-HasNoJson read = (bytes : List ℕ) × ReadsScript read bytes × HasNoReading bytes
+-- A script was read, and the bytes are no JSON text.
+abbrev pub HasNoJson : Reads → Passage → Type 0
+HasNoJson (Reads.AScript clients) read = (bytes : List ℕ) × ReadsWhole read bytes × HasNoReading bytes
+HasNoJson Reads.AnEntry read = ⊥
 
 -- Its bytes are a JSON text that breaks this rule of scripts, and none before it.
 abbrev pub HasNoScript : Clients → Passage → Rule → Type 0
-HasNoScript clients read broken = (bytes : List ℕ) × ReadsScript read bytes × Breaks clients bytes broken
+HasNoScript clients read broken = (bytes : List ℕ) × ReadsWhole read bytes × Breaks clients bytes broken
 
 -- which rule is broken, and at which step
 abbrev pub not_a_script_text : Rule → List ℕ
 not_a_script_text broken = codes "not a script: step " ++ decimal broken.step ++ codes " rule " ++ decimal broken.number ++ codes "\n"
 
--- Its bytes break a rule of scripts, and this text tells the first such rule.
-abbrev pub TellsRule : Clients → Passage → List ℕ → Type 0
-TellsRule clients read text = (broken : Rule) × HasNoScript clients read broken × (text ≡ not_a_script_text broken)
+-- A script was read, the bytes break a rule of scripts, and this text tells the first such rule.
+abbrev pub TellsRule : Reads → Passage → List ℕ → Type 0
+TellsRule (Reads.AScript clients) read text = (broken : Rule) × HasNoScript clients read broken × (text ≡ not_a_script_text broken)
+TellsRule Reads.AnEntry read text = ⊥
 
--- One byte more was read than a script may have.
+-- A stored entry was read, the bytes are none, and this text tells the place of their first fault.
+abbrev pub TellsPlace : Reads → Passage → List ℕ → Type 0
+TellsPlace (Reads.AScript clients) read text = ⊥
+TellsPlace Reads.AnEntry read text = (place : ℕ) × HasNoEntry read place × (text ≡ not_an_envelope_text place)
+
+-- One byte was read more than the limit.
 abbrev pub IsTooLong : Passage → Type 0
 IsTooLong read = ReadsCount read.old read.new (limit + 1)
 
@@ -77,6 +76,7 @@ AsksForRun (Report clients) read = (script : Script) × HasScript clients read s
 AsksForRun (Generate n) read = ⊥
 AsksForRun (Summarize n) read = Unit {0}
 AsksForRun (Behind n) read = (script : Script) × HasScript Refused read script
+AsksForRun Upgrade read = ⊥
 
 module _ {K : Type 0} (keeping : Keeping K) where
   -- What the settles of a script's run tell is so, and they leave settled worlds, where digests tell apart what members have. The keepers gave these answers.
@@ -105,29 +105,40 @@ module _ {K : Type 0} (keeping : Keeping K) where
   IsOver (Generate n) script before after text = ⊥
   IsOver (Summarize n) script before after text = IsSummaryOver script before after text
   IsOver (Behind n) script before after text = IsReportBehind script before after text
+  IsOver Upgrade script before after text = ⊥
 
-  -- The source was read to its end, its bytes spell a script, and this is the report of the script's run over the keepers.
-  pub record Reports (asked : Asked) (clients : Clients) (read : Passage) (before after : List K) (text : List ℕ) : Type 0 where
+  -- The bytes spell a script, and the text tells of the script's run over the keepers.
+  pub record IsOfScript (asked : Asked) (clients : Clients) (bytes : List ℕ) (before after : List K) (text : List ℕ) : Type 0 where
     pub script : Script
-    pub has : HasScript clients read script
-    pub reported : IsOver asked script before after text
-
-  -- Told bytes were all read and spell a script, and the report of the script's run over the keepers stands behind what was written before.
-  pub record IsReported (asked : Asked) (clients : Clients) (bytes written_before : List ℕ) (left written : Option (List ℕ)) (before after : List K) : Type 0 where
-    pub script : Script
-    pub text : List ℕ
     pub spelled : Spells clients bytes script
     pub allowed : All (IsAllowed clients) script.steps
     pub reported : IsOver asked script before after text
+
+  -- The text is what was asked for of the bytes that were read. To upgrade an entry leaves the keepers as they are.
+  abbrev pub IsOfBytes : Asked → Reads → (bytes : List ℕ) → (before after : List K) → List ℕ → Type 0
+  IsOfBytes asked (Reads.AScript clients) bytes before after text = IsOfScript asked clients bytes before after text
+  IsOfBytes asked Reads.AnEntry bytes before after text = Upgrades bytes text × (after ≡ before)
+
+  -- The source was read to its end, and the text is what was asked for of its bytes.
+  pub record IsOfSource (asked : Asked) (reads : Reads) (read : Passage) (before after : List K) (text : List ℕ) : Type 0 where
+    pub bytes : List ℕ
+    pub is_read : ReadsWhole read bytes
+    pub made : IsOfBytes asked reads bytes before after text
+
+  -- Told bytes were all read, and what was asked for of them stands behind what was written before.
+  pub record IsOfTold (asked : Asked) (reads : Reads) (bytes written_before : List ℕ) (left written : Option (List ℕ)) (before after : List K) : Type 0 where
+    pub text : List ℕ
+    pub made : IsOfBytes asked reads bytes before after text
     pub all_read : left ≡ Some []
     pub all_written : written ≡ Some (written_before ++ text)
 
   -- The text is what was asked for. To generate a script leaves the keepers as they are.
   abbrev pub Fulfils : Asked → Passage → (before after : List K) → List ℕ → Type 0
-  Fulfils (Report clients) read before after text = Reports (Report clients) clients read before after text
+  Fulfils (Report clients) read before after text = IsOfSource (Report clients) (Reads.AScript clients) read before after text
   Fulfils (Generate n) read before after text = (text ≡ generated_text n) × (after ≡ before)
   Fulfils (Summarize n) read before after text = IsSummaryOver (generated_script n) before after text
-  Fulfils (Behind n) read before after text = Reports (Behind n) Refused read before after text
+  Fulfils (Behind n) read before after text = IsOfSource (Behind n) (Reads.AScript Refused) read before after text
+  Fulfils Upgrade read before after text = IsOfSource Upgrade Reads.AnEntry read before after text
 
   -- the keeper of a place failed to be cleared for the run that was asked for
   abbrev pub FailsAt : Asked → ℕ → (before after : List K) → Type 0
@@ -135,6 +146,7 @@ module _ {K : Type 0} (keeping : Keeping K) where
   FailsAt (Generate n) place before after = ⊥
   FailsAt (Summarize n) place before after = IsNotCleared keeping place before after
   FailsAt (Behind n) place before after = IsNotClearedBehind keeping place before after
+  FailsAt Upgrade place before after = ⊥
 
   -- A script's run was asked for, and the keeper of a place failed to be cleared for it; this text says so.
   pub record CannotClear (asked : Asked) (read : Passage) (before after : List K) (text : List ℕ) : Type 0 where
@@ -157,18 +169,24 @@ module _ {K : Type 0} (keeping : Keeping K) where
     fulfilled : (asked : Asked) (text : List ℕ) → IsAsked served asked words → Fulfils asked read before after text → IsTextDue served words read before after text
     not_cleared : (asked : Asked) (text : List ℕ) → IsAsked served asked words → CannotClear asked read before after text → IsTextDue served words read before after text
     bad_words : AskNothing served words → after ≡ before → IsTextDue served words read before after (codes "bad words\n")
-    not_json : (clients : Clients) → AskReport served words clients → HasNoJson read → after ≡ before → IsTextDue served words read before after (codes "not json\n")
-    not_a_script : (clients : Clients) (text : List ℕ) → AskReport served words clients → TellsRule clients read text → after ≡ before → IsTextDue served words read before after text
-    too_long : (clients : Clients) → AskReport served words clients → IsTooLong read → after ≡ before → IsTextDue served words read before after (codes "too long\n")
+    not_json : (reads : Reads) → AskToRead served words reads → HasNoJson reads read → after ≡ before → IsTextDue served words read before after (codes "not json\n")
+    not_a_script : (reads : Reads) (text : List ℕ) → AskToRead served words reads → TellsRule reads read text → after ≡ before → IsTextDue served words read before after text
+    not_an_envelope : (reads : Reads) (text : List ℕ) → AskToRead served words reads → TellsPlace reads read text → after ≡ before → IsTextDue served words read before after text
+    too_long : (reads : Reads) → AskToRead served words reads → IsTooLong read → after ≡ before → IsTextDue served words read before after (codes "too long\n")
 
 -- ---- what bytes call for
 
--- The status that the bytes of a source call for, with clients in the script where these are allowed.
-pub data CallsFor (clients : Clients) (bytes : List ℕ) : Status → Type 0 where
-  done : (script : Script) → length bytes ≤ limit → Spells clients bytes script → CallsFor clients bytes Done
-  not_json : length bytes ≤ limit → HasNoReading bytes → CallsFor clients bytes NotJson
-  not_a_script : (broken : Rule) → length bytes ≤ limit → Breaks clients bytes broken → CallsFor clients bytes NotAScript
-  too_long : limit < length bytes → CallsFor clients bytes TooLong
+-- The status that the bytes of a source call for, where a script is read from it, with clients where these are allowed.
+pub data ScriptCallsFor (clients : Clients) (bytes : List ℕ) : Status → Type 0 where
+  done : (script : Script) → length bytes ≤ limit → Spells clients bytes script → ScriptCallsFor clients bytes Done
+  not_json : length bytes ≤ limit → HasNoReading bytes → ScriptCallsFor clients bytes NotJson
+  not_a_script : (broken : Rule) → length bytes ≤ limit → Breaks clients bytes broken → ScriptCallsFor clients bytes NotAScript
+  too_long : limit < length bytes → ScriptCallsFor clients bytes TooLong
+
+-- by what is read
+abbrev pub CallsFor : Reads → (bytes : List ℕ) → Status → Type 0
+CallsFor (Reads.AScript clients) bytes wanted = ScriptCallsFor clients bytes wanted
+CallsFor Reads.AnEntry bytes wanted = EntryCallsFor bytes wanted
 
 -- This status, unless a count rose at a read, a write or a keeper's start, or memory was refused.
 abbrev pub IsUnlessRefused : Type 0 → Type 0 → Type 0 → Status → Status → Type 0

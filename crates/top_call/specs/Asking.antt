@@ -4,7 +4,7 @@ use Rattle.std.specs.declared.alloc.Global.{Global}
 use Rattle.script_reading.specs.declared.clients.Clients.{Clients}
 use Rattle.script_reading.specs.declared.clients.Clients.TheVariants.{Allowed, Refused}
 use Rattle.top_call.specs.declared.words.Asked.{Asked}
-use Rattle.top_call.specs.declared.words.Asked.TheVariants.{Report, Generate, Summarize, Behind}
+use Rattle.top_call.specs.declared.words.Asked.TheVariants.{Report, Generate, Summarize, Behind, Upgrade}
 
 -- the most steps that a script is generated with, its last two apart
 abbrev pub most_steps : ℕ
@@ -24,13 +24,28 @@ IsCounted (Report clients) = ⊤
 IsCounted (Generate n) = (1 ≤ n) × (n ≤ most_steps)
 IsCounted (Summarize n) = (1 ≤ n) × (n ≤ most_steps)
 IsCounted (Behind n) = (1 ≤ n) × (n ≤ most_period)
+IsCounted Upgrade = ⊤
 
--- Whether the script on the source may have clients, where its report is asked for.
-abbrev pub clients_in : Asked → Option Clients
-clients_in (Report clients) = Some clients
-clients_in (Generate n) = None
-clients_in (Summarize n) = None
-clients_in (Behind n) = Some Refused
+-- What is read from the source: a script, which may have clients or may not, or a stored entry.
+pub data Reads : Type 0 where
+  AScript : Clients → Reads
+  AnEntry : Reads
+
+-- What is read for what is asked, where anything is.
+abbrev pub reads_in : Asked → Option Reads
+reads_in (Report clients) = Some (Reads.AScript clients)
+reads_in (Generate n) = None
+reads_in (Summarize n) = None
+reads_in (Behind n) = Some (Reads.AScript Refused)
+reads_in Upgrade = Some Reads.AnEntry
+
+-- No script is run for it.
+abbrev pub RunsNothing : Asked → Type 0
+RunsNothing (Report clients) = ⊥
+RunsNothing (Generate n) = ⊤
+RunsNothing (Summarize n) = ⊥
+RunsNothing (Behind n) = ⊥
+RunsNothing Upgrade = ⊤
 
 -- The texts of words ask for it. A call that serves no clients is asked for nothing by `run`.
 abbrev pub Ask : (served : Clients) → Asked → List (List ℕ) → Type 0
@@ -40,6 +55,7 @@ Ask Refused (Report Allowed) texts = ⊥
 Ask served (Generate n) texts = (texts ≡ codes "gen" ∷ decimal n ∷ []) × (1 ≤ n) × (n ≤ most_steps)
 Ask served (Summarize n) texts = (texts ≡ codes "sum" ∷ decimal n ∷ []) × (1 ≤ n) × (n ≤ most_steps)
 Ask served (Behind n) texts = (texts ≡ codes "behind" ∷ decimal n ∷ []) × (1 ≤ n) × (n ≤ most_period)
+Ask served Upgrade texts = texts ≡ codes "upgrade" ∷ []
 
 -- what the words ask for
 abbrev pub IsAsked : (served : Clients) → Asked → List (String Global) → Type 0
@@ -49,20 +65,20 @@ IsAsked served asked words = Ask served asked (map string_bytes words)
 abbrev pub AskNothing : (served : Clients) → List (String Global) → Type 0
 AskNothing served words = (asked : Asked) → IsAsked served asked words → ⊥
 
--- they ask for the report of the script on the source, in which clients are allowed or refused
-pub record AskReport (served : Clients) (words : List (String Global)) (clients : Clients) : Type 0 where
+-- they ask for something for which this is read from the source
+pub record AskToRead (served : Clients) (words : List (String Global)) (reads : Reads) : Type 0 where
   pub asked : Asked
   pub is : IsAsked served asked words
-  pub with_clients : clients_in asked ≡ Some clients
+  pub of : reads_in asked ≡ Some reads
 
--- they ask for no such report
-abbrev pub AskNoReport : (served : Clients) → List (String Global) → Type 0
-AskNoReport served words = (asked : Asked) → IsAsked served asked words → clients_in asked ≡ None
+-- they ask for nothing for which the source is read
+abbrev pub AskToReadNothing : (served : Clients) → List (String Global) → Type 0
+AskToReadNothing served words = (asked : Asked) → IsAsked served asked words → reads_in asked ≡ None
 
--- what was asked for, if anything was, is no such report
-abbrev pub IsNoReport : Option Asked → Type 0
-IsNoReport None = ⊤
-IsNoReport (Some asked) = clients_in asked ≡ None
+-- for what was asked, if anything was, the source is not read
+abbrev pub ReadsNothing : Option Asked → Type 0
+ReadsNothing None = ⊤
+ReadsNothing (Some asked) = reads_in asked ≡ None
 
 -- they ask for no run whose stores are written behind
 abbrev pub AskNothingBehind : (served : Clients) → List (String Global) → Type 0

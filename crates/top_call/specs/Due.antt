@@ -8,48 +8,52 @@ use Rattle.script_generated.specs.Texts.{generated_text}
 use Rattle.report_lines.specs.Kept.{AreKept}
 use Rattle.report_lines.specs.declared.playing.Ending.{Ending}
 use Rattle.report_lines.specs.declared.playing.Ending.TheVariants as ending
-use Rattle.script_reading.specs.declared.clients.Clients.{Clients}
-use Rattle.script_reading.specs.declared.clients.Clients.TheVariants.{Refused}
 use Rattle.script_reading.specs.declared.read.ScriptError.{ScriptError}
 use Rattle.script_reading.specs.declared.read.ScriptError.TheVariants as error
-use Rattle.top_call.specs.Answers.{not_a_script_text, HasNoJson, TellsRule, IsTooLong, Fulfils, CannotClear, not_cleared_text, limit}
+use Rattle.top_call.specs.Answers.{not_a_script_text, HasNoJson, TellsRule, TellsPlace, IsTooLong, Fulfils, CannotClear, not_cleared_text}
+use Rattle.top_call.specs.Asking.{Reads, RunsNothing, reads_in}
 use Rattle.top_call.specs.Behind.{untold}
-use Rattle.top_call.specs.Passages.{Passage}
+use Rattle.top_call.specs.Passages.{Passage, limit}
 use Rattle.top_call.specs.declared.due.Due.{Due}
-use Rattle.top_call.specs.declared.due.Due.TheVariants.{Fulfilled, NotCleared, BadWords, NotJson, NotAScript, ReadFailed, TooLong, Memory}
+use Rattle.top_call.specs.declared.due.Due.TheVariants.{Fulfilled, Upgraded, NotCleared, BadWords, NotJson, NotAScript, NotAnEnvelope, ReadFailed, TooLong, Memory}
 use Rattle.top_call.specs.declared.status.Status.{Status}
 use Rattle.top_call.specs.declared.status.Status.TheVariants as status
 use Rattle.top_call.specs.declared.words.Asked.{Asked}
-use Rattle.top_call.specs.declared.words.Asked.TheVariants.{Report, Generate, Summarize, Behind}
+use Rattle.top_call.specs.declared.words.Asked.TheVariants.{Behind}
 
 abbrev pub text_due : Due → List ℕ
 text_due (Fulfilled text) = string_bytes text
+text_due (Upgraded bytes) = bytes.items
 text_due (NotCleared text) = string_bytes text
 text_due BadWords = codes "bad words\n"
 text_due NotJson = codes "not json\n"
 text_due (NotAScript text) = string_bytes text
+text_due (NotAnEnvelope text) = string_bytes text
 text_due ReadFailed = []
 text_due TooLong = codes "too long\n"
 text_due Memory = []
 
 abbrev pub status_due : Due → Status
 status_due (Fulfilled text) = status.Done
+status_due (Upgraded bytes) = status.Done
 status_due (NotCleared text) = status.ClearFailed
 status_due BadWords = status.Usage
 status_due NotJson = status.NotJson
 status_due (NotAScript text) = status.NotAScript
+status_due (NotAnEnvelope text) = status.NotAnEnvelope
 status_due ReadFailed = status.ReadFailed
 status_due TooLong = status.TooLong
 status_due Memory = status.Memory
 
--- Why there is no script, by the source.
-abbrev pub IsRefusal : Clients → Passage → Due → Type 0
-IsRefusal clients read NotJson = HasNoJson read
-IsRefusal clients read (NotAScript text) = TellsRule clients read (string_bytes text)
-IsRefusal clients read ReadFailed = Rose read.faults read.now × ReadsUpTo read.old read.new limit
-IsRefusal clients read TooLong = IsTooLong read
-IsRefusal clients read Memory = Unit {0}
-IsRefusal clients read due = ⊥
+-- Why there is nothing of what is read, by the source.
+abbrev pub IsRefusal : Reads → Passage → Due → Type 0
+IsRefusal reads read NotJson = HasNoJson reads read
+IsRefusal reads read (NotAScript text) = TellsRule reads read (string_bytes text)
+IsRefusal reads read (NotAnEnvelope text) = TellsPlace reads read (string_bytes text)
+IsRefusal reads read ReadFailed = Rose read.faults read.now × ReadsUpTo read.old read.new limit
+IsRefusal reads read TooLong = IsTooLong read
+IsRefusal reads read Memory = Unit {0}
+IsRefusal reads read due = ⊥
 
 -- Why the bytes were not read.
 abbrev pub IsUnread : Passage → Due → Type 0
@@ -78,19 +82,20 @@ IsScriptDue n (Fulfilled text) = string_bytes text ≡ generated_text n
 IsScriptDue n Memory = Unit {0}
 IsScriptDue n due = ⊥
 
+-- A refusal is due where something is read, and leaves the keepers.
+abbrev pub IsRefusedFor : {K : Type 0} → Option Reads → Passage → (before after : List K) → Due → Type 0
+IsRefusedFor None read before after due = ⊥
+IsRefusedFor (Some reads) read before after due = IsRefusal reads read due × (after ≡ before)
+
 module _ {K : Type 0} (keeping : Keeping K) where
   -- When each is due for what was asked. Where no script is run, the keepers stay.
   abbrev pub IsDueFor : Asked → Passage → (before after : List K) → Due → Type 0
   IsDueFor asked read before after (Fulfilled text) = Fulfils keeping asked read before after (string_bytes text)
+  IsDueFor asked read before after (Upgraded bytes) = Fulfils keeping asked read before after bytes.items
   IsDueFor asked read before after (NotCleared text) = CannotClear keeping asked read before after (string_bytes text)
   IsDueFor asked read before after BadWords = ⊥
-  IsDueFor (Report clients) read before after Memory = Unit {0}
-  IsDueFor (Report clients) read before after due = IsRefusal clients read due × (after ≡ before)
-  IsDueFor (Behind n) read before after Memory = Unit {0}
-  IsDueFor (Behind n) read before after due = IsRefusal Refused read due × (after ≡ before)
-  IsDueFor (Generate n) read before after Memory = after ≡ before
-  IsDueFor (Summarize n) read before after Memory = Unit {0}
-  IsDueFor asked read before after due = ⊥
+  IsDueFor asked read before after Memory = RunsNothing asked → after ≡ before
+  IsDueFor asked read before after due = IsRefusedFor (reads_in asked) read before after due
 
   -- When each is due for what was asked, if anything was.
   abbrev pub IsDue : Option Asked → Passage → (before after : List K) → Due → Type 0

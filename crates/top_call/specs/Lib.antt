@@ -7,3 +7,4 @@ pub mod Passages
 pub mod Serving
 pub mod Status
 pub mod Stopping
+pub mod Upgrading

@@ -1,5 +1,6 @@
 -- What a call found and left at its source, its sink and its keepers.
-use Rattle.std.specs.Prelude.{ℕ, List, Option}
+use Rattle.std.specs.Prelude.{ℕ, ◌≤◌, List, length, Option}
+use Rattle.base_outside.specs.Transfers.{ReadsToEnd}
 use Rattle.base_outside.specs.declared.traits.Source.{Ghosts as Sourcing}
 use Rattle.base_outside.specs.declared.traits.Sink.{Ghosts as Sinking}
 
@@ -9,6 +10,15 @@ pub record Passage : Type 0 where
   pub new : Option (List ℕ)
   pub faults : ℕ
   pub now : ℕ
+
+-- the most bytes that are read
+abbrev pub limit : ℕ
+limit = 8388608
+
+-- The source was read to its end, and that were these bytes, not more than are read.
+pub record ReadsWhole (read : Passage) (bytes : List ℕ) : Type 0 where
+  pub whole : ReadsToEnd read.old read.new bytes
+  pub within : length bytes ≤ limit
 
 -- of a source, before a call and after it
 abbrev pub reading : {S : Type 0} → Sourcing S → (source left : S) → Passage

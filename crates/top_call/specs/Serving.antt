@@ -12,10 +12,10 @@ use Rattle.member_keeper.specs.declared.keeper.Keeper.{Ghosts as Keeping}
 use Rattle.script_reading.specs.declared.clients.Clients.{Clients}
 use Rattle.script_reading.specs.declared.clients.Clients.TheVariants.{Allowed}
 use Rattle.report_lines.specs.Kept.{AreKept}
-use Rattle.top_call.specs.Answers.{IsReported, Fulfils, CannotClear, HasNoJson, IsTooLong, TellsRule, SomeRose, IsTextDue, CallsFor, IsUnlessRefused, limit}
-use Rattle.top_call.specs.Asking.{IsAsked, AskNothing, AskReport, AskNothingBehind}
+use Rattle.top_call.specs.Answers.{IsOfTold, Fulfils, CannotClear, HasNoJson, IsTooLong, TellsRule, TellsPlace, SomeRose, IsTextDue, CallsFor, IsUnlessRefused}
+use Rattle.top_call.specs.Asking.{Reads, RunsNothing, IsAsked, AskNothing, AskToRead, AskNothingBehind}
 use Rattle.top_call.specs.Behind.{untold}
-use Rattle.top_call.specs.Passages.{Traffic}
+use Rattle.top_call.specs.Passages.{Traffic, limit}
 use Rattle.top_call.specs.Status.{code_of}
 use Rattle.top_call.specs.declared.status.Status.{Status}
 use Rattle.top_call.specs.declared.status.Status.TheVariants as status
@@ -23,11 +23,11 @@ use Rattle.top_call.specs.declared.words.Asked.{Asked}
 use Rattle.top_call.specs.declared.words.Asked.TheVariants.{Generate, Summarize}
 
 module _ {K : Type 0} (keeping : Keeping K) (t : Traffic K) (served : Clients) (words : List (String Global)) where
-  -- A refusal has the words that ask for the report of the script on the source; the keepers stay, and this was written.
-  pub record Refuses (Why : Clients → Type 0) (text : List ℕ) : Type 0 where
-    pub clients : Clients
-    pub asked : AskReport served words clients
-    pub why : Why clients
+  -- A refusal has words for which the source is read; the keepers stay, and this was written.
+  pub record Refuses (Why : Reads → Type 0) (text : List ℕ) : Type 0 where
+    pub reads : Reads
+    pub asked : AskToRead served words reads
+    pub why : Why reads
     pub kept : t.after ≡ t.before
     pub told : Appends t.written.old t.written.new text
 
@@ -35,28 +35,29 @@ module _ {K : Type 0} (keeping : Keeping K) (t : Traffic K) (served : Clients) (
   abbrev pub Cause : Status → Type 0
   Cause status.Done = (asked : Asked) × (text : List ℕ) × IsAsked served asked words × Fulfils keeping asked t.read t.before t.after text × Appends t.written.old t.written.new text
   Cause status.Usage = AskNothing served words × (t.after ≡ t.before) × Appends t.written.old t.written.new (codes "bad words\n")
-  Cause status.NotJson = Refuses (λ clients. HasNoJson t.read) (codes "not json\n")
-  Cause status.NotAScript = (text : List ℕ) × Refuses (λ clients. TellsRule clients t.read text) text
-  Cause status.ReadFailed = Refuses (λ clients. Rose t.read.faults t.read.now × ReadsUpTo t.read.old t.read.new limit) []
+  Cause status.NotJson = Refuses (λ reads. HasNoJson reads t.read) (codes "not json\n")
+  Cause status.NotAScript = (text : List ℕ) × Refuses (λ reads. TellsRule reads t.read text) text
+  Cause status.NotAnEnvelope = (text : List ℕ) × Refuses (λ reads. TellsPlace reads t.read text) text
+  Cause status.ReadFailed = Refuses (λ reads. Rose t.read.faults t.read.now × ReadsUpTo t.read.old t.read.new limit) []
   Cause status.WriteFailed = Rose t.written.faults t.written.now × ((text : List ℕ) × IsTextDue keeping served words t.read t.before t.after text × AppendsPrefix t.written.old t.written.new text)
-  Cause status.TooLong = Refuses (λ clients. IsTooLong t.read) (codes "too long\n")
+  Cause status.TooLong = Refuses (λ reads. IsTooLong t.read) (codes "too long\n")
   Cause status.Memory = Appends t.written.old t.written.new []
   Cause status.ClearFailed = (asked : Asked) × (text : List ℕ) × IsAsked served asked words × CannotClear keeping asked t.read t.before t.after text × Appends t.written.old t.written.new text
 
   module _ (end : Status) where
-    -- With status `Done` what the words ask for is what the sink's new bytes are: for `plain`, `run` and `behind`, the source was read to its
-    -- end, its bytes spell a script, and they are the report of its run over the keepers.
+    -- With status `Done` what the words ask for is what the sink's new bytes are. For `plain`, `run` and `behind`, the source was read to its
+    -- end, its bytes spell a script, and they are the report of its run over the keepers; for `upgrade` they are an entry, and its format 2.
     pub record IsDone : Type 0 where
       pub done : (asked : Asked) → IsAsked served asked words → end ≡ status.Done → (text : List ℕ) × Fulfils keeping asked t.read t.before t.after text × Appends t.written.old t.written.new text
-      -- the same of a report, where the source tells what it has left and the sink what it took
-      pub told : (clients : Clients) (bytes earlier : List ℕ) (a : AskReport served words clients) → end ≡ status.Done → t.read.old ≡ Some bytes → t.written.old ≡ Some earlier
-          → IsReported keeping a.asked clients bytes earlier t.read.new t.written.new t.before t.after
+      -- the same of what is read, where the source tells what it has left and the sink what it took
+      pub told : (reads : Reads) (bytes earlier : List ℕ) (a : AskToRead served words reads) → end ≡ status.Done → t.read.old ≡ Some bytes → t.written.old ≡ Some earlier
+          → IsOfTold keeping a.asked reads bytes earlier t.read.new t.written.new t.before t.after
 
-    -- What the words call for, and for a report the bytes of a source that tells them, is answered, unless a call fails or memory is refused.
+    -- What the words call for, and where it is read the bytes of a source that tells them, is answered, unless a call fails or memory is refused.
     pub record Answers : Type 0 where
       pub nothing : AskNothing served words → (end ≡ status.Usage) ⊎ (end ≡ status.WriteFailed)
-      pub unrun : (n : ℕ) → IsAsked served (Generate n) words → t.after ≡ t.before
-      pub complete : (clients : Clients) (bytes : List ℕ) (wanted : Status) → AskReport served words clients → t.read.old ≡ Some bytes → CallsFor clients bytes wanted
+      pub unrun : (asked : Asked) → RunsNothing asked → IsAsked served asked words → t.after ≡ t.before
+      pub complete : (reads : Reads) (bytes : List ℕ) (wanted : Status) → AskToRead served words reads → t.read.old ≡ Some bytes → CallsFor reads bytes wanted
           → IsUnlessRefused (Rose t.read.faults t.read.now) (Rose t.written.faults t.written.now) (SomeRose keeping t.before t.after) wanted end
       pub generates : (n : ℕ) → IsAsked served (Generate n) words → IsUnlessRefused ⊥ (Rose t.written.faults t.written.now) ⊥ status.Done end
       pub summarizes : (n : ℕ) → IsAsked served (Summarize n) words → IsUnlessRefused ⊥ (Rose t.written.faults t.written.now) (SomeRose keeping t.before t.after) status.Done end

@@ -1,7 +1,7 @@
 -- The numbers of the statuses.
 use Rattle.std.specs.Prelude.{ℕ}
 use Rattle.top_call.specs.declared.status.Status.{Status}
-use Rattle.top_call.specs.declared.status.Status.TheVariants.{Done, Usage, NotJson, NotAScript, ReadFailed, WriteFailed, TooLong, Memory, ClearFailed}
+use Rattle.top_call.specs.declared.status.Status.TheVariants.{Done, Usage, NotJson, NotAScript, ReadFailed, WriteFailed, TooLong, Memory, ClearFailed, NotAnEnvelope}
 
 abbrev pub code_of : Status → ℕ
 code_of Done = 0
@@ -13,3 +13,4 @@ code_of WriteFailed = 5
 code_of TooLong = 6
 code_of Memory = 7
 code_of ClearFailed = 8
+code_of NotAnEnvelope = 9

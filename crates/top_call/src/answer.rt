@@ -2,14 +2,15 @@ ghost use Rattle.std.specs.Prelude.{◌≡◌, ◌≢◌, ◌≤◌, Some, None,
 ghost use Rattle.script_reading.specs.declared.clients.Clients.{Clients};
 ghost use Rattle.script_reading.specs.WellFormed.{HasNoClients, IsAllowed, IsWellFormed};
 ghost use Rattle.report_lines.specs.Kept.{AreKept, IsPlayed};
-ghost use Rattle.top_call.specs.Answers.{ReadsScript, HasScript, IsReportOver, IsSummaryOver};
-ghost use Rattle.top_call.specs.Asking.{IsCounted, IsNoReport, clients_in, most_steps};
+ghost use Rattle.top_call.specs.Answers.{HasScript, IsReportOver, IsSummaryOver};
+ghost use Rattle.top_call.specs.Asking.{Reads, IsCounted, ReadsNothing, reads_in, most_steps};
 ghost use Rattle.top_call.specs.Due.{IsUnread, IsFaultDue, IsRefusal, IsToldBy, IsScriptDue, IsDueFor, IsDue, ComeBack};
-ghost use Rattle.top_call.specs.Passages.{Passage, reading};
+ghost use Rattle.top_call.specs.Passages.{Passage, ReadsWhole, reading};
 ghost use Rattle.top_call.specs.declared.words.Asked.TheVariants as is_asked;
 
 use crate::behind::behind_due;
 use crate::due::Due;
+use crate::upgrading::upgrade_due;
 use crate::words::Asked;
 use base_outside::{ReadAllError, Source, read_all};
 use data_value::Data;
@@ -19,7 +20,7 @@ use script_generated::{generated, generated_text};
 use script_reading::{Clients, Script, ScriptError, read_script};
 use std::alloc::Global;
 
-/// The most bytes of a script.
+/// The most bytes that are read.
 const LIMIT: usize = 8_388_608;
 
 /// What is due, and the keepers of the places.
@@ -30,8 +31,8 @@ pub struct Answer<K> {
 }
 
 /// The bytes of the source, or what is due in their place.
-fn bytes_of<S: Source>(alloc: Global, source: &mut S) -> Result<Vec<u8>, Due>
-    ensures read { IfOk result (λ bytes. ReadsScript (reading S.Source.own source.old source.new) bytes.items) }
+pub(crate) fn bytes_of<S: Source>(alloc: Global, source: &mut S) -> Result<Vec<u8>, Due>
+    ensures read { IfOk result (λ bytes. ReadsWhole (reading S.Source.own source.old source.new) bytes.items) }
     ensures refused { IfErr result (IsUnread (reading S.Source.own source.old source.new)) }
     ensures later { S.faults source.old ≤ S.faults source.new }
 {
@@ -69,7 +70,7 @@ pub(crate) fn script<S: Source>(
     ensures script { IfOk result (HasScript clients (reading S.Source.own source.old source.new)) }
     ensures bounds { IfOk result IsWellFormed }
     ensures allowed { IfOk result (λ script. All (IsAllowed clients) script.steps) }
-    ensures refused { IfErr result (IsRefusal clients (reading S.Source.own source.old source.new)) }
+    ensures refused { IfErr result (IsRefusal (Reads.AScript clients) (reading S.Source.own source.old source.new)) }
     ensures later { S.faults source.old ≤ S.faults source.new }
 {
     let bytes = match bytes_of(alloc, source) {
@@ -186,7 +187,7 @@ fn due_for<S: Source, K: Keeper + Drop>(
     requires keepers { length keepers.items ≡ 8 }
     ensures due { IsDueFor K.Keeper.own asked (reading S.Source.own source.old source.new) keepers.items result.keepers.items result.due }
     ensures kept { ComeBack K.Keeper.own (Some asked) keepers.items result.keepers.items }
-    ensures unread { clients_in asked ≡ None → source.new ≡ source.old }
+    ensures unread { reads_in asked ≡ None → source.new ≡ source.old }
     ensures later { S.faults source.old ≤ S.faults source.new }
 {
     match asked {
@@ -198,6 +199,7 @@ fn due_for<S: Source, K: Keeper + Drop>(
         },
         Asked::Summarize(n) => summary_due(alloc, n, keepers),
         Asked::Behind(n) => behind_due(alloc, n, source, keepers),
+        Asked::Upgrade => upgrade_due(alloc, source, keepers),
     }
 }
 
@@ -213,7 +215,7 @@ pub(crate) fn due<S: Source, K: Keeper + Drop>(
     requires keepers { length keepers.items ≡ 8 }
     ensures due { IsDue K.Keeper.own asked (reading S.Source.own source.old source.new) keepers.items result.keepers.items result.due }
     ensures kept { ComeBack K.Keeper.own asked keepers.items result.keepers.items }
-    ensures unread { IsNoReport asked → source.new ≡ source.old }
+    ensures unread { ReadsNothing asked → source.new ≡ source.old }
     ensures later { S.faults source.old ≤ S.faults source.new }
 {
     match asked {

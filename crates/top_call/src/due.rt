@@ -5,12 +5,16 @@ use crate::status::Status;
 pub enum Due {
     /// What was asked for: a report, a script, or the end of a run.
     Fulfilled(String),
+    /// What was asked for, where it is no text: a stored entry.
+    Upgraded(Vec<u8>),
     /// The keeper of a place failed to forget what it kept.
     NotCleared(String),
     BadWords,
     NotJson,
     /// A rule of scripts is broken.
     NotAScript(String),
+    /// The bytes are no stored entry.
+    NotAnEnvelope(String),
     ReadFailed,
     TooLong,
     Memory,
@@ -20,16 +24,20 @@ impl Due {
     ghost use Rattle.std.specs.Prelude.{◌≡◌};
     ghost use Rattle.top_call.specs.Due.{text_due, status_due};
 
-    /// The text that is to be written, which ends with a newline or is empty.
-    pub fn text(&self) -> &str
+    /// The bytes that are to be written. Where they are a text, it ends with a newline or is empty.
+    pub fn bytes(&self) -> &[u8]
         ensures { result.now ≡ text_due self.now }
     {
         match self {
-            Due::Fulfilled(text) | Due::NotCleared(text) | Due::NotAScript(text) => text.as_str(),
-            Due::BadWords => "bad words\n",
-            Due::NotJson => "not json\n",
-            Due::TooLong => "too long\n",
-            Due::ReadFailed | Due::Memory => "",
+            Due::Fulfilled(text)
+            | Due::NotCleared(text)
+            | Due::NotAScript(text)
+            | Due::NotAnEnvelope(text) => text.as_bytes(),
+            Due::Upgraded(bytes) => bytes.as_slice(),
+            Due::BadWords => b"bad words\n",
+            Due::NotJson => b"not json\n",
+            Due::TooLong => b"too long\n",
+            Due::ReadFailed | Due::Memory => b"",
         }
     }
 
@@ -38,11 +46,12 @@ impl Due {
         ensures { result ≡ status_due self.now }
     {
         match self {
-            Due::Fulfilled(_) => Status::Done,
+            Due::Fulfilled(_) | Due::Upgraded(_) => Status::Done,
             Due::NotCleared(_) => Status::ClearFailed,
             Due::BadWords => Status::Usage,
             Due::NotJson => Status::NotJson,
             Due::NotAScript(_) => Status::NotAScript,
+            Due::NotAnEnvelope(_) => Status::NotAnEnvelope,
             Due::ReadFailed => Status::ReadFailed,
             Due::TooLong => Status::TooLong,
             Due::Memory => Status::Memory,

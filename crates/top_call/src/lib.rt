@@ -8,6 +8,7 @@ mod laws;
 mod running;
 mod status;
 mod top;
+mod upgrading;
 mod words;
 
 pub use laws::{reads_of_runs_include_writes, settles_of_runs_are_so, the_headline};

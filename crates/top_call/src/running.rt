@@ -3,7 +3,7 @@ ghost use Rattle.script_reading.specs.declared.clients.Clients.{Clients};
 ghost use Rattle.script_reading.specs.WellFormed.{IsWellFormed};
 ghost use Rattle.report_lines.specs.Kept.{AreKept, IsPlayed};
 ghost use Rattle.top_call.specs.Answers.{IsReportOver};
-ghost use Rattle.top_call.specs.Asking.{IsCounted, IsNoReport};
+ghost use Rattle.top_call.specs.Asking.{IsCounted, ReadsNothing};
 ghost use Rattle.top_call.specs.Due.{IsDueFor, IsDue, ComeBack};
 ghost use Rattle.top_call.specs.Passages.{reading};
 ghost use Rattle.top_call.specs.declared.words.Asked.TheVariants as is_asked;
@@ -64,7 +64,7 @@ pub(crate) fn due_with_clients<R: Threads + Wait + Sync, S: Source, K: Keeper + 
     requires keepers { length keepers.items ≡ 8 }
     ensures due { IsDue K.Keeper.own asked (reading S.Source.own source.old source.new) keepers.items result.keepers.items result.due }
     ensures kept { ComeBack K.Keeper.own asked keepers.items result.keepers.items }
-    ensures unread { IsNoReport asked → source.new ≡ source.old }
+    ensures unread { ReadsNothing asked → source.new ≡ source.old }
     ensures later { S.faults source.old ≤ S.faults source.new }
 {
     match asked {

@@ -1,7 +1,7 @@
 /// How a run of the program ended.
 #[derive(Clone, Copy, Debug, PartialEq, Eq)]
 pub enum Status {
-    /// The report was written.
+    /// What was asked for was written.
     Done,
     /// The words of the command line are none that are known.
     Usage,
@@ -13,12 +13,14 @@ pub enum Status {
     ReadFailed,
     /// A write to the sink failed.
     WriteFailed,
-    /// The source has more bytes than a script may have.
+    /// The source has more bytes than are read.
     TooLong,
     /// Memory was refused.
     Memory,
     /// A keeper failed to be cleared at the start.
     ClearFailed,
+    /// The source's bytes are no stored entry.
+    NotAnEnvelope,
 }
 
 impl From<Status> for u8 {
@@ -39,6 +41,7 @@ impl From<Status> for u8 {
             Status::TooLong => 6,
             Status::Memory => 7,
             Status::ClearFailed => 8,
+            Status::NotAnEnvelope => 9,
         }
     }
 }

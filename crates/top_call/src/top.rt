@@ -1,6 +1,6 @@
 ghost use Rattle.std.specs.Prelude.{◌≡◌, ◌≤◌, length};
 ghost use Rattle.script_reading.specs.declared.clients.Clients.{Clients};
-ghost use Rattle.top_call.specs.Asking.{AskNoReport};
+ghost use Rattle.top_call.specs.Asking.{AskToReadNothing};
 ghost use Rattle.top_call.specs.Due.{IsWritten};
 ghost use Rattle.top_call.specs.Passages.{writing, traffic};
 ghost use Rattle.top_call.specs.Serving.{IsDone, Cause, Answers, Returns};
@@ -30,7 +30,7 @@ fn written<K: Sink, D>(sink: &mut K, answer: Answer<D>) -> Outcome<D>
     ensures later { K.faults sink.old ≤ K.faults sink.new }
 {
     let Answer { due, keepers } = answer;
-    match write_all_of(sink, due.text().as_bytes()) {
+    match write_all_of(sink, due.bytes()) {
         Ok(()) => Outcome {
             status: due.status(),
             keepers,
@@ -46,8 +46,9 @@ fn written<K: Sink, D>(sink: &mut K, answer: Answer<D>) -> Outcome<D>
 ///
 /// The words are those behind the program's name. `plain` reads a script without clients from the source, runs it and writes its
 /// report to the sink; `behind N` does so too, with each keeper inside one that hands it `N` stores together. `gen N` writes a
-/// generated script of `N` steps and two, and `sum N` runs it and writes the end of its report. For these two nothing is read. Where what was asked for can't be had it writes one line that says the cause, and
-/// nothing where the source failed or memory was refused.
+/// generated script of `N` steps and two, and `sum N` runs it and writes the end of its report. For these two nothing is read.
+/// `upgrade` reads a stored entry in format 1 or 2 from the source and writes it in format 2, without a newline. Where what was asked
+/// for can't be had it writes one line that says the cause, and nothing where the source failed or memory was refused.
 pub fn replicate_plain<S: Source, K: Sink, D: Keeper + Drop>(
     alloc: Global,
     words: &[String],
@@ -60,7 +61,7 @@ pub fn replicate_plain<S: Source, K: Sink, D: Keeper + Drop>(
     ensures cause { Cause D.Keeper.own (traffic S.Source.own K.Sink.own source.old source.new sink.old sink.new keepers.items result.keepers.items) Clients.Refused words.now result.status }
     ensures answers { Answers D.Keeper.own (traffic S.Source.own K.Sink.own source.old source.new sink.old sink.new keepers.items result.keepers.items) Clients.Refused words.now result.status }
     ensures returns { Returns D.Keeper.own (traffic S.Source.own K.Sink.own source.old source.new sink.old sink.new keepers.items result.keepers.items) Clients.Refused words.now }
-    ensures unread { AskNoReport Clients.Refused words.now → source.new ≡ source.old }
+    ensures unread { AskToReadNothing Clients.Refused words.now → source.new ≡ source.old }
 {
     let asked = asked_by(Clients::Refused, words);
     written(sink, due(alloc, asked, source, keepers))
@@ -82,7 +83,7 @@ pub fn replicate<R: Threads + Wait + Sync, S: Source, K: Sink, D: Keeper + Drop 
     ensures cause { Cause D.Keeper.own (traffic S.Source.own K.Sink.own source.old source.new sink.old sink.new keepers.items result.keepers.items) Clients.Allowed words.now result.status }
     ensures answers { Answers D.Keeper.own (traffic S.Source.own K.Sink.own source.old source.new sink.old sink.new keepers.items result.keepers.items) Clients.Allowed words.now result.status }
     ensures returns { Returns D.Keeper.own (traffic S.Source.own K.Sink.own source.old source.new sink.old sink.new keepers.items result.keepers.items) Clients.Allowed words.now }
-    ensures unread { AskNoReport Clients.Allowed words.now → source.new ≡ source.old }
+    ensures unread { AskToReadNothing Clients.Allowed words.now → source.new ≡ source.old }
 {
     let asked = asked_by(Clients::Allowed, words);
     written(sink, due_with_clients(rt, alloc, asked, source, keepers))

@@ -15,6 +15,8 @@ pub enum Asked {
     Summarize(u32),
     /// The report of the script on the source, which may have no clients, where so many stores are handed on together.
     Behind(u8),
+    /// The stored entry on the source, in format 2.
+    Upgrade,
 }
 
 /// The most steps that a script is generated with, its last two apart.
@@ -45,6 +47,7 @@ fn asked_alone(clients: Clients, word: &str) -> Option<Asked>
     match (clients, word) {
         (_, "plain") => Some(Asked::Report(Clients::Refused)),
         (Clients::Allowed, "run") => Some(Asked::Report(Clients::Allowed)),
+        (_, "upgrade") => Some(Asked::Upgrade),
         _ => None,
     }
 }

@@ -2,7 +2,7 @@ ghost use Rattle.std.specs.Prelude.{◌≡◌, ◌≤◌, length, IsErr, IfOk};
 ghost use Rattle.std.specs.Process.{exit_status};
 ghost use Rattle.script_reading.specs.declared.clients.Clients.{Clients};
 ghost use Rattle.top_call.specs.Status.{code_of};
-ghost use Rattle.top_call.specs.Asking.{AskNoReport};
+ghost use Rattle.top_call.specs.Asking.{AskToReadNothing};
 ghost use Rattle.top_call.specs.Passages.{traffic};
 ghost use Rattle.top_call.specs.Serving.{Exits};
 
@@ -27,13 +27,13 @@ pub(crate) fn outcome<R: Threads + Wait + Sync, S: Source, K: Sink, D: Keeper + 
 ) -> ExitCode
     requires { length keepers.items ≡ 8 }
     ensures serves { IfOk words (λ words. Exits D.Keeper.own (traffic S.Source.own K.Sink.own source.old source.new sink.old sink.new keepers.items) words.items (exit_status result)) }
-    // The source is read for `run`, `plain` and `behind` alone.
-    ensures unread { IfOk words (λ words. AskNoReport Clients.Allowed words.items → source.new ≡ source.old) }
+    // The source is read for `run`, `plain`, `behind` and `upgrade` alone.
+    ensures unread { IfOk words (λ words. AskToReadNothing Clients.Allowed words.items → source.new ≡ source.old) }
 
     // There are no words.
     ensures refused { IsErr words → (exit_status result ≡ code_of Status.Memory) × (source.new ≡ source.old) × (sink.new ≡ sink.old) }
 
-    ensures known { exit_status result ≤ code_of Status.ClearFailed }
+    ensures known { exit_status result ≤ code_of Status.NotAnEnvelope }
 {
     match words {
         Ok(words) => {

@@ -1,3 +1,5 @@
+use data_codec::{CodecError, read_stored};
+use data_value::Data;
 use script_hints::{hint, slip};
 use script_reading::Clients;
 use std::alloc::{AllocError, Global};
@@ -5,7 +7,7 @@ use std::process::ExitCode;
 use top_call::Status;
 
 const USAGE: &str =
-    "bad words: usage: replicator run|plain|behind K < script.json (K: 1 to 64), replicator gen|sum N (N: 1 to 4094)";
+    "bad words: usage: replicator run|plain|behind K < script.json (K: 1 to 64), replicator upgrade < entry, replicator gen|sum N (N: 1 to 4094)";
 
 /// The longest script, in bytes, that is looked through for a slip, since to read it again costs as much as to read it.
 const LONGEST_LOOKED_THROUGH: usize = 8_192;
@@ -15,10 +17,7 @@ const SAID: [(Status, &str); 6] = [
     (Status::Usage, USAGE),
     (Status::ReadFailed, "reading failed"),
     (Status::WriteFailed, "writing failed"),
-    (
-        Status::TooLong,
-        "too long: a script has at most 8388608 bytes",
-    ),
+    (Status::TooLong, "too long: at most 8388608 bytes are read"),
     (Status::Memory, "memory ran out"),
     (
         Status::ClearFailed,
@@ -50,20 +49,33 @@ pub(crate) fn tell<R: Eprint + AllocGlobal>(
             let _ = eprintln!(rt; "{line}");
         }
     }
-    if let Some(line) = bytes.and_then(|bytes| of_script(rt.alloc(), code, clients, bytes)) {
+    if let Some(line) = bytes.and_then(|bytes| of_bytes(rt.alloc(), code, clients, bytes)) {
         let _ = eprintln!(rt; "{line}");
     }
 }
 
 /// What is said of the bytes that were read, where the program ended so.
-fn of_script(alloc: Global, code: ExitCode, clients: Clients, bytes: &[u8]) -> Option<String> {
+fn of_bytes(alloc: Global, code: ExitCode, clients: Clients, bytes: &[u8]) -> Option<String> {
     if is(code, Status::Done) && bytes.len() <= LONGEST_LOOKED_THROUGH {
         slip(alloc, bytes)
     } else if is(code, Status::NotJson) || is(code, Status::NotAScript) {
         hint(alloc, clients, bytes)
+    } else if is(code, Status::NotAnEnvelope) {
+        of_entry(alloc, bytes)
     } else {
         None
     }
+}
+
+/// What is said of bytes that are no stored entry.
+fn of_entry(alloc: Global, bytes: &[u8]) -> Option<String> {
+    let Err(CodecError::NotAnEnvelope(place)) = read_stored::<Data>(alloc, bytes) else {
+        return None;
+    };
+    let count = bytes.len();
+    format!(in alloc;
+        "not an envelope: neither format 1 nor format 2 reads at place {place} (bytes read: {count})"
+    ).ok()
 }
 
 fn is(code: ExitCode, status: Status) -> bool {

@@ -1,4 +1,5 @@
-//! Trials of cells: tallies with a shelf that may fail, to which two clients add in a thread each.
+//! Trials of cells: tallies with a shelf that may fail, to which two clients add in a thread each; and what two turns take at
+//! the members of a world.
 //!
 //! # What is promised, and by which contract
 //!
@@ -9,6 +10,9 @@
 #![tactic(auto)]
 
 pub mod clients;
+pub mod hearing;
+#[cfg(test)]
+mod hearing_tests;
 pub mod locked;
 pub mod shelf;
 pub mod tally;

@@ -17,4 +17,6 @@ mod member;
 #[cfg(test)]
 mod spellings;
 #[cfg(test)]
+mod stored;
+#[cfg(test)]
 mod tests;

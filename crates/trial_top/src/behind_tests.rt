@@ -5,6 +5,7 @@ ghost use Rattle.std.specs.Prelude.{◌≡◌, ◌≤◌, length};
 use crate::rows::{keepers, streams, words};
 use crate::running::called;
 use member_keeper::{Keeper, MemoryKeeper};
+use sha1::Sha1;
 use std::alloc::Global;
 use std::process::Abort;
 use std::test::Fail;
@@ -60,10 +61,10 @@ fn called_for<D: Keeper + Drop>(
     })
 }
 
-/// The spelling of a growing counter, of how many records each identity has and of their sums.
-fn spelled(alloc: Global, counts: &[(u8, u64, u64)]) -> Result<Vec<u8>, Fail> {
+/// What is stored of a growing counter, of how many records each identity has and of their sums.
+fn stored(alloc: Global, counts: &[(u8, u64, u64)]) -> Result<Vec<u8>, Fail> {
     let count = (counts.len() % 256) as u8;
-    let mut bytes = Vec::from_slice(alloc, &[1, 1, 0, count])?;
+    let mut bytes = Vec::from_slice(alloc, &[2, 1, 0, count])?;
     for (id, records, _sum) in counts {
         bytes.push(*id)?;
         bytes.extend_from_slice(&records.to_be_bytes())?;
@@ -73,10 +74,12 @@ fn spelled(alloc: Global, counts: &[(u8, u64, u64)]) -> Result<Vec<u8>, Fail> {
         bytes.push(*id)?;
         bytes.extend_from_slice(&sum.to_be_bytes())?;
     }
+    let seal = Sha1::digest(&bytes);
+    bytes.extend_from_slice(&seal)?;
     Ok(bytes)
 }
 
-/// The keeper of place 0 has the spelling of this counter at `d`, and nothing else.
+/// The keeper of place 0 has what is stored of this counter at `d`, and nothing else.
 fn check_kept<R: Abort>(
     rt: &R,
     alloc: Global,
@@ -88,10 +91,10 @@ fn check_kept<R: Abort>(
     };
     let entries = keeper.entries();
     assert_eq!(rt; entries.len(), 1);
-    let spelled = spelled(alloc, counts)?;
+    let stored = stored(alloc, counts)?;
     for entry in entries {
         assert_eq!(rt; entry.key.as_str(), "d");
-        assert!(rt; entry.bytes.as_slice() == spelled.as_slice());
+        assert!(rt; entry.bytes.as_slice() == stored.as_slice());
     }
     Ok(())
 }

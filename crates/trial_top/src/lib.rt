@@ -1,5 +1,6 @@
 //! Trials of the top call, from the words to what is written: scripts and their reports by the word `plain`, scripts with
-//! clients by `run`, in the runtime's threads, stores that are written behind, generated scripts, and what fails.
+//! clients by `run`, in the runtime's threads, stores that are written behind, stored entries in both formats, generated scripts, and what
+//! fails.
 #![tactic(auto)]
 
 #[cfg(test)]
@@ -27,6 +28,8 @@ mod levels_tests;
 #[cfg(test)]
 mod limits_tests;
 #[cfg(test)]
+mod loading;
+#[cfg(test)]
 mod many_tests;
 #[cfg(test)]
 mod meeting_tests;
@@ -46,6 +49,8 @@ mod rows;
 mod running;
 #[cfg(test)]
 mod settle_tests;
+#[cfg(test)]
+mod upgrade_tests;
 #[cfg(test)]
 mod words_tests;
 #[cfg(test)]

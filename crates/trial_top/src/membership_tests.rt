@@ -1,8 +1,5 @@
-ghost use Rattle.std.specs.Prelude.{◌≡◌, length, IfOk};
-
+use crate::loading::loading_keepers;
 use crate::rows::{MANY, Section, check, compare, compare_built, keepers, printed};
-use base_bytes::{Items, Text};
-use member_keeper::{Keeper, KeeperError, Stored};
 use std::alloc::Global;
 use std::test::Fail;
 use top_call::Status;
@@ -206,55 +203,6 @@ member 2 place 1 view 2
 d - known - marks -
 "#;
 
-// A keeper that tells nothing, and loads one byte for `d`, whatever was stored.
-#[derive(Drop)]
-struct LyingKeeper {
-    alloc: Global,
-}
-
-impl Keeper for LyingKeeper {
-    ghost use Rattle.std.specs.Prelude.{None, refl};
-
-    ghost table = { λ _. None };
-
-    ghost answers = { λ _. None };
-
-    ghost faults = { λ _. 0 };
-
-    ghost tells_alike = { λ _ _. refl };
-
-    fn store(&mut self, _entries: &[Stored]) -> Result<(), KeeperError> {
-        Ok(())
-    }
-
-    fn load(&mut self) -> Result<Vec<Stored>, KeeperError> {
-        let Ok(key) = Text::new("d") else {
-            return Err(KeeperError::Memory);
-        };
-        let mut bytes = Items::new(self.alloc);
-        bytes.push(0xff)?;
-        let mut loaded = Vec::new(self.alloc);
-        match loaded.push(Stored { key, bytes }) {
-            Ok(()) => Ok(loaded),
-            Err(_) => Err(KeeperError::Memory),
-        }
-    }
-
-    fn clear(&mut self) -> Result<(), KeeperError> {
-        Ok(())
-    }
-}
-
-fn lying_keepers(alloc: Global) -> Result<Vec<LyingKeeper>, Fail>
-    ensures { IfOk result (λ keepers. length keepers.items ≡ 8) }
-{
-    let mut keepers = Vec::new(alloc);
-    for _place in 0_u8..8 {
-        keepers.push(LyingKeeper { alloc })?;
-    }
-    Ok(keepers)
-}
-
 #[test]
 fn members_leave_join_and_restart(rt: HostRuntime) -> Result<(), Fail> {
     let alloc = rt.alloc();
@@ -278,7 +226,7 @@ fn members_leave_join_and_restart(rt: HostRuntime) -> Result<(), Fail> {
 #[test]
 fn what_is_loaded_may_be_damaged(rt: HostRuntime) -> Result<(), Fail> {
     let alloc = rt.alloc();
-    let answer = printed(alloc, FAILING_STORE, lying_keepers(alloc)?)?;
+    let answer = printed(alloc, FAILING_STORE, loading_keepers(alloc, &[0xff])?)?;
     check(&rt, &answer, Status::Done, DAMAGED_REPORT.as_bytes(), 1);
     Ok(())
 }

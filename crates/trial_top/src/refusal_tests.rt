@@ -336,15 +336,22 @@ fn spaces(alloc: Global, length: usize) -> Result<Streams, Fail> {
 }
 
 #[test]
-fn bounds_the_script(rt: HostRuntime) -> Result<(), Fail> {
+fn bounds_what_is_read(rt: HostRuntime) -> Result<(), Fail> {
     let alloc = rt.alloc();
     let rows = [
-        (8_388_608, Status::NotJson, "not json\n"),
-        (8_388_609, Status::TooLong, "too long\n"),
+        ("plain", 8_388_608, Status::NotJson, "not json\n"),
+        ("plain", 8_388_609, Status::TooLong, "too long\n"),
+        (
+            "upgrade",
+            8_388_608,
+            Status::NotAnEnvelope,
+            "not an envelope: place 0\n",
+        ),
+        ("upgrade", 8_388_609, Status::TooLong, "too long\n"),
     ];
-    for (length, outcome, text) in rows {
+    for (line, length, outcome, text) in rows {
         let streams = spaces(alloc, length)?;
-        let answer = answered(alloc, "plain", streams, keepers(alloc, 0, &[])?)?;
+        let answer = answered(alloc, line, streams, keepers(alloc, 0, &[])?)?;
         check(&rt, &answer, outcome, text.as_bytes(), length);
     }
     Ok(())

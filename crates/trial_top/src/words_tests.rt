@@ -5,7 +5,7 @@ use std::alloc::Global;
 use std::test::Fail;
 use top_call::Status;
 
-const BAD_WORDS: [&str; 34] = [
+const BAD_WORDS: [&str; 37] = [
     "",
     "plain ",
     "plain extra",
@@ -40,6 +40,9 @@ const BAD_WORDS: [&str; 34] = [
     "behind +2",
     "behind 2 2",
     "2 behind",
+    "Upgrade",
+    "upgrade 1",
+    "upgrade upgrade",
 ];
 
 const GENERATED: &str =

@@ -2,7 +2,7 @@ use Rattle.std.proofs.Common.{◌≡◌, false, [], ◌∷◌, ◌++◌, length,
 use Rattle.member_node.proofs.Common.{History, is_unchanged, StandsFor, parts_of}
 use Rattle.model_members.specs.Entry.{Entry}
 use Rattle.member_keeper.specs.declared.stored.Stored.{Stored}
-use Rattle.data_codec.specs.Entries.{entry_spelled}
+use Rattle.data_codec.specs.Stored.{entry_stored}
 use Rattle.member_node.specs.Stores.{spelled_entry}
 use Rattle.member_node.specs.Storing.{stored_of}
 use Rattle.member_node.proofs.Standing.{on_ok}
@@ -32,14 +32,14 @@ returns-clause-spelled g c = λ log old new s t.
     let state = c.args.state.now in
     let other : is_unchanged old new ≡ false = sym (c.is_unchanged.ensures.image log old new (subst (λ entry. StandsFor g.T.Replica.IsDataOf (parts_of entry) log old) (sym c.envelope.ensures) s) t) ∙ c.if-is_unchanged.false in
     let one = stored_one state old new c.if-not-state.false other in
-    let bytes = c.from_vec-bytes.ensures ∙ c.in_ok-spell.ensures.image log new t ∙ ap (λ kind. entry_spelled g.T.SpelledData.history_byte g.T.SpelledData.history_spelled kind new) c.requires in
+    let bytes = c.from_vec-bytes.ensures ∙ c.in_ok-spell_stored.ensures.image log new t ∙ ap (λ kind. entry_stored g.T.SpelledData.history_byte g.T.SpelledData.history_spelled kind new) c.requires in
     let item : Stored = record { key = c.copied-key.result; bytes = c.from_vec-bytes.result } in
-    let same : record { key = c.copied-key.result; bytes = c.from_vec-bytes.result } ≡ record { key = state.name; bytes = entry_spelled g.T.SpelledData.history_byte g.T.SpelledData.history_spelled state.kind new } = λ i. record { key = c.copied-key.ensures i; bytes = bytes i } in
+    let same : record { key = c.copied-key.result; bytes = c.from_vec-bytes.result } ≡ record { key = state.name; bytes = entry_stored g.T.SpelledData.history_byte g.T.SpelledData.history_spelled state.kind new } = λ i. record { key = c.copied-key.ensures i; bytes = bytes i } in
     on_ok c.push.result (λ pushed. pushed ∙ ap (λ x. c.args.stores.now ++ x ∷ []) same ∙ sym (ap (λ ks. c.args.stores.now ++ map (spelled_entry g.T.SpelledData) ks) one)) c.push.ensures.ok
 
 pub returns-clause-kept : goal.returns-clause-kept
 returns-clause-kept g c = λ log old new k s t below.
-    holds c.push.result (record { parts = parts_of c.args.entry.now; of_kind = c.requires; image = t; readable = c.in_ok-spell.ensures.readable })
+    holds c.push.result (record { parts = parts_of c.args.entry.now; of_kind = c.requires; image = t; readable = c.in_ok-spell_stored.ensures.readable })
   where
     holds : {X E P : Type 0} (result : Result X E) → P → OnOk result P
     holds (Ok x) p = p

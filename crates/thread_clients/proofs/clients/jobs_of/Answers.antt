@@ -1,4 +1,4 @@
-use Rattle.std.proofs.Common.{◌≡◌, ◌∙◌, ap, map, false, arith, length}
+use Rattle.std.proofs.Common.{replicate, ◌≡◌, ◌∙◌, ap, map, false, arith, length}
 use Rattle.std.proofs.lemmas.Iterator.Adapters.{YieldsList-from_vec}
 use Rattle.std.proofs.lemmas.Iterator.Consumers.{YieldsList-end}
 use Rattle.thread_clients.specs.Playing.{job_of}
@@ -16,7 +16,7 @@ push_reserved-requires g c = let r = c.loop-session.invariant.room in let s = c.
 
 pub loop-session-preserved : goal.loop-session-preserved
 loop-session-preserved g c = record {
-  items = pushed_more job_of c.loop-session.jobs.items c.push_reserved.new.self.items c.loop-session.yielded c.in-Some.session _ c.loop-session.invariant.items c.push_reserved.ensures.items (ap (λ ls. record { session = c.in-Some.session; lines = ls; complete = false }) c.new.ensures);
+  items = pushed_more job_of c.loop-session.jobs.items c.push_reserved.new.self.items c.loop-session.yielded c.in-Some.session _ c.loop-session.invariant.items c.push_reserved.ensures.items (ap (λ ls. record { session = c.in-Some.session; lines = ls; complete = false; apart = replicate 16 0 }) c.new.ensures);
   room = let l = c.push_reserved.ensures.len in let k = c.push_reserved.ensures.capacity in let r = c.loop-session.invariant.room in let s = c.in-Some.ensures.steps.1 in omega arith;
 }
 

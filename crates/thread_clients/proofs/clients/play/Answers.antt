@@ -6,11 +6,11 @@ use Rattle.thread_clients.proofs.clients.play.Goals as goal
 pub returns-in-Ok : goal.returns-in-Ok
 returns-in-Ok g c =
     let commands = c.index-clients-number.result in
-    one_played _ g.N.Section.ids c.args.cluster.now.views g.N.Name.table c.args.clients.now c.args.number commands c.args.job.now _
+    one_played _ g.N.Section.ids c.args.desk.now.cluster.now.views g.N.Name.table c.args.clients.now c.args.number commands c.args.job.now _
     (slice_get-get_or c.args.clients.now c.args.number commands c.requires.client ∙ ap Some (sym c.index-clients-number.is)) c.in-Ok.ensures.table c.in-Ok.ensures.goes_on (λ e. c.in-Ok.ensures.ok)
 
 pub returns-in-Err : goal.returns-in-Err
 returns-in-Err g c =
     let commands = c.index-clients-number.result in
-    one_played _ g.N.Section.ids c.args.cluster.now.views g.N.Name.table c.args.clients.now c.args.number commands c.args.job.now _
+    one_played _ g.N.Section.ids c.args.desk.now.cluster.now.views g.N.Name.table c.args.clients.now c.args.number commands c.args.job.now _
     (slice_get-get_or c.args.clients.now c.args.number commands c.requires.client ∙ ap Some (sym c.index-clients-number.is)) c.in-Err.ensures.table c.in-Err.ensures.goes_on (λ e. absurd cc)

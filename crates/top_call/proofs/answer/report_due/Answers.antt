@@ -1,6 +1,7 @@
-use Rattle.std.proofs.Common.{sym, subst}
+use Rattle.std.proofs.Common.{refl, sym, subst}
 use Rattle.script_reading.specs.declared.clients.Clients.TheVariants.{Refused}
 use Rattle.report_lines.specs.Kept.{AreKept}
+use Rattle.top_call.specs.Asking.{Reads}
 use Rattle.top_call.specs.Due.{IsDueFor}
 use Rattle.top_call.specs.Passages.{reading}
 use Rattle.top_call.specs.declared.words.Asked.TheVariants.{Report}
@@ -16,4 +17,4 @@ pub returns-in-Ok-clause-kept : goal.returns-in-Ok-clause-kept
 returns-in-Ok-clause-kept g c = subst (λ keepers. AreKept g.K.Keeper c.args.keepers.items keepers.items) (sym c.told.ensures.keepers) c.play.ensures.kept
 
 pub returns-in-Err-clause-due : goal.returns-in-Err-clause-due
-returns-in-Err-clause-due g c = refusal_due g.K.Keeper Refused _ c.args.keepers.items c.in-Err.due c.in-Err.ensures.refused
+returns-in-Err-clause-due g c = refusal_due g.K.Keeper (Report Refused) (Reads.AScript Refused) refl _ c.args.keepers.items c.in-Err.due c.in-Err.ensures.refused

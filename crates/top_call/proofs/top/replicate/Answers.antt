@@ -2,7 +2,7 @@ use Rattle.std.proofs.Common.{sym, subst}
 use Rattle.script_reading.specs.declared.clients.Clients.TheVariants.{Allowed}
 use Rattle.top_call.specs.Due.{IsDue, ComeBack}
 use Rattle.top_call.specs.Passages.{reading, traffic}
-use Rattle.top_call.proofs.Called.{Called, has_cause, is_done, answers_all, returned, no_report}
+use Rattle.top_call.proofs.Called.{Called, has_cause, is_done, answers_all, returned, reads_nothing}
 use Rattle.top_call.proofs.top.replicate.Given as given
 use Rattle.top_call.proofs.top.replicate.Goals as goal
 
@@ -31,4 +31,4 @@ returns-clause-returns g c =
     (subst (λ keepers. ComeBack g.D.Keeper c.asked_by-asked.result c.args.keepers.items keepers.items) (sym c.written.ensures.keepers) c.due_with_clients.ensures.kept) c.due_with_clients.ensures.later c.written.ensures.later
 
 pub returns-clause-unread : goal.returns-clause-unread
-returns-clause-unread g c = λ none. c.due_with_clients.ensures.unread (no_report Allowed c.args.words.now c.asked_by-asked.result c.asked_by-asked.ensures.asked none)
+returns-clause-unread g c = λ none. c.due_with_clients.ensures.unread (reads_nothing Allowed c.args.words.now c.asked_by-asked.result c.asked_by-asked.ensures.asked none)

@@ -3,7 +3,7 @@ use Rattle.script_reading.specs.declared.clients.Clients.TheVariants.{Allowed, R
 use Rattle.top_call.specs.Due.{IsDue, ComeBack}
 use Rattle.top_call.specs.Passages.{reading, traffic}
 use Rattle.top_call.specs.declared.words.Asked.TheVariants.{Report}
-use Rattle.top_call.proofs.Called.{Called, has_cause, is_done, answers_all, returned, no_report}
+use Rattle.top_call.proofs.Called.{Called, has_cause, is_done, answers_all, returned, reads_nothing}
 use Rattle.top_call.proofs.top.replicate_plain.Given as given
 use Rattle.top_call.proofs.top.replicate_plain.Goals as goal
 
@@ -35,4 +35,4 @@ returns-clause-returns g c =
     (subst (λ keepers. ComeBack g.D.Keeper c.asked_by-asked.result c.args.keepers.items keepers.items) (sym c.written.ensures.keepers) c.due.ensures.kept) c.due.ensures.later c.written.ensures.later
 
 pub returns-clause-unread : goal.returns-clause-unread
-returns-clause-unread g c = λ none. c.due.ensures.unread (no_report Refused c.args.words.now c.asked_by-asked.result c.asked_by-asked.ensures.asked none)
+returns-clause-unread g c = λ none. c.due.ensures.unread (reads_nothing Refused c.args.words.now c.asked_by-asked.result c.asked_by-asked.ensures.asked none)

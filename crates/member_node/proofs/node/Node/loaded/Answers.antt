@@ -9,7 +9,8 @@ use Rattle.member_node.specs.declared.restoring.Unfit.{Unfit}
 use Rattle.member_node.specs.Loading.{IsFirstUnsound}
 use Rattle.member_node.specs.Restoring.{IfDamaged}
 use Rattle.member_node.proofs.Standing.{same_otherwise}
-use Rattle.member_node.proofs.Restorings.{few_loaded, unpruned_loaded, logged_loaded, kinds_loaded, names_loaded, once_spelled, stands_loaded, never_unsound}
+use Rattle.data_codec.proofs.Seals.{stored_once}
+use Rattle.member_node.proofs.Restorings.{few_loaded, unpruned_loaded, logged_loaded, kinds_loaded, names_loaded, stands_loaded, never_unsound}
 use Rattle.member_node.proofs.node.Node.loaded.Goals as goal
 
 -- what was loaded is the table that is told
@@ -62,7 +63,7 @@ pub returns-in-Ok-restored-clause-stands : goal.returns-in-Ok-restored-clause-st
 returns-in-Ok-restored-clause-stands g c = λ kinds logs table store e have_kinds histories spells.
     let R = g.T.Replica in
     let S = g.T.SpelledData in
-    let once = once_spelled S.is_known S.read_in S.byte_of S.spelled S.IsSound R.mentioned
+    let once = stored_once S.is_known S.read_in S.byte_of S.spelled S.IsSound R.mentioned
     (record { takes = g.met.T.SpelledData.read_is_spelled; again = g.met.T.SpelledData.spelled_is_read; known = g.met.T.SpelledData.byte_is_known }) in
     let states = c.in-Ok-restored.keys.items in
     let same = c.in-Ok-restored.ensures.declared ∙ ap (map declared_by) c.deref.ensures.value in

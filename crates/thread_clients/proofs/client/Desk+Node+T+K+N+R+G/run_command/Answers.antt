@@ -3,7 +3,7 @@ use Rattle.thread_clients.proofs.Settled.{made_reply, made_refusal, runs_here, m
 use Rattle.thread_clients.proofs.client.Desk+Node+T+K+N+R+G.run_command.Goals as goal
 
 pub answered-requires-clause-runs : goal.answered-requires-clause-runs
-answered-requires-clause-runs g c = λ κs outlive. runs_here _ g.N.Section.ids c.args.self.now.cluster.now.views c.args.command.now c.args.session.now c.call-result.new.session c.in-Ok.receipt c.in-Ok.ensures.called.ok
+answered-requires-clause-runs g c = runs_here _ g.N.Section.ids c.args.self.now.cluster.now.views c.args.command.now c.args.session.now c.call-result.new.session c.in-Ok.receipt c.in-Ok.ensures.called.ok
 
 pub returns-in_err-line-in-Ok-clause-goes_on : goal.returns-in_err-line-in-Ok-clause-goes_on
 returns-in_err-line-in-Ok-clause-goes_on g c =

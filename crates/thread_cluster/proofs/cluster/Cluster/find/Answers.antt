@@ -1,16 +1,16 @@
-use Rattle.std.proofs.Common.{◌≡◌, ◌≢◌, ℕ, Some, ◌∙◌, subst, rules}
-use Rattle.thread_cluster.proofs.Telling.{nowhere_more, nowhere_but, nowhere_without}
-use Rattle.thread_cluster.proofs.cluster.Cluster.find.Goals.{in-Some+else-eq, in_default}
+use Rattle.std.proofs.Common.{◌≡◌, false, Some, ap, ◌∙◌}
+use Rattle.std.specs.Prelude.{is_some}
+use Rattle.thread_cluster.specs.Knowing.{IsNowhere}
+use Rattle.thread_cluster.specs.Sites.{place_of}
+use Rattle.thread_cluster.proofs.Lists.{if_some, if_none}
+use Rattle.thread_cluster.proofs.Telling.{none_some}
 use Rattle.thread_cluster.proofs.cluster.Cluster.find.Goals as goal
 
-pub loop-place-preserved : goal.loop-place-preserved
-loop-place-preserved g c =
-    let ids = g.N.Section.ids in
-    let place = c.loop-place.place in
-    let here : ids place ≢ Some c.args.id = elim c.match-site.branch [
-      | in-Some+else-eq w ↦
-          let differs : w.peer.result.now.id ≢ c.args.id = search rules in
-          nowhere_but ids c.args.id w.peer.result.now.id place (subst (λ (k : ℕ). ids k ≡ Some w.peer.result.now.id) (w.peer.ensures ∙ w.in-Some.ensures.some) w.peer.result.now.stands) differs
-      | in_default w ↦ nowhere_without ids c.args.id place w.in_default.ensures.none
-    ] in
-    nowhere_more ids c.args.id place c.loop-place.invariant here
+pub returns-in-Some-clause-some : goal.returns-in-Some-clause-some
+returns-in-Some-clause-some g c =
+    if_some c.site.result (λ s. place_of s ≡ c.in-Some.place) (λ s. g.N.Section.ids (place_of s) ≡ Some c.args.id) (λ s is. ap g.N.Section.ids is ∙ c.in-Some.ensures.some) c.site.ensures.some
+
+pub returns-in-Some-clause-none : goal.returns-in-Some-clause-none
+returns-in-Some-clause-none g c =
+    if_none c.site.result (is_some (g.N.Section.ids c.in-Some.place) ≡ false) (IsNowhere g.N.Section.ids c.args.id)
+    (λ none. absurd (none_some (g.N.Section.ids c.in-Some.place) c.args.id none c.in-Some.ensures.some)) c.site.ensures.none

@@ -1,21 +1,16 @@
-use Rattle.std.proofs.Common.{◌≡◌, ◌+◌, suc, length, take, ap, add-one, arith}
+use Rattle.std.proofs.Common.{ap, ◌∙◌}
+use Rattle.std.specs.Prelude.{slice_index}
 use Rattle.thread_cell.specs.Lists.{at}
-use Rattle.thread_cluster.specs.Passing.{at_one, takes}
-use Rattle.thread_cluster.proofs.Posts.{passed_count, at_this}
+use Rattle.thread_cluster.proofs.Books.{heard_at}
+use Rattle.thread_cluster.proofs.Telling.{inside}
 use Rattle.thread_cluster.proofs.locked.Locked.count.Goals as goal
 
-pub loop-i-preserved : goal.loop-i-preserved
-loop-i-preserved g c =
-    let h = at c.self.inside.cell.seen.known g.P.Spot.PLACE in
-    let from = g.N.Section.ids c.args.from.now.place in
-    let x = c.entry.result.now in
-    let so_far : c.loop-i.count ≡ length (takes g.M.Member.taken from (take c.loop-i.i h)) = rw c.self.view_is c.loop-i.invariant.count in
-    let step : length (takes g.M.Member.taken from (take (suc c.loop-i.i) h)) ≡ length (takes g.M.Member.taken from (take c.loop-i.i h)) + length (at_one g.M.Member.taken from x.input) =
-    passed_count (λ e. at_one g.M.Member.taken from e.input) h c.loop-i.i x c.entry.ensures in
-    let this : length (at_one g.M.Member.taken from x.input) ≡ length (g.M.Member.taken c.args.from.now.id x.input) =
-    ap length (at_this g.M.Member.taken from c.args.from.now.id x.input c.args.from.now.stands) in
-    let one = c.taken_in-count.ensures.one in
-    let is = c.taken_in-count.ensures.taken in record {
-      count = rw (add-one, ← c.self.view_is) (omega arith);
-      few = let f = c.loop-i.invariant.few in omega arith;
-    }
+pub bounds-counts-from : goal.bounds-counts-from
+bounds-counts-from g c = inside g.N.Section.ids c.self.invariant.1.within c.args.from.now.place c.args.from.now.id c.args.from.now.stands
+
+pub returns : goal.returns
+returns g c =
+    let place = c.args.from.now.place in
+    let lt = inside g.N.Section.ids c.self.invariant.1.within place c.args.from.now.id c.args.from.now.stands in
+    rw (← c.self.view_is)
+    (ap (λ w. slice_index w.heard place) c.counts-counts.ensures ∙ (heard_at g.M.Member.posted g.M.Member.taken g.N.Section.ids (at c.self.inside.cell.seen.known g.P.Spot.PLACE) c.self.inside.book c.self.invariant.1 place lt).0)

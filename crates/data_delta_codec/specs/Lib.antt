@@ -1,0 +1,10 @@
+pub mod Counters
+pub mod CounterLaws
+pub mod Growing
+pub mod GrowingLaws
+pub mod Sets
+pub mod SetLaws
+pub mod Values
+pub mod ValueLaws
+pub mod Data
+pub mod DataLaws

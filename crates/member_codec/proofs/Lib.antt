@@ -1,0 +1,9 @@
+pub mod Putting
+pub mod SameKeyed
+pub mod Changes
+pub mod Bodies
+pub mod Whole
+pub mod ViewPlaces
+pub mod WholeViews
+pub mod SentMessages
+pub mod ViewParts

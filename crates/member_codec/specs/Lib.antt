@@ -1,0 +1,15 @@
+pub mod Answers
+pub mod Identities
+pub mod IdentityLaws
+pub mod Numbers
+pub mod NumberLaws
+pub mod Keyed
+pub mod KeyedLaws
+pub mod EntryLaws
+pub mod Groups
+pub mod GroupLaws
+pub mod Messages
+pub mod MessageLaws
+pub mod Views
+pub mod ViewLaws
+pub mod ViewTests

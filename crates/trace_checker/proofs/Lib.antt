@@ -1,0 +1,10 @@
+pub mod ListPlaces
+pub mod RowLaws
+pub mod Cutting
+pub mod PruneTests
+pub mod RuleTests
+pub mod Recording
+pub mod LeastRules
+pub mod Counted
+pub mod Traced
+pub mod Judging

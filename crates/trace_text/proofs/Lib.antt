@@ -1,0 +1,6 @@
+mod Names
+mod Lists
+mod Pairs
+mod LineTexts
+mod NoFloats
+mod Again
