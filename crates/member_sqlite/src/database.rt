@@ -1,12 +1,17 @@
-ghost use Rattle.std.specs.Prelude.{◌≡◌, ◌↔◌, OnOk};
-ghost use Rattle.member_sqlite.specs.Causes.{IsWantOfMemory};
-ghost use Rattle.member_sqlite.specs.Rows.{AnswersAll};
+ghost use Rattle.std.specs.Prelude.{IfOk, IfErr, MatchResult};
+ghost use Rattle.sqlite.specs.Steps.{over_memory};
+ghost use Rattle.member_sqlite.specs.Statements.{IsMade, IsUnmade};
+ghost use Rattle.member_sqlite.specs.Asked.{PutsAll, FindsAll, DeletesAll, IsOpened, IsUnopened};
 
+use crate::causes::{Refusal, refusal_of};
 use crate::rows::are_rows;
+use crate::statements::{prepare, put, run, run_to};
+use crate::together::put_together;
+use crate::writes::Writes;
 use member_keeper::Stored;
-use sqlite::{Connection, Error, ErrorCode, MemStore, Statement, Transaction, params};
-use sqlite_resolve::CompileError;
-use std::alloc::{AllocError, Global};
+use sqlite::{Connection, MemStore};
+use std::alloc::Global;
+use std::marker::Model;
 
 const TABLE: &str = "CREATE TABLE entries (key TEXT PRIMARY KEY, bytes BLOB NOT NULL)";
 
@@ -18,173 +23,120 @@ const ALL: &str = "SELECT key, bytes FROM entries ORDER BY key";
 
 const CLEAR: &str = "DELETE FROM entries";
 
-/// Why the database refused a call.
-#[derive(Clone, Copy, Debug, PartialEq, Eq)]
-pub(crate) enum Refusal {
-    Memory,
-    Other,
-}
-
-/// Want of memory, or any other cause.
-fn refusal_of(error: Error) -> Refusal
-    ensures { (result ≡ Refusal.Memory) ↔ IsWantOfMemory error }
-{
-    match error {
-        Error::SqliteFailure(ErrorCode::OutOfMemory) => Refusal::Memory,
-        Error::SqlInputError(CompileError::OutOfMemory) => Refusal::Memory,
-        _ => Refusal::Other,
-    }
-}
-
-impl From<Error> for Refusal {
-    ghost use Rattle.std.specs.Prelude.{◌≡◌, ◌↔◌};
-    ghost use Rattle.member_sqlite.specs.declared.database.Refusal.TheVariants as refusal;
-    ghost use Rattle.member_sqlite.specs.Causes.{IsWantOfMemory};
-
-    ghost from_gives = { λ error given. (given ≡ refusal.Memory) ↔ IsWantOfMemory error };
-
-    fn from(error: Error) -> Refusal {
-        refusal_of(error)
-    }
-}
-
-impl From<AllocError> for Refusal {
-    ghost use Rattle.std.specs.Prelude.{◌≡◌};
-    ghost use Rattle.member_sqlite.specs.declared.database.Refusal.TheVariants as refusal;
-
-    ghost from_gives = { λ _ given. given ≡ refusal.Memory };
-
-    fn from(_refused: AllocError) -> Refusal {
-        Refusal::Memory
-    }
-}
-
-/// The table of entries in a database in memory.
+/// The table of entries in a database in memory, which contracts see as its connection.
 #[derive(Drop)]
 pub(crate) struct Database {
     conn: Connection<MemStore>,
-    change: Statement,
-    add: Statement,
+    writes: Writes,
+}
+
+impl Model for Database {
+    ghost use Rattle.sqlite_trees.specs.declared.memory.MemStore.{MemStore};
+    ghost use Rattle.sqlite_trees.specs.contracts.memory.MemStore as store;
+    ghost use Rattle.sqlite.specs.Held.{Held, held_code};
+
+    ghost Value = { Held MemStore };
+
+    ghost coded = { held_code store.the_row.coded };
+
+    ghost view = { λ d. d.conn };
 }
 
 impl Database {
     /// Opens a database, and makes the table.
-    pub(crate) fn open(alloc: Global) -> Result<Database, Refusal> {
-        let mut conn = Connection::open_in_memory(alloc)?;
-        run(&mut conn, TABLE)?;
-        let change = prepare(&mut conn, CHANGE)?;
-        let add = prepare(&mut conn, ADD)?;
-        Ok(Database { conn, change, add })
+    pub(crate) fn open(alloc: Global) -> Result<Database, Refusal>
+        ensures opened { IfOk result IsOpened }
+        ensures unopened { IfErr result IsUnopened }
+    {
+        let mut conn = match Connection::open_in_memory(alloc) {
+            Ok(conn) => conn,
+            Err(_) => return Err(Refusal::Memory),
+        };
+        match make(&mut conn) {
+            Ok(writes) => Ok(Database { conn, writes }),
+            Err(why) => Err(why),
+        }
     }
 
     /// Puts the entries in one transaction. A statement alone is one by itself.
-    pub(crate) fn put_all(&mut self, entries: &[Stored]) -> Result<(), Refusal> {
-        match entries {
-            [entry] => put(&mut self.conn, &self.change, &self.add, entry),
-            _ => put_together(&mut self.conn, &self.change, &self.add, entries),
-        }
+    pub(crate) fn put_all(&mut self, entries: &[Stored]) -> Result<(), Refusal>
+        ensures { PutsAll entries.now self.old self.new result }
+    {
+        put_rows(&mut self.conn, &self.writes, entries)
     }
 
     /// Refuses where the table has other entries than these.
     pub(crate) fn find(&mut self, entries: &[Stored]) -> Result<(), Refusal>
-        ensures { OnOk result (AnswersAll self.old.conn self.new.conn entries.now) }
+        ensures { FindsAll entries.now self.old self.new result }
     {
         find_rows(&mut self.conn, entries)
     }
 
     /// Empties the table.
-    pub(crate) fn clear(&mut self) -> Result<(), Refusal> {
-        run(&mut self.conn, CLEAR)
+    pub(crate) fn clear(&mut self) -> Result<(), Refusal>
+        ensures { DeletesAll self.old self.new result }
+    {
+        clear_rows(&mut self.conn)
     }
 
     /// Runs any statement.
     #[cfg(test)]
-    pub(crate) fn run(&mut self, sql: &str) -> Result<(), Refusal> {
+    pub(crate) fn run(&mut self, sql: &str) -> Result<usize, Refusal> {
         run(&mut self.conn, sql)
     }
 }
 
+/// Makes the table, and prepares the two statements that put an entry.
+fn make(conn: &mut Connection<MemStore>) -> Result<Writes, Refusal>
+    ensures { MatchResult result (λ _. IsMade over_memory conn.old conn.new) (IsUnmade over_memory conn.old conn.new) }
+{
+    match run(conn, TABLE) {
+        Ok(_) => {}
+        Err(why) => return Err(why),
+    }
+    let change = match prepare(conn, CHANGE) {
+        Ok(change) => change,
+        Err(why) => return Err(why),
+    };
+    match prepare(conn, ADD) {
+        Ok(add) => Ok(Writes { change, add }),
+        Err(why) => Err(why),
+    }
+}
+
+/// Puts the entries in one transaction. A statement alone is one by itself.
+fn put_rows(
+    conn: &mut Connection<MemStore>,
+    writes: &Writes,
+    entries: &[Stored],
+) -> Result<(), Refusal>
+    ensures { PutsAll entries.now conn.old conn.new result }
+{
+    match entries {
+        [entry] => put(conn, writes, entry),
+        _ => put_together(conn, writes, entries),
+    }
+}
+
+/// Deletes all rows.
+fn clear_rows(conn: &mut Connection<MemStore>) -> Result<(), Refusal>
+    ensures { DeletesAll conn.old conn.new result }
+{
+    run_to(conn, CLEAR)
+}
+
 /// Asks the database for all of its rows, and refuses where they are not these entries.
 fn find_rows(conn: &mut Connection<MemStore>, entries: &[Stored]) -> Result<(), Refusal>
-    ensures { OnOk result (AnswersAll conn.old conn.new entries.now) }
+    ensures { FindsAll entries.now conn.old conn.new result }
 {
-    let rows = conn.query_all(ALL, &[])?;
-    if are_rows(entries, &rows) {
-        Ok(())
-    } else {
-        Err(Refusal::Other)
+    match conn.query_all(ALL, &[]) {
+        Ok(rows) => {
+            if are_rows(entries, &rows) {
+                Ok(())
+            } else {
+                Err(Refusal::Other)
+            }
+        }
+        Err(error) => Err(refusal_of(error)),
     }
-}
-
-fn run(conn: &mut Connection<MemStore>, sql: &str) -> Result<(), Refusal> {
-    conn.execute(sql, &[])?;
-    Ok(())
-}
-
-fn prepare(conn: &mut Connection<MemStore>, sql: &str) -> Result<Statement, Refusal> {
-    Ok(conn.prepare(sql)?)
-}
-
-/// Puts one entry: where its key has no row, the first statement changes nothing. The two are no more than one write.
-fn put(
-    conn: &mut Connection<MemStore>,
-    change: &Statement,
-    add: &Statement,
-    entry: &Stored,
-) -> Result<(), Refusal> {
-    if write(conn, change, entry)? == 0 {
-        write(conn, add, entry)?;
-    }
-    Ok(())
-}
-
-/// Runs one of the two statements of an entry, and answers how many rows it changed.
-fn write(
-    conn: &mut Connection<MemStore>,
-    statement: &Statement,
-    entry: &Stored,
-) -> Result<usize, Refusal> {
-    Ok(statement.execute(conn, params![entry.key.as_str(), entry.bytes.as_slice()])?)
-}
-
-/// Puts the entries in a transaction, which is rolled back where one of them is refused.
-fn put_together(
-    conn: &mut Connection<MemStore>,
-    change: &Statement,
-    add: &Statement,
-    entries: &[Stored],
-) -> Result<(), Refusal> {
-    if !conn.is_autocommit() {
-        return Err(Refusal::Other);
-    }
-    let mut all = conn.transaction();
-    for entry in entries {
-        put_inside(&mut all, change, add, entry)?;
-    }
-    all.commit()?;
-    Ok(())
-}
-
-/// Puts one entry in a transaction.
-fn put_inside(
-    all: &mut Transaction<'_, MemStore>,
-    change: &Statement,
-    add: &Statement,
-    entry: &Stored,
-) -> Result<(), Refusal> {
-    if write_inside(all, change, entry)? == 0 {
-        write_inside(all, add, entry)?;
-    }
-    Ok(())
-}
-
-fn write_inside(
-    all: &mut Transaction<'_, MemStore>,
-    statement: &Statement,
-    entry: &Stored,
-) -> Result<usize, Refusal> {
-    Ok(all.execute_prepared(
-        statement,
-        params![entry.key.as_str(), entry.bytes.as_slice()],
-    )?)
 }

@@ -1,10 +1,11 @@
-ghost use Rattle.std.specs.Prelude.{◌≡◌, [], None, option_map, OnOk, OnErr, IfOk};
+ghost use Rattle.std.specs.Prelude.{◌≡◌, [], None, OnOk, OnErr, IfOk, IfErr};
 ghost use Rattle.member_keeper.specs.Tables.{put_all, IsTable};
 ghost use Rattle.member_keeper.specs.Calls.{IsCaused, CountsFailures};
 ghost use Rattle.member_sqlite.specs.Causes.{answer_to};
-ghost use Rattle.member_sqlite.specs.Rows.{LastAnswers};
+ghost use Rattle.member_sqlite.specs.Asked.{PutsAll, FindsAll, DeletesAll, IsReady, IsUnopened, Asks, Answers};
 
-use crate::database::{Database, Refusal};
+use crate::causes::Refusal;
+use crate::database::Database;
 use member_keeper::{Keeper, KeeperError, MemoryTable, Stored};
 use std::alloc::Global;
 use std::marker::Model;
@@ -22,14 +23,13 @@ pub struct SqliteKeeper {
 }
 
 impl Model for SqliteKeeper {
-    ghost use Rattle.std.specs.Prelude.{option_map};
     ghost use Rattle.member_sqlite.specs.InDatabase.{Kept, kept_code};
 
     ghost Value = { Kept };
 
     ghost coded = { kept_code };
 
-    ghost view = { λ k. record { table = k.table.entries; faults = k.faults; database = option_map (λ d. d.conn) k.database } };
+    ghost view = { λ k. record { table = k.table.entries; faults = k.faults; database = k.database } };
 }
 
 impl SqliteKeeper {
@@ -69,6 +69,7 @@ impl Keeper for SqliteKeeper {
     fn store(&mut self, entries: &[Stored]) -> Result<(), KeeperError>
         ensures ok { OnOk result (self.new.table ≡ put_all self.old.table entries.now) }
         ensures err { OnErr result (self.new.table ≡ self.old.table) }
+        ensures asked { Answers (PutsAll entries.now) self.old.database self.new.database result }
         ensures cause { IsCaused self.old.faults self.new.faults result }
         ensures counted { CountsFailures self.old.faults self.new.faults result }
     {
@@ -87,21 +88,23 @@ impl Keeper for SqliteKeeper {
         ensures loaded { IfOk result (λ loaded. loaded.items ≡ self.old.table) }
         ensures in_order { IsTable self.old.table }
         ensures table { self.new.table ≡ self.old.table }
-        ensures asked { OnOk result (LastAnswers self.new.database self.old.table) }
+        ensures asked { Answers (FindsAll self.old.table) self.old.database self.new.database result }
         ensures cause { IsCaused self.old.faults self.new.faults result }
         ensures counted { CountsFailures self.old.faults self.new.faults result }
     {
         let copies = self.table.copies()?;
         let outcome = find_in(self.alloc, &mut self.database, &copies);
         match counted(&mut self.faults, outcome) {
-            Ok(()) => Ok(copies),
-            Err(error) => Err(error),
+            Ok(()) => {}
+            Err(error) => return Err(error),
         }
+        Ok(copies)
     }
 
     fn clear(&mut self) -> Result<(), KeeperError>
         ensures ok { OnOk result (self.new.table ≡ []) }
         ensures err { OnErr result (self.new.table ≡ self.old.table) }
+        ensures asked { Answers DeletesAll self.old.database self.new.database result }
         ensures cause { IsCaused self.old.faults self.new.faults result }
         ensures counted { CountsFailures self.old.faults self.new.faults result }
     {
@@ -133,19 +136,30 @@ fn counted(faults: &mut u64, outcome: Result<(), Refusal>) -> Result<(), KeeperE
 }
 
 /// Opens the database, unless it is open.
-fn open(alloc: Global, database: &mut Option<Database>) -> Result<(), Refusal> {
-    if database.is_none() {
-        *database = Some(Database::open(alloc)?);
+fn open(alloc: Global, database: &mut Option<Database>) -> Result<(), Refusal>
+    ensures ready { OnOk result (IsReady database.old database.new) }
+    ensures unopened { IfErr result IsUnopened }
+    ensures none { OnErr result ((database.old ≡ None) × (database.new ≡ None)) }
+{
+    if database.is_some() {
+        return Ok(());
     }
-    Ok(())
+    match Database::open(alloc) {
+        Ok(opened) => {
+            *database = Some(opened);
+            Ok(())
+        }
+        Err(why) => Err(why),
+    }
 }
 
-fn put_in(
-    alloc: Global,
-    database: &mut Option<Database>,
-    entries: &[Stored],
-) -> Result<(), Refusal> {
-    open(alloc, database)?;
+fn put_in(alloc: Global, database: &mut Option<Database>, entries: &[Stored]) -> Result<(), Refusal>
+    ensures { Asks (PutsAll entries.now) database.old database.new result }
+{
+    match open(alloc, database) {
+        Ok(()) => {}
+        Err(why) => return Err(why),
+    }
     match database {
         Some(database) => database.put_all(entries),
         None => Err(Refusal::Other),
@@ -158,17 +172,25 @@ fn find_in(
     database: &mut Option<Database>,
     entries: &[Stored],
 ) -> Result<(), Refusal>
-    ensures { OnOk result (LastAnswers (option_map (λ d. d.conn) database.new) entries.now) }
+    ensures { Asks (FindsAll entries.now) database.old database.new result }
 {
-    open(alloc, database)?;
+    match open(alloc, database) {
+        Ok(()) => {}
+        Err(why) => return Err(why),
+    }
     match database {
         Some(database) => database.find(entries),
         None => Err(Refusal::Other),
     }
 }
 
-fn clear_in(alloc: Global, database: &mut Option<Database>) -> Result<(), Refusal> {
-    open(alloc, database)?;
+fn clear_in(alloc: Global, database: &mut Option<Database>) -> Result<(), Refusal>
+    ensures { Asks DeletesAll database.old database.new result }
+{
+    match open(alloc, database) {
+        Ok(()) => {}
+        Err(why) => return Err(why),
+    }
     match database {
         Some(database) => database.clear(),
         None => Err(Refusal::Other),

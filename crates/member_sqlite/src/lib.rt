@@ -4,14 +4,20 @@
 //!
 //! - The keeper over a database tells its table. Each refusal other than want of memory raises the
 //!   count by one, and nothing else raises it (`impl Keeper for SqliteKeeper`, clause `counted`).
-//! - A load that is answered was asked of the database, whose rows were the table (`impl Keeper for
-//!   SqliteKeeper`, `load`, clause `asked`).
+//! - What a call answers is what its database answered, which is the one that is open or one that
+//!   was opened for the call: a store put its entries there, several in one transaction that was
+//!   committed, or nothing changed; a clear deleted all rows; a load found the table in them (clause
+//!   `asked`). Want of memory alone may come before the database is asked.
 #![tactic(auto)]
 
+mod causes;
 mod database;
 mod keeper;
 mod rows;
+mod statements;
 #[cfg(test)]
 mod tests;
+mod together;
+mod writes;
 
 pub use keeper::SqliteKeeper;

@@ -5,6 +5,10 @@ use std::alloc::Global;
 use std::process::Abort;
 use std::test::Fail;
 
+/// A table like the keeper's that takes no entry of two bytes.
+const STRICTER: &str =
+    "CREATE TABLE entries (key TEXT PRIMARY KEY, bytes BLOB NOT NULL CHECK (length(bytes) < 2))";
+
 /// An entry of one byte.
 fn entry(alloc: Global, key: &str, byte: u8) -> Result<Stored, Fail> {
     match Text::new(key) {
@@ -75,6 +79,46 @@ fn keeps_one<K: Keeper>(rt: &impl Abort, alloc: Global, keeper: &mut K) -> Resul
     Ok(())
 }
 
+/// Stores one entry of two bytes after one of one byte, in one call, and tells whether that failed.
+fn fails_a_store<K: Keeper>(alloc: Global, keeper: &mut K) -> Result<bool, Fail> {
+    let mut stored = Vec::with_capacity(alloc, 2)?;
+    stored.push(entry(alloc, "c", 5)?)?;
+    stored.push(longer(alloc, "d")?)?;
+    Ok(keeper.store(&stored) == Err(KeeperError::Failed))
+}
+
+/// An entry of two bytes.
+fn longer(alloc: Global, key: &str) -> Result<Stored, Fail> {
+    match Text::new(key) {
+        Ok(key) => Ok(Stored {
+            key,
+            bytes: Items::from_vec(Vec::from_slice(alloc, &[6, 7])?),
+        }),
+        Err(_) => Err("no text".into()),
+    }
+}
+
+/// Of two entries the second is refused, so none is kept: what was there before is loaded, and more can be stored.
+fn keeps_all_or_none<K: Keeper>(
+    rt: &impl Abort,
+    alloc: Global,
+    keeper: &mut K,
+) -> Result<(), Fail> {
+    keeps_one(rt, alloc, keeper)?;
+    assert!(rt; fails_a_store(alloc, keeper)?);
+    assert_eq!(rt; count(keeper)?, 1);
+    store(alloc, keeper, &[("c", 5), ("d", 6)])?;
+    assert_eq!(rt; count(keeper)?, 3);
+    Ok(())
+}
+
+/// The store of one entry is refused.
+fn fails_the_store<K: Keeper>(rt: &impl Abort, alloc: Global, keeper: &mut K) -> Result<(), Fail> {
+    let stored = entry(alloc, "b", 3)?;
+    assert_eq!(rt; keeper.store(&[stored]).err(), Some(KeeperError::Failed));
+    Ok(())
+}
+
 /// The load is not answered.
 fn fails_the_load<K: Keeper>(rt: &impl Abort, keeper: &mut K) {
     assert_eq!(rt; keeper.load().err(), Some(KeeperError::Failed));
@@ -93,4 +137,24 @@ fn a_changed_row_fails_the_load(rt: HostRuntime) -> Result<(), Fail> {
     assert!(rt; keeper.run("UPDATE entries SET bytes = x'04' WHERE key = 'b'"));
     fails_the_load(&rt, &mut keeper);
     Ok(())
+}
+
+#[test]
+fn a_lost_table_fails_each_call(rt: HostRuntime) -> Result<(), Fail> {
+    let mut keeper = moves(SqliteKeeper::in_memory(rt.alloc()));
+    keeps_one(&rt, rt.alloc(), &mut keeper)?;
+    assert!(rt; keeper.run("DROP TABLE entries"));
+    fails_the_store(&rt, rt.alloc(), &mut keeper)?;
+    fails_the_load(&rt, &mut keeper);
+    assert_eq!(rt; keeper.clear().err(), Some(KeeperError::Failed));
+    Ok(())
+}
+
+#[test]
+fn a_refused_entry_leaves_what_was_stored(rt: HostRuntime) -> Result<(), Fail> {
+    let mut keeper = SqliteKeeper::in_memory(rt.alloc());
+    keeper.clear()?;
+    assert!(rt; keeper.run("DROP TABLE entries"));
+    assert!(rt; keeper.run(STRICTER));
+    keeps_all_or_none(&rt, rt.alloc(), &mut keeper)
 }

@@ -13,6 +13,8 @@ mod deleted;
 #[cfg(test)]
 mod digests;
 #[cfg(test)]
+mod dots;
+#[cfg(test)]
 mod member;
 #[cfg(test)]
 mod spellings;

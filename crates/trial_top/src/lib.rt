@@ -30,6 +30,8 @@ mod limits_tests;
 #[cfg(test)]
 mod loading;
 #[cfg(test)]
+mod long_tests;
+#[cfg(test)]
 mod many_tests;
 #[cfg(test)]
 mod meeting_tests;

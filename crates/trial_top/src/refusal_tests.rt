@@ -10,7 +10,7 @@ use std::test::Fail;
 use top_call::Status;
 
 // A text that breaks each rule, and what is printed. In the last of rule 4 and the first of rule 7 a later step breaks a rule of a lower number or a higher.
-const BROKEN: [(&str, &str); 37] = [
+const BROKEN: [(&str, &str); 39] = [
     (r#"[]"#, "not a script: step 0 rule 1\n"),
     (r#"{"members":1}"#, "not a script: step 0 rule 1\n"),
     (
@@ -150,6 +150,14 @@ const BROKEN: [(&str, &str); 37] = [
         "not a script: step 1 rule 13\n",
     ),
     (
+        r#"{"members":1,"keys":[{"key":"n","kind":"gcounter"}],"steps":[{"do":"threads","clients":[[{"do":"flush","at":0,"times":1024},{"do":"flush","at":0}]]}]}"#,
+        "not a script: step 1 rule 13\n",
+    ),
+    (
+        r#"{"members":1,"keys":[{"key":"n","kind":"gcounter"}],"steps":[{"do":"threads","clients":[[{"do":"flush","at":0}],[{"do":"flush","at":0}],[{"do":"flush","at":0}],[{"do":"flush","at":0}],[{"do":"flush","at":0}],[{"do":"flush","at":0}],[{"do":"flush","at":0}],[{"do":"flush","at":0}],[{"do":"flush","at":0}]]}]}"#,
+        "not a script: step 1 rule 13\n",
+    ),
+    (
         r#"{"members":1,"keys":[{"key":"n","kind":"gcounter"}],"steps":[{"do":"threads","clients":[[{"do":"flush","at":0}]]}]}"#,
         "not a script: step 1 rule 14\n",
     ),
@@ -245,15 +253,17 @@ fn flags_and_rounds(alloc: Global, keys: u64, steps: u64) -> Result<String, Fail
 #[test]
 fn bounds_keys_and_steps(rt: HostRuntime) -> Result<(), Fail> {
     let alloc = rt.alloc();
+    let most = flags_and_rounds(alloc, 16, 4096)?;
+    let (told, _) = printed(alloc, most.as_str(), keepers(alloc, 0, &[])?)?;
+    assert_eq!(rt; told, Status::Done);
     let rows = [
-        (16, 4096, Status::Done),
-        (17, 4096, Status::NotAScript),
-        (16, 4097, Status::NotAScript),
+        (17, 4096, "not a script: step 0 rule 3\n"),
+        (16, 4097, "not a script: step 0 rule 4\n"),
     ];
-    for (keys, steps, status) in rows {
+    for (keys, steps, text) in rows {
         let script = flags_and_rounds(alloc, keys, steps)?;
-        let (told, _) = printed(alloc, script.as_str(), keepers(alloc, 0, &[])?)?;
-        assert_eq!(rt; told, status, "at {keys} {steps}");
+        let answer = printed(alloc, script.as_str(), keepers(alloc, 0, &[])?)?;
+        check(&rt, &answer, Status::NotAScript, text.as_bytes(), keys);
     }
     Ok(())
 }

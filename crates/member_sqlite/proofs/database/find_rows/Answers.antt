@@ -1,11 +1,25 @@
-use Rattle.std.proofs.Common.{subst}
+use Rattle.std.proofs.Common.{refl, sym, subst, inl, inr}
 use Rattle.sqlite.proofs.Callers.{memory_is_clean}
 use Rattle.member_sqlite.specs.Rows.{AreRows}
 use Rattle.member_sqlite.proofs.database.find_rows.Goals as goal
 
 pub returns-then-are_rows : goal.returns-then-are_rows
 returns-then-are_rows c = (
-  c.in_ok-rows.rows.items,
-  c.in_ok-rows.ensures.ok (memory_is_clean c.query_all.new.self),
-  subst (AreRows c.args.entries.now) c.deref.ensures.value (c.are_rows.ensures c.if-are_rows.true),
+  c.in-Ok.rows.items,
+  c.in-Ok.ensures.ok (memory_is_clean c.query_all.new.self),
+  subst (AreRows c.args.entries.now) c.deref.ensures.value (c.are_rows.ensures.0 c.if-are_rows.true),
 )
+
+pub returns-in-Ok : goal.returns-in-Ok
+returns-in-Ok c = inr (
+  refl,
+  c.in-Ok.rows.items,
+  c.in-Ok.ensures.ok (memory_is_clean c.query_all.new.self),
+  λ are.
+      let yes = c.are_rows.ensures.1 (subst (AreRows c.args.entries.now) (sym c.deref.ensures.value) are) in
+      let no = c.if-are_rows.false in
+      cc,
+)
+
+pub returns : goal.returns
+returns c = inl (c.in-Err.error, c.refusal_of.ensures, c.in-Err.ensures.err (memory_is_clean c.query_all.new.self))

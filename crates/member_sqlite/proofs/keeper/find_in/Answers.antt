@@ -1,9 +1,14 @@
-use Rattle.std.specs.Prelude.{Result, Ok, Err, OnOk}
+use Rattle.std.proofs.Common.{subst}
+use Rattle.member_sqlite.specs.Asked.{FindsAll, IsReady}
+use Rattle.member_sqlite.proofs.Asking.{asks_ready, asks_nothing, never_unready}
 use Rattle.member_sqlite.proofs.keeper.find_in.Goals as goal
 
-on_ok : {T E P Q : Type 0} (result : Result T E) → (P → Q) → OnOk result P → OnOk result Q
-on_ok (Ok value) gives given = gives given
-on_ok (Err error) gives given = tt
+pub returns-in-Err : goal.returns-in-Err
+returns-in-Err c = asks_nothing (FindsAll c.args.entries.now) c.args.database.now c.open.new.database c.in-Err.why c.in-Err.ensures.none.0 c.in-Err.ensures.none.1 c.in-Err.ensures.unopened
 
 pub returns-in-Some : goal.returns-in-Some
-returns-in-Some c = on_ok c.find.result (λ answers. (c.in-Some.database.conn, answers)) c.find.ensures
+returns-in-Some c =
+    asks_ready (FindsAll c.args.entries.now) c.args.database.now c.in-Some.database c.find.new.self c.find.result (subst (IsReady c.args.database.now) c.in-Some.is c.in-Ok.ensures.ready) c.find.ensures
+
+pub returns-in-None : goal.returns-in-None
+returns-in-None c = absurd (never_unready c.args.database.now (subst (IsReady c.args.database.now) c.in-None.is c.in-Ok.ensures.ready))
