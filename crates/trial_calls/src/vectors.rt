@@ -102,7 +102,10 @@ fn check_concurrent(
     assert!(rt; first.contains_dot(Dot { origin, seq: 2 }));
     assert!(rt; !first.contains_dot(Dot { origin, seq: 3 }));
     first.join(second)?;
-    assert_eq!(rt; [first.at(origin), first.at(one), first.at(three)], [2, 4, 1]);
+    assert_eq!(rt;
+        [first.at(origin), first.at(one), first.at(three)],
+        [2, 4, 1]
+    );
     Ok(())
 }
 

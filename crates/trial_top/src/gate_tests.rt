@@ -67,7 +67,11 @@ struct CountingGate {
 impl CountingGate {
     /// One word more of a client, if it is the one that is due. After a wrong one no other is.
     fn count(&self, client: u32, due: u64) {
-        let told = if client == 0 { &self.first } else { &self.other };
+        let told = if client == 0 {
+            &self.first
+        } else {
+            &self.other
+        };
         if told.load(Ordering::SeqCst) == due {
             told.store(due.saturating_add(1), Ordering::SeqCst);
         } else {
@@ -97,7 +101,9 @@ fn a_gate_is_told_before_and_after_each_call(rt: HostRuntime) -> Result<(), Fail
         first: AtomicU64::new(0),
         other: AtomicU64::new(0),
     };
-    let script = read_script(alloc, Clients::Allowed, REPEATED.as_bytes()).map_err(|_| "no script")?;
+    let script = read_script(alloc, Clients::Allowed, REPEATED.as_bytes()).map_err(
+        |_| "no script",
+    )?;
     let keepers = holding_keepers(alloc, None, None)?;
     let _played = report_with_clients::<Data, _, _, _>(&rt, alloc, &gate, &script, keepers);
     assert_eq!(&rt; gate.first.load(Ordering::SeqCst), 8);
