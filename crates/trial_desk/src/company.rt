@@ -50,7 +50,13 @@ fn member<T: SpelledData<Kind = Kind, Op = Op>>(
         return Err("no member".into());
     }
     let view = view.copy(alloc)?;
-    match Node::new(alloc, id, view, &keys, MemoryKeeper::new(alloc, Vec::new(alloc))) {
+    match Node::new(
+        alloc,
+        id,
+        view,
+        &keys,
+        MemoryKeeper::new(alloc, Vec::new(alloc)),
+    ) {
         Ok(node) => Ok(node),
         Err(_) => Err("memory".into()),
     }

@@ -6,6 +6,6 @@ mod arrivals;
 #[cfg(test)]
 mod company;
 #[cfg(test)]
-mod flushes;
-#[cfg(test)]
 mod ends;
+#[cfg(test)]
+mod flushes;
