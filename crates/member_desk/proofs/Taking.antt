@@ -1,9 +1,9 @@
 -- What was told is noted at one followed key after another.
-use Rattle.std.proofs.Common.{◌≡◌, ℕ, ◌+◌, ◌<◌, ◌≤◌, List, [], ◌∷◌, ◌++◌, length, take, drop, get_or, refl, ap, sym, ◌∙◌, arith, append_assoc, subst}
+use Rattle.std.proofs.Common.{◌≡◌, ℕ, suc, ◌+◌, ◌<◌, ◌≤◌, List, [], ◌∷◌, ◌++◌, length, take, drop, get_or, refl, ap, sym, ◌∙◌, arith, append_assoc, subst, take_all}
 use Rattle.std.specs.Prelude.{nat_lt}
 use Rattle.std.specs.List.{AllByRecursion}
 use Rattle.std.proofs.Math.ListN.{set}
-use Rattle.std.proofs.lemmas.List.{drop_all, take-append-drop, drop-set-lt, length-set}
+use Rattle.std.proofs.lemmas.List.{append-nil, drop_all, take-append-drop, drop-set-lt, length-set}
 use Rattle.std.proofs.lemmas.Grind.{take-set_at}
 use Rattle.model_history.specs.Texts.{text_lt}
 use Rattle.member_desk.specs.declared.followed.Followed.{Followed}
@@ -65,3 +65,23 @@ clients_after (f ∷ fs) (look ∷ looks) h = (clients_rise f (found_by f.told l
 
 pub in_order_told : (desk : List (Followed Told)) (looks : List Look) → AreInOrder desk → AreInOrder (told_by desk looks)
 in_order_told desk looks h = (subst (IsRising text_lt) (sym (keys_after desk looks)) h.0, clients_after desk looks h.1)
+
+-- as many keys are followed as before
+told_length : (desk : List (Followed Told)) (looks : List Look) → length (told_by desk looks) ≡ length desk
+told_length [] looks = refl
+told_length (f ∷ fs) [] = refl
+told_length (f ∷ fs) (look ∷ looks) = ap suc (told_length fs looks)
+
+-- what was noted in a list of which so many are lent
+pub told_back : (n : ℕ) (desk new : List (Followed Told)) (looks : List Look) → n ≡ length desk → new ≡ told_by desk looks → take n (new ++ drop (length new) desk) ≡ told_by desk looks
+told_back n desk new looks count is =
+    let same : length new ≡ length desk = ap length is ∙ told_length desk looks in
+    ap (λ (m : ℕ). take n (new ++ drop m desk)) same
+    ∙ ap (λ (rest : List (Followed Told)). take n (new ++ rest)) (drop_all (length desk) desk (omega arith))
+    ∙ ap (take n) (append-nil new)
+    ∙ take_all n new (omega (arith, same, count))
+    ∙ is
+
+-- one look fewer is left
+pub one_fewer : (xs ys : List Look) (x : Look) (m n : ℕ) → xs ≡ x ∷ ys → length xs ≡ m → n + 1 ≡ m → length ys ≡ n
+one_fewer xs ys x m n is count fewer = let longer : length xs ≡ suc (length ys) = ap length is in omega (arith, longer, count, fewer)
