@@ -191,7 +191,7 @@ SubscribedAgain =
 -- notices come by keys in byte order, and then by clients; a client that comes later is told what stands
 abbrev pub InOrder : Type 0
 InOrder =
-    watch 1 (key (codes "n") GCounter ∷ key (codes "a") GCounter ∷ [])
+    watch 1 (key (codes "a") GCounter ∷ key (codes "n") GCounter ∷ [])
     (Subscribe 0 4 (codes "n") ∷ Subscribe 0 2 (codes "a") ∷ Subscribe 0 1 (codes "n") ∷ update 0 (codes "n") (Increment 1) ∷ update 0 (codes "a") (Increment 2) ∷ flush 0 ∷ Subscribe 0 3 (codes "n") ∷ flush 0 ∷ [])
     ≡ flat_map line_of
     (codes "1 subscribe 0 4 n subscribed"
@@ -208,6 +208,6 @@ InOrder =
     ∷ codes "8 notice 0 3 n 1"
     ∷ codes "final view 0"
     ∷ codes "member 0 place 0 view 0"
-    ∷ codes "n 1 known 0:1 marks -"
     ∷ codes "a 2 known 0:1 marks -"
+    ∷ codes "n 1 known 0:1 marks -"
     ∷ [])
