@@ -11,10 +11,10 @@ use Rattle.base_bytes.proofs.TextLaws.{order_equal}
 use Rattle.model_kinds.specs.declared.shown.Shown.{Shown}
 use Rattle.member_desk.specs.declared.client.Client.{Client}
 use Rattle.member_desk.specs.declared.followed.Followed.{Followed}
-use Rattle.member_desk.specs.Places.{sought, IsBelowAll, IsRising}
-use Rattle.member_desk.specs.Subscriptions.{by_number, by_key, numbers_of, keys_of, told_at, told_by_clients, told_of, told_to, AreInOrder}
-use Rattle.member_desk.specs.Notices.{told_client, is_news, notices_of, told_at_key, told_after}
-use Rattle.member_desk.specs.Successive.{tellings, said_to, said_over}
+use Rattle.member_desk.specs.Places.{sought, IsRising}
+use Rattle.member_desk.specs.Subscriptions.{by_number, by_key, numbers_of, keys_of, told_by_clients, told_of, told_to, AreInOrder}
+use Rattle.member_desk.specs.Notices.{told_client, is_news, told_at_key, told_after}
+use Rattle.member_desk.specs.Successive.{tellings, said_over}
 use Rattle.member_desk.proofs.Flushing.{said_now, said_by}
 
 -- WHAT STAYS
@@ -98,6 +98,7 @@ module _ {V : Type 0} (shows : Text → V → Shown) (key : Text) (n : ℕ) wher
     where
       after : (now : Option V) → found key ≡ now → told_to (told_after found desk) key n ≡ told_now key n found (Some told) now
       after now at = told_to_after key n found desk ∙ ap (λ t. told_now key n found t (found key)) is ∙ ap (told_now key n found (Some told)) at
+
       go : (now : Option V) → found key ≡ now
           → ((later : Option V) → told_to (told_after found desk) key n ≡ Some later → said_over shows key n (told_after found desk) more ≡ map (shows key) (tellings shows key later (map (λ (f : Text → Option V). f key) more)))
           → said_now shows key n (Some told) now ++ said_over shows key n (told_after found desk) more ≡ map (shows key) (tellings shows key told (now ∷ map (λ (f : Text → Option V). f key) more))

@@ -1,5 +1,5 @@
 -- What is found in a list in order after an edit.
-use Rattle.std.proofs.Common.{◌≡◌, ◌≢◌, List, [], ◌∷◌, ◌++◌, Bool, true, Option, Some, None, refl, ap, sym, ◌∙◌, subst, map}
+use Rattle.std.proofs.Common.{◌≡◌, ◌≢◌, List, [], ◌∷◌, ◌++◌, Bool, Option, Some, None, refl, ap, sym, ◌∙◌, subst, map}
 use Rattle.std.specs.declared.cmp.Ordering.{Ordering}
 use Rattle.std.specs.declared.cmp.Ordering.TheVariants.{Less, Equal, Greater}
 use Rattle.std.specs.Ordering.{match_ordering}
@@ -57,6 +57,7 @@ module _ {X K : Type 0} (lt : K → K → Bool) (R : K → K → Ordering) (laws
           where
             there : by j y ≡ R k j
             there = ap (λ c. R c j) one
+
             go : (o : Ordering) → R k j ≡ o → match_ordering (by j y) (sought (by j) zs) (Some y) None ≡ sought (by j) zs
             go Less is = ap (λ o. match_ordering o (sought (by j) zs) (Some y) None) (there ∙ is)
             go Equal is = absurd (other (laws.equal k j is))
@@ -90,6 +91,6 @@ module _ {X K : Type 0} (lt : K → K → Bool) (R : K → K → Ordering) (laws
             go Greater is rest =
                 let less = laws.greater (key x) k is in
                 passed absent (x ∷ xs) one_absent (λ after.
-                  let first = laws.greater k j after in
-                  let before = laws.trans j k (key x) first less in
-                  sought_below j (x ∷ xs) (before, below_more lt R laws key k j (key x) (map key xs) before h.0))
+                let first = laws.greater k j after in
+                let before = laws.trans j k (key x) first less in
+                sought_below j (x ∷ xs) (before, below_more lt R laws key k j (key x) (map key xs) before h.0))

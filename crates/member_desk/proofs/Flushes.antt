@@ -1,21 +1,16 @@
 -- What a flush of a member tells, once each followed key was looked at.
-use Rattle.std.proofs.Common.{◌≡◌, List, [], ◌∷◌, Option, refl, ap, sym, ◌∙◌, subst}
+use Rattle.std.proofs.Common.{◌≡◌, List, [], ◌∷◌, sym, ◌∙◌, subst}
 use Rattle.std.specs.List.{AllZip}
-use Rattle.model_history.specs.Texts.{Text}
-use Rattle.model_history.specs.History.{History}
-use Rattle.model_members.specs.Node as nodes
-use Rattle.model_kinds.specs.declared.shown.Shown.{Shown}
 use Rattle.data_lattice.specs.declared.replica.Replica.{Ghosts}
 use Rattle.member_keeper.specs.declared.keeper.Keeper.{Ghosts as Keeping}
 use Rattle.member_node.specs.declared.node.Node.{Node}
-use Rattle.member_node.specs.Members.{StandsForNode}
 use Rattle.member_desk.specs.declared.followed.Followed.{Followed}
 use Rattle.member_desk.specs.declared.look.Told.{Told}
 use Rattle.member_desk.specs.declared.look.Look.{Look}
 use Rattle.member_desk.specs.declared.notice.Notice.{Notice}
-use Rattle.member_desk.specs.Notices.{notices_of, told_after}
+use Rattle.member_desk.specs.Notices.{told_after}
 use Rattle.member_desk.specs.Looks.{notices_by, told_by}
-use Rattle.member_desk.specs.Histories.{shows_history, held_at, StandsForDesk}
+use Rattle.member_desk.specs.Histories.{held_at, StandsForDesk}
 use Rattle.member_desk.specs.Members.{IsLook, IsToldBy}
 use Rattle.member_desk.proofs.Telling.{IsFound, told_all}
 

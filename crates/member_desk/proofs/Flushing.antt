@@ -1,7 +1,6 @@
 -- What a desk says to one client of one key, at flush after flush.
-use Rattle.std.proofs.Common.{◌≡◌, ◌≢◌, ℕ, List, [], ◌∷◌, ◌++◌, Bool, true, false, Option, Some, None, refl, ap, sym, ◌∙◌, subst, map, arith}
-use Rattle.std.specs.Prelude.{if◌then◌else◌, not, filter, ◌&&◌, ◌||◌, ◌==◌, nat_lt, option_map}
-use Rattle.std.specs.List.{AllByRecursion, flat_map}
+use Rattle.std.proofs.Common.{◌≡◌, ◌≢◌, ℕ, List, [], ◌∷◌, ◌++◌, Bool, true, false, Option, Some, None, refl, ap, sym, ◌∙◌, subst, map}
+use Rattle.std.specs.Prelude.{if◌then◌else◌, not, filter, ◌&&◌, ◌||◌, ◌==◌, nat_lt}
 use Rattle.std.specs.declared.cmp.Ordering.{Ordering}
 use Rattle.std.specs.declared.cmp.Ordering.TheVariants.{Less, Equal, Greater}
 use Rattle.std.specs.Ordering.{match_ordering, nat_cmp}
@@ -19,8 +18,8 @@ use Rattle.member_desk.specs.declared.client.Client.{Client}
 use Rattle.member_desk.specs.declared.followed.Followed.{Followed}
 use Rattle.member_desk.specs.declared.notice.Notice.{Notice}
 use Rattle.member_desk.specs.Places.{sought, IsBelowAll, IsRising}
-use Rattle.member_desk.specs.Subscriptions.{by_number, by_key, numbers_of, keys_of, told_at, told_by_clients, told_of, told_to, AreInOrder}
-use Rattle.member_desk.specs.Notices.{notice_of, told_client, tellings, is_news, notices_at, notices_of, told_at_key, told_after}
+use Rattle.member_desk.specs.Subscriptions.{by_number, by_key, numbers_of, keys_of, told_by_clients, told_of, told_to, AreInOrder}
+use Rattle.member_desk.specs.Notices.{notice_of, tellings, is_news, notices_at, notices_of}
 use Rattle.member_desk.specs.Successive.{said_to}
 use Rattle.member_desk.proofs.Orders.{numbers_order, texts_order, below_more}
 
@@ -31,6 +30,7 @@ other_number m n ne = go (m == n) refl
   where
     decides : Decides (m == n) (m ≡ n)
     decides = Decides-eqb m n
+
     go : (b : Bool) → (m == n) ≡ b → b ≡ false
     go true is = absurd (ne (decides.0 is))
     go false is = refl
@@ -40,6 +40,7 @@ other_key key other ne = go (bytes_eq key other) refl
   where
     decides : Decides (bytes_eq key other) (key ≡ other)
     decides = bytes_eq-Decides key other
+
     go : (b : Bool) → bytes_eq key other ≡ b → b ≡ false
     go true is = absurd (ne (decides.0 is))
     go false is = refl
@@ -111,6 +112,7 @@ module _ (key : Text) (n : ℕ) where
     where
       skip : client.number ≢ n → said_to key n (tellings key shown all (client ∷ clients)) ≡ said_to key n (tellings key shown all clients)
       skip other = passed_over key shown all client clients (ap (λ b. bytes_eq key key && b) (other_number client.number n other) ∙ and_false (bytes_eq key key))
+
       here : client.number ≡ n → (told : Bool) → said_to key n (map (notice_of key shown) (if told then client ∷ filter (λ c. all || not c.told) clients else filter (λ c. all || not c.told) clients)) ≡ (if told then shown ∷ [] else [])
       here same told = elim told as (λ t. said_to key n (map (notice_of key shown) (if t then client ∷ filter (λ c. all || not c.told) clients else filter (λ c. all || not c.told) clients)) ≡ (if t then shown ∷ [] else [])) [
         | true ↦ said_first (notice_of key shown client) true (tellings key shown all clients) (ap (λ b. b && (client.number == n)) (same_key key) ∙ ap (λ m. m == n) same ∙ same_number n)
@@ -120,6 +122,7 @@ module _ (key : Text) (n : ℕ) where
         where
           after : client.number ≡ n → said_to key n (tellings key shown all clients) ≡ []
           after same' = above_all shown all clients (subst (λ (m : ℕ). IsBelowAll nat_lt m (numbers_of clients)) same' h.0)
+
       go : (o : Ordering) → nat_cmp client.number n ≡ o → said_to key n (tellings key shown all clients) ≡ said_if shown all (sought (by_number n) clients) → said_to key n (tellings key shown all (client ∷ clients)) ≡ said_if shown all (match_ordering o (sought (by_number n) clients) (Some client) None)
       go Less is rest = skip (less_differ nat_lt client.number n (numbers_order.less client.number n is) (number_never n)) ∙ rest
       go Equal is rest = here (numbers_order.equal client.number n is) (all || not client.told)

@@ -1,5 +1,5 @@
 -- What a look finds is what the member holds.
-use Rattle.std.proofs.Common.{◌≡◌, ℕ, Bool, true, false, Option, Some, None, refl, ap, sym, ◌∙◌, subst}
+use Rattle.std.proofs.Common.{◌≡◌, ℕ, true, Option, Some, None, ap, sym, ◌∙◌, subst}
 use Rattle.std.specs.Prelude.{if◌then◌else◌}
 use Rattle.model_history.specs.History.{History, at, IsPartOf}
 use Rattle.model_history.proofs.HistoryLaws.{same_part}

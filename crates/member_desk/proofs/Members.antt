@@ -1,10 +1,9 @@
 -- What a member holds of a key that is looked up.
-use Rattle.std.proofs.Common.{◌≡◌, ℕ, zero, suc, ◌<◌, List, [], ◌∷◌, length, get_or, Bool, true, false, Option, Some, None, Result, Ok, Err, IfOk, refl, ap, sym, ◌∙◌, subst, arith, map}
+use Rattle.std.proofs.Common.{◌≡◌, ℕ, suc, ◌<◌, List, [], ◌∷◌, length, get_or, Bool, true, false, Option, Some, None, Result, Ok, Err, IfOk, refl, ap, sym, ◌∙◌, subst, arith}
 use Rattle.std.specs.Prelude.{find, option_map, if◌then◌else◌}
 use Rattle.std.specs.Str.{bytes_eq}
 use Rattle.model_history.specs.Texts.{Text}
-use Rattle.model_history.specs.Vector.{VersionVector, IdentitySet}
-use Rattle.model_history.specs.History.{History, IsPartOf}
+use Rattle.model_history.specs.History.{History}
 use Rattle.model_members.proofs.Steps.{bytes_eq-tells}
 use Rattle.model_members.specs.DataType.{meaning}
 use Rattle.model_members.specs.Entry.{Entry}

@@ -1,5 +1,5 @@
 -- A list in order stays in order where it is edited at its place.
-use Rattle.std.proofs.Common.{◌≡◌, ℕ, List, [], ◌∷◌, ◌++◌, Bool, true, false, Option, Some, None, Result, Ok, Err, OnOk, OnErr, refl, ap, sym, ◌∙◌, subst, map, arith}
+use Rattle.std.proofs.Common.{◌≡◌, ℕ, List, [], ◌∷◌, ◌++◌, Bool, true, false, Result, Ok, Err, OnOk, OnErr, refl, ap, sym, ◌∙◌, subst, map, arith}
 use Rattle.std.specs.Prelude.{nat_lt, if◌then◌else◌}
 use Rattle.std.specs.List.{AllByRecursion}
 use Rattle.std.specs.declared.cmp.Ordering.{Ordering}
@@ -13,8 +13,8 @@ use Rattle.base_bytes.specs.TextOrder.{text_order}
 use Rattle.base_bytes.proofs.TextLaws.{order_less, order_equal, order_greater, less_order, lt_trans, lt_never}
 use Rattle.member_desk.specs.declared.client.Client.{Client}
 use Rattle.member_desk.specs.declared.followed.Followed.{Followed}
-use Rattle.member_desk.specs.Places.{sought, edited, IsBelowAll, IsRising}
-use Rattle.member_desk.specs.Subscriptions.{untold, by_number, with_client, without_client, numbers_of, first_of, by_key, with_clients, is_nobody, unless_left, with_subscription, without_subscription, keys_of, AreInOrder}
+use Rattle.member_desk.specs.Places.{edited, IsBelowAll, IsRising}
+use Rattle.member_desk.specs.Subscriptions.{untold, with_client, without_client, numbers_of, first_of, by_key, with_clients, is_nobody, unless_left, with_subscription, without_subscription, AreInOrder}
 
 -- a test of which key comes first, and the order of keys that it is the test of
 pub record IsOrder {K : Type 0} (lt : K → K → Bool) (R : K → K → Ordering) : Type 0 where
@@ -102,14 +102,19 @@ numbers_order = record {
   where
     less : (x y : ℕ) → nat_cmp x y ≡ Less → nat_lt x y ≡ true
     less x y e = grind (arith, nat_tests)
+
     equal : (x y : ℕ) → nat_cmp x y ≡ Equal → x ≡ y
     equal x y e = grind (arith, nat_tests)
+
     greater : (x y : ℕ) → nat_cmp x y ≡ Greater → nat_lt y x ≡ true
     greater x y e = grind (arith, nat_tests)
+
     is_greater : (x y : ℕ) → nat_lt y x ≡ true → nat_cmp x y ≡ Greater
     is_greater x y e = grind (arith, nat_tests)
+
     same : (x : ℕ) → nat_cmp x x ≡ Equal
     same x = grind (arith, nat_tests)
+
     trans : (x y z : ℕ) → nat_lt x y ≡ true → nat_lt y z ≡ true → nat_lt x z ≡ true
     trans x y z p q = grind (arith, nat_tests)
 

@@ -1,12 +1,12 @@
 -- What is found and changed at a place of a list in order, by a search from the front.
-use Rattle.std.proofs.Common.{◌≡◌, ℕ, zero, suc, ◌+◌, ◌<◌, ◌≤◌, List, [], ◌∷◌, ◌++◌, length, take, drop, get_or, refl, ap, sym, ◌∙◌, arith, append_assoc, Option, Some, None}
+use Rattle.std.proofs.Common.{◌≡◌, ℕ, zero, suc, ◌+◌, ◌<◌, ◌≤◌, List, [], ◌∷◌, ◌++◌, length, take, drop, get_or, refl, ap, sym, ◌∙◌, arith, append_assoc, Some, None}
 use Rattle.std.specs.declared.cmp.Ordering.{Ordering}
 use Rattle.std.specs.declared.cmp.Ordering.TheVariants.{Less, Equal, Greater}
 use Rattle.std.specs.Ordering.{match_ordering}
 use Rattle.std.proofs.Math.Seq.{drop-cons}
 use Rattle.std.proofs.lemmas.List.{take_more, drop_all, append-nil}
 use Rattle.std.proofs.lemmas.Option.{slice_get_read}
-use Rattle.member_desk.specs.Places.{sought, edited, IsAt, IsBefore, IsPlace}
+use Rattle.member_desk.specs.Places.{sought, edited, IsPlace}
 use Rattle.member_desk.specs.declared.place.Place.TheVariants.{At, Before}
 
 pub drop_here : {X : Type 0} (t : List X) (i : ℕ) (x : X) → i < length t → x ≡ get_or t i x → drop i t ≡ x ∷ drop (i + 1) t

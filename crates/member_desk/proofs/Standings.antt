@@ -1,5 +1,5 @@
 -- What was told stands where nothing came since.
-use Rattle.std.proofs.Common.{◌≡◌, ℕ, ◌+◌, ◌<◌, length, get_or, List, [], Bool, true, false, Option, Some, None, refl, ap, sym, ◌∙◌, map}
+use Rattle.std.proofs.Common.{◌≡◌, ℕ, ◌+◌, ◌<◌, length, get_or, List, [], true, false, Option, Some, None, refl, ap, sym, ◌∙◌, map}
 use Rattle.std.specs.Prelude.{not, is_some}
 use Rattle.std.proofs.Math.ListN.{set}
 use Rattle.model_history.specs.Texts.{Text}

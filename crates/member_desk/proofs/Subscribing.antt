@@ -1,6 +1,6 @@
 -- What clients are told after one of them subscribes, or ends its subscription.
-use Rattle.std.proofs.Common.{◌≡◌, ◌≢◌, ℕ, List, [], ◌∷◌, ◌++◌, Bool, true, false, ◌⊎◌, inl, inr, Option, Some, None, refl, ap, sym, ◌∙◌, subst, map}
-use Rattle.std.specs.Prelude.{if◌then◌else◌, is_some, nat_lt}
+use Rattle.std.proofs.Common.{◌≡◌, ◌≢◌, ℕ, List, [], ◌∷◌, ◌++◌, Bool, true, false, ◌⊎◌, inl, inr, Option, Some, None, refl, ap, sym, ◌∙◌, subst}
+use Rattle.std.specs.Prelude.{is_some, nat_lt}
 use Rattle.std.specs.List.{AllByRecursion}
 use Rattle.std.specs.declared.cmp.Ordering.{Ordering}
 use Rattle.std.specs.declared.cmp.Ordering.TheVariants.{Less, Equal, Greater}
@@ -13,8 +13,8 @@ use Rattle.base_bytes.specs.TextOrder.{text_order}
 use Rattle.member_desk.specs.declared.client.Client.{Client}
 use Rattle.member_desk.specs.declared.followed.Followed.{Followed}
 use Rattle.member_desk.specs.Places.{sought, edited, IsRising}
-use Rattle.member_desk.specs.Subscriptions.{untold, by_number, with_client, without_client, has_client, numbers_of, first_of, by_key, with_clients, is_nobody, unless_left, with_subscription, without_subscription, follows, is_subscribed, told_at, told_by_clients, told_of, told_to, keys_of, AreInOrder}
-use Rattle.member_desk.proofs.Orders.{IsOneAt, numbers_order, texts_order, left_at}
+use Rattle.member_desk.specs.Subscriptions.{untold, by_number, with_client, without_client, has_client, numbers_of, first_of, by_key, with_clients, unless_left, with_subscription, without_subscription, follows, is_subscribed, told_by_clients, told_of, told_to, AreInOrder}
+use Rattle.member_desk.proofs.Orders.{numbers_order, texts_order, left_at}
 use Rattle.member_desk.proofs.Finding.{sought_has, sought_edited, sought_other}
 
 -- where what is found stays as it is, so does the list
@@ -32,6 +32,7 @@ same_or_not key other = go (bytes_eq key other) refl
   where
     decides : Decides (bytes_eq key other) (key ≡ other)
     decides = bytes_eq-Decides key other
+
     go : (b : Bool) → bytes_eq key other ≡ b → (key ≡ other) ⊎ (key ≢ other)
     go true is = inl (decides.0 is)
     go false is = inr (λ same. let yes = decides.1 same in cc (is, yes))

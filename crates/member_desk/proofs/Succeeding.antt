@@ -1,5 +1,5 @@
 -- Successive notices differ, their histories rise, and the last one is what was found last.
-use Rattle.std.proofs.Common.{◌≡◌, ◌≢◌, List, [], ◌∷◌, Bool, true, false, Option, Some, None, refl, ap, sym, ◌∙◌, subst, map}
+use Rattle.std.proofs.Common.{◌≡◌, List, [], ◌∷◌, Bool, true, false, Option, Some, None, refl, ap, sym, ◌∙◌, subst, map}
 use Rattle.std.specs.Prelude.{if◌then◌else◌, not, option_map}
 use Rattle.std.specs.List.{AllByRecursion}
 use Rattle.model_history.specs.Texts.{Text}
@@ -39,6 +39,7 @@ module _ {V : Type 0} (shows : Text → V → Shown) (key : Text) where
     where
       rest : List Shown
       rest = map (shows key) (tellings shows key (Some now) found)
+
       go : (news : Bool) → is_news shows key told now ≡ news → IsOther (shows key now) rest × Differ rest
           → StartsOther (option_map (shows key) told) (map (shows key) (if news then now ∷ tellings shows key (Some now) found else tellings shows key (Some now) found))
           × Differ (map (shows key) (if news then now ∷ tellings shows key (Some now) found else tellings shows key (Some now) found))

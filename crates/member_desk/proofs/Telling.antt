@@ -17,7 +17,7 @@ use Rattle.member_desk.specs.Values.{same_shown}
 use Rattle.member_desk.specs.Notices.{notice_of, tellings, is_news, notices_at, notices_of, told_at_key, told_after}
 use Rattle.member_desk.specs.Looks.{shows_told, found_by, notices_by, told_by}
 use Rattle.member_desk.proofs.Searches.{take_here}
-use Rattle.member_desk.specs.Histories.{shows_history, IsTold, StandsForTold, StandsForFollowed, StandsForDesk}
+use Rattle.member_desk.specs.Histories.{shows_history, StandsForTold, StandsForFollowed, StandsForDesk}
 
 -- ONE CLIENT MORE
 

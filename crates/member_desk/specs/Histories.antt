@@ -1,7 +1,7 @@
 -- What is told, as the histories that it is the meaning of.
 --     StandsForDesk        the told values are the meanings of the model's told histories
 --     TellsOf        notices are those of the model, over what its member holds
-use Rattle.std.specs.Prelude.{◌≡◌, ℕ, List, Bool, true, false, if◌then◌else◌, Option, Some, None, find}
+use Rattle.std.specs.Prelude.{◌≡◌, ℕ, List, true, false, if◌then◌else◌, Option, Some, None, find}
 use Rattle.std.specs.List.{AllZip}
 use Rattle.std.specs.Str.{bytes_eq}
 use Rattle.model_history.specs.Texts.{Text}

@@ -1,5 +1,5 @@
 -- What a flush finds at a key, as a value to be told.
-use Rattle.std.specs.Prelude.{ℕ, List, [], ◌∷◌, ◌++◌, Option, Some, None}
+use Rattle.std.specs.Prelude.{List, [], ◌∷◌, ◌++◌, Option, Some, None}
 use Rattle.model_history.specs.Texts.{Text}
 use Rattle.model_kinds.specs.declared.shown.Shown.{Shown}
 use Rattle.member_desk.specs.declared.followed.Followed.{Followed}

@@ -1,7 +1,7 @@
 -- What a flush tells the subscribed clients, over what is found at each key: a value, or that there is none.
 --     notices_of        the notices, by keys and then clients
 --     told_after        the subscriptions after them
-use Rattle.std.specs.Prelude.{ℕ, List, [], ◌∷◌, Bool, true, not, ◌||◌, Option, Some, None, map, filter}
+use Rattle.std.specs.Prelude.{List, [], Bool, true, not, ◌||◌, Option, Some, None, map, filter}
 use Rattle.std.specs.List.{flat_map}
 use Rattle.model_history.specs.Texts.{Text}
 use Rattle.model_kinds.specs.declared.shown.Shown.{Shown}

@@ -1,12 +1,12 @@
 -- Worked subscriptions: client 7 follows `n`, at whose member a count of 5 is found from the second flush on.
-use Rattle.std.specs.Prelude.{ℕ, List, [], Option, Some, None, codes}
+use Rattle.std.specs.Prelude.{List, [], Option, Some, None, codes}
 use Rattle.model_history.specs.Texts.{Text}
 use Rattle.model_kinds.specs.declared.shown.Shown.{Shown}
 use Rattle.model_kinds.specs.declared.shown.Shown.TheVariants.{Count}
 use Rattle.member_desk.specs.declared.followed.Followed.{Followed}
 use Rattle.member_desk.specs.declared.notice.Notice.{Notice}
-use Rattle.member_desk.specs.Subscriptions.{with_subscription, without_subscription}
-use Rattle.member_desk.specs.Notices.{notices_of, told_after}
+use Rattle.member_desk.specs.Subscriptions.{with_subscription}
+use Rattle.member_desk.specs.Notices.{told_after}
 
 abbrev pub as_it_is : Text → Shown → Shown
 as_it_is key shown = shown

@@ -18,4 +18,4 @@ pub returns-in-At-clause-standing : goal.returns-in-At-clause-standing
 returns-in-At-clause-standing g c =
     let place = subst (λ (t : List (Followed g.row.V.Denot)). IsPlace (by_key c.args.key.now) t (At c.in-At.index)) c.as_slice.ensures.value c.in-At.ensures in
     subst (λ (b : Bool). IfOk c.add.result (λ (s : Subscribed). s ≡ (if b then subscribed.Standing else subscribed.New)))
-        (follows_here c.args.desk.now.items c.in-At.index c.args.key.now c.args.client place c.index_mut-here.result.now c.index_mut-here.ensures.value) c.add.ensures.standing
+    (follows_here c.args.desk.now.items c.in-At.index c.args.key.now c.args.client place c.index_mut-here.result.now c.index_mut-here.ensures.value) c.add.ensures.standing

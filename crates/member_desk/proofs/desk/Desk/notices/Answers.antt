@@ -23,6 +23,6 @@ returns-clause-told g c =
     let noted = c.take_all.ensures ∙ ap (λ (desk : List (Followed Told)). told_by desk looks) c.as_mut_slice.ensures.value in
     let is = told_back c.self.inside.followed.len c.self.inside.followed.items c.take_all.new.desk looks c.self.inside.followed.ok.0 noted in
     flushed c.args.node.now c.args.self.now (take c.self.inside.followed.len (c.take_all.new.desk ++ drop (length c.take_all.new.desk) c.self.inside.followed.items)) looks c.in_ok-looks.field-0.notices
-        (subst (λ (desk : List (Followed Told)). AllZip (IsLook c.args.node.now) desk looks) seen c.in_ok-looks.ensures.looks)
-        (c.in_ok-looks.ensures.notices ∙ ap (λ (desk : List (Followed Told)). notices_by desk looks) seen)
-        (is ∙ ap (λ (desk : List (Followed Told)). told_by desk looks) c.self.view_is)
+    (subst (λ (desk : List (Followed Told)). AllZip (IsLook c.args.node.now) desk looks) seen c.in_ok-looks.ensures.looks)
+    (c.in_ok-looks.ensures.notices ∙ ap (λ (desk : List (Followed Told)). notices_by desk looks) seen)
+    (is ∙ ap (λ (desk : List (Followed Told)). told_by desk looks) c.self.view_is)
