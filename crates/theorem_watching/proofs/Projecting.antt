@@ -1,7 +1,7 @@
 -- Members play the plain steps alone.
 use Rattle.std.proofs.Common.{◌≡◌, ℕ, List, [], ◌∷◌, Option, Some, None, refl, ap, ◌∙◌}
 use Rattle.model_members.specs.DataType.{Replication}
-use Rattle.model_members.specs.Script.{ScriptStep, Playing, played, played_all}
+use Rattle.model_members.specs.Script.{Playing, played_all}
 use Rattle.model_kinds.specs.declared.shown.Shown.{Shown}
 use Rattle.theorem_watching.specs.Watching.{WatchStep, Watching, plain_steps, after_flush, just_played, silent, flushed_by, watched, watched_all}
 use Rattle.theorem_watching.specs.Watching.WatchStep.{Plain, Subscribe, Unsubscribe}

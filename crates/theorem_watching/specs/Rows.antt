@@ -1,5 +1,5 @@
 -- Worked scripts with subscriptions, and their reports.
-use Rattle.std.specs.Prelude.{◌≡◌, ℕ, List, [], ◌∷◌, ◌++◌, codes, flat_map}
+use Rattle.std.specs.Prelude.{◌≡◌, [], ◌∷◌, codes, flat_map}
 use Rattle.model_members.specs.Node.Level.{All}
 use Rattle.model_members.specs.Report.{line_of}
 use Rattle.model_members.specs.Script.{Ask, ScriptStep}

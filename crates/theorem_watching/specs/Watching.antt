@@ -2,7 +2,7 @@
 --     watched        a step of such a script: its lines, and what it leaves
 --     plain_steps        the steps of it that the members take part in
 --     watch_report        the report, where the keepers answer so
-use Rattle.std.specs.Prelude.{ℕ, suc, List, [], ◌∷◌, ◌++◌, map, flat_map, Bool, is_some, find, Option, None, Some, if◌then◌else◌, codes, decimal}
+use Rattle.std.specs.Prelude.{ℕ, suc, List, [], ◌∷◌, ◌++◌, map, flat_map, is_some, find, Option, None, Some, if◌then◌else◌, codes, decimal}
 use Rattle.std.specs.Str.{bytes_eq}
 use Rattle.model_history.specs.Table.{with_at}
 use Rattle.model_history.specs.Texts.{Text}
@@ -45,6 +45,16 @@ pub data WatchLine (Op : Type 0) : Type 0 where
   UnsubscribeLine : (at client : ℕ) (key : Text) (answer : Followship) → WatchLine Op
   NoticeLine : (at : ℕ) (notice : Notice) → WatchLine Op
 
+-- the declaration of a key, if it is declared
+abbrev pub declared_in : {Kind : Type 0} → List (KeyDecl Kind) → Text → Option (KeyDecl Kind)
+declared_in keys key = find (λ decl. bytes_eq decl.name key) keys
+
+-- a request that is refused changes no desk
+abbrev pub if_followed : {Op : Type 0} → Followship → (List (Followed (History Op)) → List (Followed (History Op))) → List (Followed (History Op)) → List (Followed (History Op))
+if_followed Gone change desk = desk
+if_followed UnknownKey change desk = desk
+if_followed _ change desk = change desk
+
 -- A SCRIPT AT WORK
 
 -- what each identity's clients follow, with the histories whose meanings they were told
@@ -60,9 +70,6 @@ module _ {Kind Op : Type 0} where
   abbrev pub beginning : Playing Kind Op Shown → Watching Kind Op
   beginning p = record { playing = p; desks = λ i. [] }
 
-  abbrev pub declared_in : List (KeyDecl Kind) → Text → Option (KeyDecl Kind)
-  declared_in keys key = find (λ decl. bytes_eq decl.name key) keys
-
   -- subscriptions end with their member
   abbrev pub of_running : World Kind Op Shown → Desks Op → Desks Op
   of_running world desks i = if is_some (world.nodes i) then desks i else []
@@ -74,11 +81,6 @@ module _ {Kind Op : Type 0} where
   answered None key answer = Gone
   answered (Some node) key answer = if is_some (declared_in node.keys key) then answer else UnknownKey
 
-  abbrev pub if_followed : Followship → (List (Followed (History Op)) → List (Followed (History Op))) → List (Followed (History Op)) → List (Followed (History Op))
-  if_followed Gone change desk = desk
-  if_followed UnknownKey change desk = desk
-  if_followed _ change desk = change desk
-
   abbrev pub subscribe_answer : Watching Kind Op → ℕ → ℕ → Text → Followship
   subscribe_answer w at client key = answered (w.playing.world.nodes at) key (if is_subscribed (w.desks at) key client then AlreadySubscribed else Subscribed)
 
@@ -89,8 +91,12 @@ module _ {Kind Op : Type 0} where
   with_change w at answer change = record w { desks = with_at w.desks at (if_followed answer change (w.desks at)) }
 
 -- which member made a flush that is done, if that is what the lines of a step tell
+abbrev pub flush_of : {Op : Type 0} → Head Op → Answer Shown → Option ℕ
+flush_of (Head.Asked at Ask.Flush) (Answer.Replied Reply.Done) = Some at
+flush_of _ _ = None
+
 abbrev pub flushed_by : {Op : Type 0} → List (Told Op Shown) → Option ℕ
-flushed_by (record { head = Head.Asked at Ask.Flush; answer = Answer.Replied Reply.Done } ∷ []) = Some at
+flushed_by (told ∷ []) = flush_of told.head told.answer
 flushed_by _ = None
 
 module _ {Kind Op : Type 0} (data_type : DataType Kind Op Shown) where

@@ -1,9 +1,9 @@
 -- What worked scripts with subscriptions are said with.
-use Rattle.std.specs.Prelude.{ℕ, List, codes}
+use Rattle.std.specs.Prelude.{ℕ, List}
 use Rattle.model_history.specs.Texts.{Text}
 use Rattle.model_members.specs.Node.{KeyDecl}
 use Rattle.model_members.specs.Node.Level.{Local}
-use Rattle.model_members.specs.Script.{Ask, ScriptStep, KeeperAnswers, none_fails}
+use Rattle.model_members.specs.Script.{Ask, ScriptStep, none_fails}
 use Rattle.model_kinds.specs.declared.kind.Kind.{Kind}
 use Rattle.model_kinds.specs.declared.operation.Op.{Op}
 use Rattle.model_rows.specs.Words.{data_type}
