@@ -1,12 +1,13 @@
-//! Two members in a service that has a transport of its own: here a loop that hands the bytes of each message to its receiver.
+//! Two members in a service that has a transport of its own: here a loop that hands the bytes of each message to its receiver. A
+//! client of the second one is told what it shows.
 #![tactic(auto)]
 
 use member_embedding::{
-    CodecError, Data, Id, Input, Items, KeyDecl, Kind, Level, Memory, MemoryKeeper, Node, Op,
-    Output, Post, Posts, Reply, StepError, Text, TooLong, View, ViewList, accepts, are_distinct,
-    push_shown, read_message, spell_message,
+    CodecError, Data, Desk, Id, Input, Items, KeyDecl, Kind, Level, Memory, MemoryKeeper, Node,
+    Notice, Notices, Op, Output, Post, Posts, Reply, StepError, Text, TooLong, View, ViewList,
+    accepts, are_distinct, push_shown, read_message, spell_message,
 };
-use std::alloc::Global;
+use std::alloc::{AllocError, Global};
 use std::process::ExitCode;
 use thiserror::Error;
 
@@ -28,6 +29,12 @@ enum Stopped {
 
 impl From<Memory> for Stopped {
     fn from(_refused: Memory) -> Stopped {
+        Stopped::Memory
+    }
+}
+
+impl From<AllocError> for Stopped {
+    fn from(_refused: AllocError) -> Stopped {
         Stopped::Memory
     }
 }
@@ -184,10 +191,40 @@ fn pair(alloc: Global) -> Result<(Member, Member), Stopped> {
     Ok((first, second))
 }
 
-/// What the second member's cart shows.
+/// Adds what a client is told of a key.
+fn push_notice(alloc: Global, text: &mut String, notice: &Notice) -> Result<(), Memory> {
+    let client = notice.client;
+    let key = notice.key.as_str();
+    let head = format!(in alloc; "\nclient {client} is told: {key} ")?;
+    text.push_str(head.as_str())?;
+    push_shown(alloc, text, &notice.shown)
+}
+
+/// The notices as lines.
+fn lines(alloc: Global, notices: &Notices) -> Result<String, Memory> {
+    let mut text = String::new(alloc);
+    for notice in notices.as_slice() {
+        push_notice(alloc, &mut text, notice)?;
+    }
+    Ok(text)
+}
+
+/// What the clients of a member are told after a flush of it. A service would send what is flushed.
+fn told(alloc: Global, member: &mut Member, desk: &mut Desk) -> Result<String, Stopped> {
+    flush(member)?;
+    let notices = desk.notices(member)?;
+    Ok(lines(alloc, &notices)?)
+}
+
+/// What the second member's cart shows, and what client 7 is told of it.
 fn run(alloc: Global) -> Result<String, Stopped> {
     let (mut first, mut second) = pair(alloc)?;
-    shop(alloc, &mut first, &mut second)
+    let mut desk = Desk::new(alloc);
+    desk.subscribe(7, &cart()?)?;
+    let mut shown = shop(alloc, &mut first, &mut second)?;
+    let told = told(alloc, &mut second, &mut desk)?;
+    shown.push_str(told.as_str())?;
+    Ok(shown)
 }
 
 fn main(rt: HostRuntime) -> ExitCode {

@@ -1,5 +1,5 @@
 //! What a service needs that uses a member by itself, with a transport of its own: the member, its keys, inputs and outputs,
-//! views, values and keepers, and the bytes of messages and views.
+//! views, values and keepers, the bytes of messages and views, and who is told of changed values.
 //!
 //! # What is promised, and by which contract
 //!
@@ -19,6 +19,7 @@ pub use data_value::Data;
 pub use distinct::are_distinct;
 pub use member_acceptance::accepts;
 pub use member_codec::{CodecError, read_message, read_view, spell_message, spell_view};
+pub use member_desk::{Desk, Notice, Notices, Subscribed};
 pub use member_keeper::{Keeper, KeeperError, MemoryKeeper, Stored};
 pub use member_node::{
     Fate, Finished, Input, KeyDecl, KeyOutcome, KeyState, Level, LoadError, Look, MOST_STEPS,

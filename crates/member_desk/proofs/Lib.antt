@@ -1,0 +1,16 @@
+pub mod Searches
+pub mod Editing
+pub mod Orders
+pub mod Finding
+pub mod Subscribing
+pub mod Following
+pub mod SameValues
+pub mod Succeeding
+pub mod Flushing
+pub mod After
+pub mod Looking
+pub mod Telling
+pub mod Standings
+pub mod Taking
+pub mod Members
+pub mod Flushes

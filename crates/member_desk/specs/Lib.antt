@@ -1,0 +1,9 @@
+pub mod Places
+pub mod Subscriptions
+pub mod Values
+pub mod Notices
+pub mod Successive
+pub mod Looks
+pub mod Histories
+pub mod Members
+pub mod Rows
