@@ -88,34 +88,3 @@ fn sets_are_united(rt: HostRuntime) -> Result<(), Fail> {
     assert_eq!(rt; (set.has(one), set.has(last), set.len()), (true, true, 3));
     Ok(())
 }
-
-/// {0:2, 3:1} and {0:1, 1:4} know nothing of each other; the first counts dot (0, 2) and not (0, 3), and joined with the second
-/// it is {0:2, 1:4, 3:1}.
-fn check_concurrent(
-    rt: &impl Abort,
-    first: &mut VersionVector,
-    second: &VersionVector,
-    three: Id,
-) -> Result<(), Fail> {
-    let (origin, one, _) = identities().ok_or("identities")?;
-    assert_eq!(rt; first.compare(second), Order::Concurrent);
-    assert!(rt; first.contains_dot(Dot { origin, seq: 2 }));
-    assert!(rt; !first.contains_dot(Dot { origin, seq: 3 }));
-    first.join(second)?;
-    assert_eq!(rt;
-        [first.at(origin), first.at(one), first.at(three)],
-        [2, 4, 1]
-    );
-    Ok(())
-}
-
-#[test]
-fn concurrent_vectors_are_joined(rt: HostRuntime) -> Result<(), Fail> {
-    let (zero, one, _) = identities().ok_or("identities")?;
-    let three = Id::new(3).ok_or("identities")?;
-    let mut first = vector(rt.alloc(), zero, 2)?;
-    first.raise(three, 1)?;
-    let mut second = vector(rt.alloc(), zero, 1)?;
-    second.raise(one, 4)?;
-    check_concurrent(&rt, &mut first, &second, three)
-}

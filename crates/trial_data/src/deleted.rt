@@ -20,9 +20,6 @@ const MOST_RECORDS: u64 = 1000;
 /// So many sets are filled, deleted and kept.
 const SETS: u32 = 64;
 
-/// Each set takes and loses so many elements, one after the other. Their texts would take some 500 pages if they were kept.
-const PASSING: u16 = 480;
-
 /// Each set has more than 18 kilobytes while it is full, so that they would take some 290 pages if their memory was kept.
 const FEW_PAGES: u64 = 96;
 
@@ -85,27 +82,6 @@ fn deleted<T: Replica<Kind = Kind, Op = Op>>(
     Ok(entry)
 }
 
-/// A set that took and lost many elements, each before the next.
-fn emptied<T: Replica<Kind = Kind, Op = Op>>(
-    alloc: Global,
-    kind: Kind,
-    id: Id,
-) -> Result<Envelope<T>, Fail> {
-    let mut entry = Envelope::new(alloc, T::empty(alloc, &kind)?);
-    for number in 0..PASSING {
-        let element = format!(in alloc;
-            "an element that is as long as a text may be, of number {number}"
-        )?;
-        let element = Text::new(&element)?;
-        if !takes(&mut entry, &Op::Add(element.copied()), id)
-            || !takes(&mut entry, &Op::Remove(element), id)
-        {
-            return Err("not taken".into());
-        }
-    }
-    Ok(entry)
-}
-
 /// The bytes of a set that is full, and then deleted.
 fn spelled<T: SpelledData<Kind = Kind, Op = Op>>(
     alloc: Global,
@@ -150,20 +126,6 @@ fn pages_of_deleted<T: Replica<Kind = Kind, Op = Op>>(
     Ok(pages(rt)?.saturating_sub(before))
 }
 
-/// How many more pages the process has after so many sets lost all their elements.
-fn pages_of_emptied<T: Replica<Kind = Kind, Op = Op>>(
-    rt: &HostRuntime,
-    kind: Kind,
-    id: Id,
-) -> Result<u64, Fail> {
-    let mut kept: Vec<Envelope<T>> = Vec::new(rt.alloc());
-    let before = pages(rt)?;
-    for _ in 0..SETS {
-        kept.push(emptied(rt.alloc(), kind, id)?)?;
-    }
-    Ok(pages(rt)?.saturating_sub(before))
-}
-
 /// Nothing is left of a deleted set: its entry has 13 bytes, with a record for each element, one for the delete.
 #[test]
 fn a_deleted_set_of_256_elements_has_13_bytes(rt: HostRuntime) -> Result<(), Fail> {
@@ -188,16 +150,6 @@ fn a_deleted_set_gives_its_memory_back(rt: HostRuntime) -> Result<(), Fail> {
     let dropped = pages_of_dropped::<Data>(&rt, Kind::GSet, id)?;
     let deleted = pages_of_deleted::<Data>(&rt, Kind::GSet, id)?;
     if deleted > dropped.saturating_add(FEW_PAGES) {
-        return Err("memory was kept".into());
-    }
-    Ok(())
-}
-
-/// The text of an element goes with its last dot.
-#[test]
-fn a_removed_element_gives_its_memory_back(rt: HostRuntime) -> Result<(), Fail> {
-    let id = Id::new(0).ok_or("identity")?;
-    if pages_of_emptied::<Data>(&rt, Kind::OrSet, id)? > FEW_PAGES {
         return Err("memory was kept".into());
     }
     Ok(())

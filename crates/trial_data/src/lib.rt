@@ -13,8 +13,6 @@ mod deleted;
 #[cfg(test)]
 mod digests;
 #[cfg(test)]
-mod dots;
-#[cfg(test)]
 mod member;
 #[cfg(test)]
 mod spellings;
