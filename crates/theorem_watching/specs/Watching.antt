@@ -20,6 +20,8 @@ use Rattle.member_desk.specs.declared.notice.Notice.{Notice}
 use Rattle.member_desk.specs.Subscriptions.{with_subscription, without_subscription, is_subscribed}
 use Rattle.member_desk.specs.Notices.{notices_of, told_after}
 use Rattle.member_desk.specs.Histories.{shown_as, held_at}
+use Rattle.theorem_watching.specs.declared.followship.Followship.{Followship}
+use Rattle.theorem_watching.specs.declared.followship.Followship.TheVariants.{Gone, UnknownKey, Subscribed, AlreadySubscribed, Unsubscribed, NotSubscribed}
 
 -- STEPS AND LINES
 
@@ -34,10 +36,6 @@ plain_steps [] = []
 plain_steps (Plain step ∷ steps) = step ∷ plain_steps steps
 plain_steps (Subscribe at client key ∷ steps) = plain_steps steps
 plain_steps (Unsubscribe at client key ∷ steps) = plain_steps steps
-
--- what a request to follow a key, or to follow it no more, is answered
-pub data Followship : Type 0 where
-  Gone UnknownKey Subscribed AlreadySubscribed Unsubscribed NotSubscribed : Followship
 
 pub data WatchLine (Op : Type 0) : Type 0 where
   PlainLine : Told Op Shown → WatchLine Op

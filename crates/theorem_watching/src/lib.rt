@@ -7,6 +7,8 @@
 //!   proved of every run of a script is so of these.
 #![tactic(auto)]
 
+mod followship;
 mod laws;
 
+pub use followship::Followship;
 pub use laws::{subscriptions_change_nothing, worked_subscriptions};

@@ -1,6 +1,6 @@
 //! A change is told however it came, and whatever the kind of its value.
 
-use crate::company::{Company, bring, company, flush, gossip, key, only, update, write};
+use crate::company::{Company, bring, flush, gossip, key, only, two_members, update, write};
 use base_bytes::Text;
 use data_lattice::SpelledData;
 use data_value::Data;
@@ -58,7 +58,7 @@ fn followed<T: SpelledData<Kind = Kind, Op = Op>>(
     alloc: Global,
     kind: Kind,
 ) -> Result<Company<T>, Fail> {
-    let mut company = company(alloc, kind)?;
+    let mut company = two_members(alloc, kind)?;
     company.desk.subscribe(5, &key()?)?;
     Ok(company)
 }

@@ -70,7 +70,7 @@ pub(crate) struct Company<T: SpelledData<Kind = Kind, Op = Op>> {
     pub(crate) desk: Desk,
 }
 
-pub(crate) fn company<T: SpelledData<Kind = Kind, Op = Op>>(
+pub(crate) fn two_members<T: SpelledData<Kind = Kind, Op = Op>>(
     alloc: Global,
     kind: Kind,
 ) -> Result<Company<T>, Fail> {

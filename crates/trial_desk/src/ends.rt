@@ -1,6 +1,6 @@
 //! How subscriptions end: by an unsubscribe, and with the member.
 
-use crate::company::{Company, bring, company, counts, flush, key, restarted, update};
+use crate::company::{Company, bring, counts, flush, key, restarted, two_members, update};
 use data_lattice::SpelledData;
 use data_value::Data;
 use member_desk::Subscribed;
@@ -10,7 +10,7 @@ use std::test::Fail;
 
 /// Two members with counters.
 fn counters(alloc: Global) -> Result<Company<Data>, Fail> {
-    company(alloc, Kind::GCounter)
+    two_members(alloc, Kind::GCounter)
 }
 
 /// Who ends a subscription and subscribes again is told again.

@@ -1,7 +1,7 @@
 //! What a client is told at one flush after another.
 
 use crate::company::{
-    Company, bring, company, counts, deletes, flush, key, other_key, update, update_key,
+    Company, bring, counts, deletes, flush, key, other_key, two_members, update, update_key,
 };
 use data_lattice::SpelledData;
 use data_value::Data;
@@ -12,7 +12,7 @@ use std::test::Fail;
 
 /// Two members with counters.
 fn counters(alloc: Global) -> Result<Company<Data>, Fail> {
-    company(alloc, Kind::GCounter)
+    two_members(alloc, Kind::GCounter)
 }
 
 /// Nothing before there is a record; one notice once it has come; none while it stays.
