@@ -1,4 +1,5 @@
 pub mod Called
+pub mod Judgements
 pub mod Counts
 pub mod EachRun
 pub mod Entries

@@ -7,4 +7,5 @@ pub mod Passages
 pub mod Serving
 pub mod Status
 pub mod Stopping
+pub mod Checking
 pub mod Upgrading
