@@ -12,10 +12,13 @@ use Rattle.script_reading.specs.declared.script.Script.{Script}
 use Rattle.script_reading.specs.declared.fault.Rule.{Rule}
 use Rattle.script_reading.specs.Reading.{Spells, Breaks, HasNoReading}
 use Rattle.report_lines.specs.Kept.{AreKept}
+use Rattle.trace_judged.specs.declared.judging.Judgement.{Judgement}
+use Rattle.trace_judged.specs.declared.judging.Judgement.TheVariants as judged
 use Rattle.top_call.specs.Answers.{Fulfils, IsOfBytes, IsOfSource, IsOfTold, HasNoJson, TellsRule, TellsPlace, TellsLine, TellsBroken, IsTooLong, FailsAt, CannotClear, SomeRose, IsTextDue, ScriptCallsFor, CallsFor, IsUnlessRefused}
 use Rattle.top_call.specs.Answers.{ScriptCallsFor as calls, IsTextDue as text_of}
 use Rattle.top_call.specs.Asking.{Reads, RunsNothing, IsAsked, AskNothing, AskToRead, AskToReadNothing, ReadsNothing, reads_in}
 use Rattle.top_call.specs.Behind.{untold}
+use Rattle.top_call.specs.Checking.{HasJudgement, judgement_status}
 use Rattle.top_call.specs.Due.{IsDueFor, IsDue, IsRefusal, IsRefusedFor, ComeBack, IsWritten, status_due, text_due}
 use Rattle.top_call.specs.Passages.{Passage, Traffic, ReadsWhole, limit}
 use Rattle.top_call.specs.Serving.{Refuses, Cause, IsDone, Answers, Returns}
@@ -25,9 +28,6 @@ use Rattle.top_call.specs.declared.status.Status.{Status}
 use Rattle.top_call.specs.declared.status.Status.TheVariants as status
 use Rattle.top_call.specs.declared.words.Asked.{Asked}
 use Rattle.top_call.specs.declared.words.Asked.TheVariants.{Report, Generate, Summarize, Behind, Upgrade, Check}
-use Rattle.trace_judged.specs.declared.judging.Judgement.{Judgement}
-use Rattle.trace_judged.specs.declared.judging.Judgement.TheVariants as judged
-use Rattle.top_call.specs.Checking.{HasJudgement, judgement_status}
 use Rattle.top_call.proofs.Judgements.{trace_calls, long_trace_calls}
 use Rattle.top_call.proofs.Entries.{entry_calls, no_entry_calls, length_calls}
 
@@ -214,7 +214,6 @@ module _ {K : Type 0} (keeping : Keeping K) where
           let fault = h.1 in
           let same = told_bytes bytes fault.0 told fault.1 in
           no_entry_calls fault.0 wanted fault.1.within fault.2.none (subst (λ b. CallsFor Reads.AnEntry b wanted) (sym same) call)
-
       place_refused Reads.ATrace text h call = absurd h
 
       line_refused : (reads : Reads) (text : String Global) → IsRefusal reads read (NotATrace text) → CallsFor reads bytes wanted → status.NotATrace ≡ wanted

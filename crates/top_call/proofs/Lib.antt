@@ -1,10 +1,10 @@
 pub mod Called
-pub mod Judgements
 pub mod Counts
 pub mod EachRun
 pub mod Entries
 pub mod Flushing
 pub mod Inside
+pub mod Judgements
 pub mod Refusals
 pub mod Settles
 pub mod Headline

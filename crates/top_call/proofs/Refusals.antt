@@ -13,15 +13,15 @@ use Rattle.report_lines.specs.Kept as kept
 use Rattle.report_lines.specs.Kept.{IsPlayed}
 use Rattle.report_lines.specs.declared.playing.Ending.{Ending}
 use Rattle.report_lines.specs.declared.playing.Ending.TheVariants as ending
-use Rattle.top_call.specs.Answers.{HasScript, IsReportOver, IsSummaryOver, IsReportBehind, IsOver, IsOfSource, Fulfils, FailsAt, AsksForRun}
-use Rattle.top_call.specs.Asking.{Reads, reads_in}
-use Rattle.top_call.specs.Behind as behind
-use Rattle.top_call.specs.Due.{IsUnread, IsFaultDue, IsRefusal, IsRefusedFor, IsToldBy, IsScriptDue, IsDueFor}
-use Rattle.top_call.specs.Passages.{Passage, ReadsWhole}
 use Rattle.trace_judged.specs.Judgements.{IsJudgement}
 use Rattle.trace_judged.specs.declared.judging.Judgement.{Judgement}
 use Rattle.trace_judged.specs.declared.judging.Judgement.TheVariants as judged
+use Rattle.top_call.specs.Answers.{HasScript, IsReportOver, IsSummaryOver, IsReportBehind, IsOver, IsOfSource, Fulfils, FailsAt, AsksForRun}
+use Rattle.top_call.specs.Asking.{Reads, reads_in}
+use Rattle.top_call.specs.Behind as behind
 use Rattle.top_call.specs.Checking.{IsJudgementDue, IsCheckDue}
+use Rattle.top_call.specs.Due.{IsUnread, IsFaultDue, IsRefusal, IsRefusedFor, IsToldBy, IsScriptDue, IsDueFor}
+use Rattle.top_call.specs.Passages.{Passage, ReadsWhole}
 use Rattle.top_call.specs.Upgrading.{IsUpgradeDue}
 use Rattle.top_call.specs.declared.due.Due.{Due}
 use Rattle.top_call.specs.declared.due.Due.TheVariants.{Fulfilled, Upgraded, NotCleared, NotJson, NotAScript, NotAnEnvelope, NotATrace, NotLawful, ReadFailed, TooLong, Memory}

@@ -19,12 +19,12 @@ use Rattle.report_lines.specs.Kept.{LoadWhatTheyTook, IsNotCleared, answers_by}
 use Rattle.report_lines.specs.Run.{decl_of, in_order, steps_of}
 use Rattle.member_node.specs.Members.{spelled_groups}
 use Rattle.theorem_digests.specs.Digests.{SettlesAgreeByDigests}
-use Rattle.top_call.specs.Asking.{Reads, IsAsked, AskNothing, AskToRead}
-use Rattle.top_call.specs.Behind.{IsRunBehind, IsNotClearedBehind}
-use Rattle.top_call.specs.Passages.{Passage, ReadsWhole, limit}
 use Rattle.trace_judged.specs.Judgements.{IsJudgement}
 use Rattle.trace_judged.specs.declared.judging.Judgement.TheVariants as judged
+use Rattle.top_call.specs.Asking.{Reads, IsAsked, AskNothing, AskToRead}
+use Rattle.top_call.specs.Behind.{IsRunBehind, IsNotClearedBehind}
 use Rattle.top_call.specs.Checking.{HasJudgement, TraceCallsFor, judgement_text}
+use Rattle.top_call.specs.Passages.{Passage, ReadsWhole, limit}
 use Rattle.top_call.specs.Upgrading.{EntryCallsFor, HasNoEntry, Upgrades, not_an_envelope_text}
 use Rattle.top_call.specs.declared.words.Asked.{Asked}
 use Rattle.top_call.specs.declared.words.Asked.TheVariants.{Report, Generate, Summarize, Behind, Upgrade, Check}

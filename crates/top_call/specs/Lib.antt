@@ -1,11 +1,11 @@
 pub mod Answers
 pub mod Asking
 pub mod Behind
+pub mod Checking
 pub mod Due
 pub mod EachRun
 pub mod Passages
 pub mod Serving
 pub mod Status
 pub mod Stopping
-pub mod Checking
 pub mod Upgrading

@@ -25,10 +25,10 @@ impl Form {
         let Some(object) = value.as_object() else {
             return Some(Wrong::NoObject(value));
         };
-        let strange = object
-            .keys()
-            .map(|name| name.as_str())
-            .find(|name| !self.needed.contains(name) && *name != self.optional);
+        let strange = object.keys().map(|name| name.as_str()).find(|name| !self
+            .needed
+            .contains(name)
+            && *name != self.optional);
         match strange {
             Some(name) => Some(Wrong::Has {
                 name,

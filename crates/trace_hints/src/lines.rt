@@ -44,10 +44,7 @@ fn record_form(line: &Value) -> Option<Form> {
             r#"a record with "enable" or "delete""#,
             &["do", "at", "key", "op"],
         )),
-        "prune" => Some(Form::new(
-            "a record of a prune",
-            &["do", "at", "key", "op", "id"],
-        )),
+        "prune" => Some(Form::new("a record of a prune", &["do", "at", "key", "op", "id"])),
         _ => None,
     }
 }

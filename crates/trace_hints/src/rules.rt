@@ -7,8 +7,10 @@ use serde_json::Value;
 pub(crate) fn rule_words(trace: &Value, line: &Value, rule: u8) -> &'static str {
     match rule {
         1 => first_rule_words(trace, line),
-        2 => "it forgets what the member held, counts a record that no earlier line made, or lacks the past of one that it counts",
-        3 => "the member then holds more of a pruned identity than the prune saw, or a second prune of it",
+        2 =>
+            "it forgets what the member held, counts a record that no earlier line made, or lacks the past of one that it counts",
+        3 =>
+            "the member then holds more of a pruned identity than the prune saw, or a second prune of it",
         _ => "the value is not the text of what the held records mean, or the member holds none",
     }
 }

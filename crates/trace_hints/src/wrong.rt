@@ -13,7 +13,10 @@ pub(crate) enum Wrong<'v> {
     /// It lacks a name that it needs.
     Lacks(&'static str),
     /// It has a name that is none of its form.
-    Has { name: &'v str, form: &'static str },
+    Has {
+        name: &'v str,
+        form: &'static str,
+    },
     /// What stands under a name is not what it has to be.
     Is {
         name: &'static str,

@@ -141,7 +141,8 @@ not a trace: line 1
 lawful"#;
 
 // Of two lines that have not their form the first is told, and what has not its form comes before what breaks a rule.
-const FIRST: &str = r#"{"at":0,"do":"hold","key":"n","known":[]},{"at":300,"do":"hold","key":"n","known":[]},5
+const FIRST: &str =
+    r#"{"at":0,"do":"hold","key":"n","known":[]},{"at":300,"do":"hold","key":"n","known":[]},5
 not a trace: line 2
 {"at":0,"do":"hold","key":"n","known":[[0,1]]},{"at":0,"do":"hold","key":"n","known":[]},5
 not a trace: line 3

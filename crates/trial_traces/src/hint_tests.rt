@@ -100,7 +100,11 @@ fn who_breaks_which_rule(rt: HostRuntime) -> Result<(), Fail> {
 #[test]
 fn nothing_is_told_of_what_is_no_json_or_lawful(rt: HostRuntime) -> Result<(), Fail> {
     let alloc = rt.alloc();
-    for text in ["", "{", r#"{"keys":[{"key":"n","kind":"gcounter"}],"lines":[]}"#] {
+    for text in [
+        "",
+        "{",
+        r#"{"keys":[{"key":"n","kind":"gcounter"}],"lines":[]}"#,
+    ] {
         assert!(&rt; hint(alloc, text.as_bytes()).is_none());
     }
     Ok(())

@@ -25,7 +25,8 @@ broken: line 2 rule 1
 {"at":0,"by":1,"do":"record","key":"n","op":"increment"},{"at":0,"by":1,"do":"record","key":"p","op":"decrement"},{"at":0,"do":"record","element":"a","key":"g","op":"add"},{"at":0,"do":"record","element":"a","key":"s","op":"remove"},{"at":0,"do":"record","key":"f","op":"enable"},{"at":0,"do":"record","key":"r","now":0,"op":"assign","text":"a"}
 lawful"#;
 
-const DELETES: &str = r#"{"at":0,"do":"record","key":"n","op":"delete"},{"at":0,"by":1,"do":"record","key":"n","op":"increment"}
+const DELETES: &str =
+    r#"{"at":0,"do":"record","key":"n","op":"delete"},{"at":0,"by":1,"do":"record","key":"n","op":"increment"}
 broken: line 2 rule 1
 {"at":0,"do":"record","key":"n","op":"delete"},{"at":0,"do":"record","key":"n","op":"delete"}
 broken: line 2 rule 1
@@ -35,7 +36,8 @@ broken: line 3 rule 1
 lawful"#;
 
 // A prune of the member itself, of one that never made a record, of one that the member holds no record of, and a second one.
-const PRUNES: &str = r#"{"at":0,"by":1,"do":"record","key":"n","op":"increment"},{"at":0,"do":"record","id":0,"key":"n","op":"prune"}
+const PRUNES: &str =
+    r#"{"at":0,"by":1,"do":"record","key":"n","op":"increment"},{"at":0,"do":"record","id":0,"key":"n","op":"prune"}
 broken: line 2 rule 1
 {"at":0,"by":1,"do":"record","key":"n","op":"increment"},{"at":0,"do":"record","id":1,"key":"n","op":"prune"}
 broken: line 2 rule 1
@@ -46,7 +48,8 @@ broken: line 4 rule 1
 {"at":1,"by":1,"do":"record","key":"n","op":"increment"},{"at":0,"do":"hold","key":"n","known":[[1,1]]},{"at":0,"do":"record","id":1,"key":"n","op":"prune"},{"at":0,"do":"show","key":"n","value":"1"},{"at":0,"by":1,"do":"record","key":"n","op":"increment"},{"at":0,"do":"show","key":"n","value":"2"}
 lawful"#;
 
-const FORGETTING: &str = r#"{"at":0,"by":1,"do":"record","key":"n","op":"increment"},{"at":0,"do":"hold","key":"n","known":[]}
+const FORGETTING: &str =
+    r#"{"at":0,"by":1,"do":"record","key":"n","op":"increment"},{"at":0,"do":"hold","key":"n","known":[]}
 broken: line 2 rule 2
 {"at":0,"by":1,"do":"record","key":"n","op":"increment"},{"at":1,"do":"hold","key":"n","known":[[0,1]]},{"at":2,"by":1,"do":"record","key":"n","op":"increment"},{"at":1,"do":"hold","key":"n","known":[[2,1]]}
 broken: line 4 rule 2
@@ -68,7 +71,8 @@ broken: line 2 rule 2"#;
 
 // The record of 1 has that of 0 in its past; in the second, a record of 2 has one of 1 in its past, and that one of 0;
 // in the last the vector counts the first record of 1, whose past is empty.
-const NOT_CLOSED: &str = r#"{"at":0,"by":1,"do":"record","key":"n","op":"increment"},{"at":1,"do":"hold","key":"n","known":[[0,1]]},{"at":1,"by":1,"do":"record","key":"n","op":"increment"},{"at":2,"do":"hold","key":"n","known":[[1,1]]}
+const NOT_CLOSED: &str =
+    r#"{"at":0,"by":1,"do":"record","key":"n","op":"increment"},{"at":1,"do":"hold","key":"n","known":[[0,1]]},{"at":1,"by":1,"do":"record","key":"n","op":"increment"},{"at":2,"do":"hold","key":"n","known":[[1,1]]}
 broken: line 4 rule 2
 {"at":0,"by":1,"do":"record","key":"n","op":"increment"},{"at":1,"do":"hold","key":"n","known":[[0,1]]},{"at":1,"by":1,"do":"record","key":"n","op":"increment"},{"at":2,"do":"hold","key":"n","known":[[0,1],[1,1]]},{"at":2,"by":1,"do":"record","key":"n","op":"increment"},{"at":3,"do":"hold","key":"n","known":[[1,1],[2,1]]}
 broken: line 6 rule 2
@@ -78,7 +82,8 @@ broken: line 5 rule 2
 lawful"#;
 
 // The prune saw one record of 3. Another member holds two and then the prune; who pruned takes the second; 3 itself makes one after it.
-const MORE_THAN_SEEN: &str = r#"{"at":3,"by":1,"do":"record","key":"n","op":"increment"},{"at":0,"do":"hold","key":"n","known":[[3,1]]},{"at":0,"do":"record","id":3,"key":"n","op":"prune"},{"at":3,"by":1,"do":"record","key":"n","op":"increment"},{"at":1,"do":"hold","key":"n","known":[[3,2]]},{"at":1,"do":"hold","key":"n","known":[[0,1],[3,2]]}
+const MORE_THAN_SEEN: &str =
+    r#"{"at":3,"by":1,"do":"record","key":"n","op":"increment"},{"at":0,"do":"hold","key":"n","known":[[3,1]]},{"at":0,"do":"record","id":3,"key":"n","op":"prune"},{"at":3,"by":1,"do":"record","key":"n","op":"increment"},{"at":1,"do":"hold","key":"n","known":[[3,2]]},{"at":1,"do":"hold","key":"n","known":[[0,1],[3,2]]}
 broken: line 6 rule 3
 {"at":3,"by":1,"do":"record","key":"n","op":"increment"},{"at":0,"do":"hold","key":"n","known":[[3,1]]},{"at":0,"do":"record","id":3,"key":"n","op":"prune"},{"at":3,"by":1,"do":"record","key":"n","op":"increment"},{"at":0,"do":"hold","key":"n","known":[[0,1],[3,2]]}
 broken: line 5 rule 3
@@ -87,7 +92,8 @@ broken: line 5 rule 3
 {"at":3,"by":1,"do":"record","key":"n","op":"increment"},{"at":0,"do":"hold","key":"n","known":[[3,1]]},{"at":0,"do":"record","id":3,"key":"n","op":"prune"},{"at":1,"do":"hold","key":"n","known":[[0,1],[3,1]]},{"at":1,"do":"show","key":"n","value":"1"}
 lawful"#;
 
-const TWO_PRUNES: &str = r#"{"at":3,"by":1,"do":"record","key":"n","op":"increment"},{"at":0,"do":"hold","key":"n","known":[[3,1]]},{"at":1,"do":"hold","key":"n","known":[[3,1]]},{"at":0,"do":"record","id":3,"key":"n","op":"prune"},{"at":1,"do":"record","id":3,"key":"n","op":"prune"},{"at":2,"do":"hold","key":"n","known":[[0,1],[1,1],[3,1]]}
+const TWO_PRUNES: &str =
+    r#"{"at":3,"by":1,"do":"record","key":"n","op":"increment"},{"at":0,"do":"hold","key":"n","known":[[3,1]]},{"at":1,"do":"hold","key":"n","known":[[3,1]]},{"at":0,"do":"record","id":3,"key":"n","op":"prune"},{"at":1,"do":"record","id":3,"key":"n","op":"prune"},{"at":2,"do":"hold","key":"n","known":[[0,1],[1,1],[3,1]]}
 broken: line 6 rule 3
 {"at":3,"by":1,"do":"record","key":"n","op":"increment"},{"at":0,"do":"hold","key":"n","known":[[3,1]]},{"at":1,"do":"hold","key":"n","known":[[3,1]]},{"at":0,"do":"record","id":3,"key":"n","op":"prune"},{"at":1,"do":"record","id":3,"key":"n","op":"prune"},{"at":0,"do":"hold","key":"n","known":[[0,1],[1,1],[3,1]]}
 broken: line 6 rule 3
@@ -95,7 +101,8 @@ broken: line 6 rule 3
 lawful"#;
 
 // What breaks two rules is told by the least, and of two lines that break one the first is told.
-const FIRST_AND_LEAST: &str = r#"{"at":3,"by":1,"do":"record","key":"n","op":"increment"},{"at":0,"do":"hold","key":"n","known":[[3,1]]},{"at":0,"do":"record","id":3,"key":"n","op":"prune"},{"at":3,"by":1,"do":"record","key":"n","op":"increment"},{"at":0,"do":"hold","key":"n","known":[[3,2]]}
+const FIRST_AND_LEAST: &str =
+    r#"{"at":3,"by":1,"do":"record","key":"n","op":"increment"},{"at":0,"do":"hold","key":"n","known":[[3,1]]},{"at":0,"do":"record","id":3,"key":"n","op":"prune"},{"at":3,"by":1,"do":"record","key":"n","op":"increment"},{"at":0,"do":"hold","key":"n","known":[[3,2]]}
 broken: line 5 rule 2
 {"at":3,"by":1,"do":"record","key":"n","op":"increment"},{"at":0,"do":"hold","key":"n","known":[[3,1]]},{"at":0,"do":"record","id":3,"key":"n","op":"prune"},{"at":3,"do":"hold","key":"n","known":[[0,1],[3,1]]},{"at":3,"by":1,"do":"record","key":"n","op":"decrement"}
 broken: line 5 rule 1

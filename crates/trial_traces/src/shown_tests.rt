@@ -20,7 +20,8 @@ lawful"#;
 
 // A replica would show something else: of a counter whose share of 3 was taken over twice, of a set in which a remove takes what
 // it never saw, of a set that keeps what its remove saw, and of a set that is shown in the order of adding.
-const REPLICAS: &str = r#"{"at":3,"by":5,"do":"record","key":"n","op":"increment"},{"at":0,"do":"hold","key":"n","known":[[3,1]]},{"at":0,"do":"record","id":3,"key":"n","op":"prune"},{"at":0,"do":"show","key":"n","value":"10"}
+const REPLICAS: &str =
+    r#"{"at":3,"by":5,"do":"record","key":"n","op":"increment"},{"at":0,"do":"hold","key":"n","known":[[3,1]]},{"at":0,"do":"record","id":3,"key":"n","op":"prune"},{"at":0,"do":"show","key":"n","value":"10"}
 broken: line 4 rule 4
 {"at":0,"do":"record","element":"x","key":"s","op":"add"},{"at":1,"do":"hold","key":"s","known":[[0,1]]},{"at":1,"do":"record","element":"x","key":"s","op":"remove"},{"at":0,"do":"record","element":"x","key":"s","op":"add"},{"at":0,"do":"hold","key":"s","known":[[0,2],[1,1]]},{"at":0,"do":"show","key":"s","value":"{}"}
 broken: line 6 rule 4
@@ -32,7 +33,8 @@ broken: line 3 rule 4
 lawful"#;
 
 // The greatest time wins, and of two writes of one time that of the least identity.
-const OTHER_KINDS: &str = r#"{"at":0,"do":"record","key":"f","op":"enable"},{"at":0,"do":"show","key":"f","value":"false"}
+const OTHER_KINDS: &str =
+    r#"{"at":0,"do":"record","key":"f","op":"enable"},{"at":0,"do":"show","key":"f","value":"false"}
 broken: line 2 rule 4
 {"at":0,"do":"record","key":"r","now":7,"op":"assign","text":"a"},{"at":1,"do":"record","key":"r","now":7,"op":"assign","text":"b"},{"at":0,"do":"hold","key":"r","known":[[0,1],[1,1]]},{"at":0,"do":"show","key":"r","value":"\"b\""}
 broken: line 4 rule 4

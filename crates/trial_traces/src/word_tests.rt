@@ -9,11 +9,14 @@ use std::process::Abort;
 use std::test::Fail;
 use top_call::{Status, replicate, replicate_plain};
 
-const LAWFUL: &str = r#"{"keys":[{"key":"n","kind":"gcounter"}],"lines":[{"at":0,"by":5,"do":"record","key":"n","op":"increment"},{"at":1,"do":"hold","key":"n","known":[[0,1]]},{"at":1,"do":"show","key":"n","value":"5"}]}"#;
+const LAWFUL: &str =
+    r#"{"keys":[{"key":"n","kind":"gcounter"}],"lines":[{"at":0,"by":5,"do":"record","key":"n","op":"increment"},{"at":1,"do":"hold","key":"n","known":[[0,1]]},{"at":1,"do":"show","key":"n","value":"5"}]}"#;
 
-const BROKEN: &str = r#"{"keys":[{"key":"n","kind":"gcounter"}],"lines":[{"at":0,"by":5,"do":"record","key":"n","op":"increment"},{"at":1,"do":"hold","key":"n","known":[[0,2]]}]}"#;
+const BROKEN: &str =
+    r#"{"keys":[{"key":"n","kind":"gcounter"}],"lines":[{"at":0,"by":5,"do":"record","key":"n","op":"increment"},{"at":1,"do":"hold","key":"n","known":[[0,2]]}]}"#;
 
-const NO_TRACE: &str = r#"{"keys":[{"key":"n","kind":"gcounter"}],"lines":[{"at":0,"do":"show","key":"n","value":"5"},{"at":300}]}"#;
+const NO_TRACE: &str =
+    r#"{"keys":[{"key":"n","kind":"gcounter"}],"lines":[{"at":0,"do":"show","key":"n","value":"5"},{"at":300}]}"#;
 
 /// A keeper in memory for each place, whose first call would fail.
 fn keepers(alloc: Global) -> Result<Vec<MemoryKeeper>, Fail>
@@ -79,9 +82,27 @@ fn compare<R: Abort>(
 fn each_status_has_its_text(rt: HostRuntime) -> Result<(), Fail> {
     let alloc = rt.alloc();
     compare(&rt, alloc, LAWFUL.as_bytes(), Status::Done, "lawful\n")?;
-    compare(&rt, alloc, BROKEN.as_bytes(), Status::Broken, "broken: line 2 rule 2\n")?;
-    compare(&rt, alloc, NO_TRACE.as_bytes(), Status::NotATrace, "not a trace: line 2\n")?;
-    compare(&rt, alloc, b"{}", Status::NotATrace, "not a trace: line 0\n")?;
+    compare(
+        &rt,
+        alloc,
+        BROKEN.as_bytes(),
+        Status::Broken,
+        "broken: line 2 rule 2\n",
+    )?;
+    compare(
+        &rt,
+        alloc,
+        NO_TRACE.as_bytes(),
+        Status::NotATrace,
+        "not a trace: line 2\n",
+    )?;
+    compare(
+        &rt,
+        alloc,
+        b"{}",
+        Status::NotATrace,
+        "not a trace: line 0\n",
+    )?;
     compare(&rt, alloc, b"", Status::NotJson, "not json\n")
 }
 
@@ -95,7 +116,13 @@ fn their_numbers(rt: HostRuntime) -> Result<(), Fail> {
 #[test]
 fn more_words_are_bad_words(rt: HostRuntime) -> Result<(), Fail> {
     let alloc = rt.alloc();
-    for line in ["Check", "check 1", "check check", "check trace.json", "1 check"] {
+    for line in [
+        "Check",
+        "check 1",
+        "check check",
+        "check trace.json",
+        "1 check",
+    ] {
         let (told, sink) = answered(alloc, line, LAWFUL.as_bytes(), &[], &[])?;
         assert_eq!(&rt; told, Status::Usage);
         assert_eq!(&rt; sink.bytes(), b"bad words\n".as_slice());
