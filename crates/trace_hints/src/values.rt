@@ -34,7 +34,7 @@ pub(crate) fn may_stand(name: &str, value: &Value) -> bool {
         "at" | "id" => is_whole(value, 0, LAST_IDENTITY),
         "by" => is_whole(value, 1, MOST_ADDED),
         "now" => is_whole(value, 0, LAST_MOMENT),
-        "key" => value.as_str().is_some_and(is_key_name),
+        "key" => value.as_str().is_some_and(is_name),
         "kind" => value.as_str().is_some_and(is_kind),
         "element" | "text" => value.as_str().is_some_and(is_short),
         "durable" => value.is_boolean(),
@@ -48,6 +48,10 @@ fn is_whole(value: &Value, low: u64, high: u64) -> bool {
         Some(number) => low <= number && number <= high,
         None => false,
     }
+}
+
+fn is_name(text: &str) -> bool {
+    is_key_name(text)
 }
 
 fn is_kind(name: &str) -> bool {
