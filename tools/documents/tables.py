@@ -225,6 +225,9 @@ def words_table(table, run):
         words = codes_of(words)[0].replace("N", "8").replace("P", "8").split()
         if words[0] in ("run", "plain", "behind"):
             right = run.program.run(words, given)[:2] == (0, report)
+        elif words == ["check"]:
+            trace = TOP / "examples" / "words" / "check"
+            right = run.program.run(words, trace.read_bytes())[:2] == (0, trace.with_suffix(".stdout").read_bytes())
         elif words == ["upgrade"]:
             entry = TOP / "examples" / "words" / "upgrade"
             upgraded = entry.with_suffix(".stdout").read_bytes()
@@ -235,10 +238,12 @@ def words_table(table, run):
         run.check(place, right, " ".join(words))
 
 
-# What `S`, `R` and `P` stand for in the texts of the statuses that are brought about.
-STANDS_AT = {"S": "4", "R": "5", "P": "23"}
+# What `S`, `R`, `P`, `L` and `Q` stand for in the texts of the statuses that are brought about.
+STANDS_AT = {"S": "4", "R": "5", "P": "23", "L": "3", "Q": "4"}
 # A stored entry of which a byte was changed.
 CHANGED = TOP / "examples" / "words" / "upgrade_changed"
+# A trace of which the third line breaks the fourth rule.
+BROKEN = TOP / "examples" / "words" / "check_broken"
 
 
 def read_fault(program):
@@ -278,6 +283,8 @@ def status_of(program, status):
             5: lambda: program.run(["run"], text, stdout=full),
             6: lambda: program.run(["run"], text + b" " * MOST_BYTES),
             9: lambda: program.run(["upgrade"], CHANGED.read_bytes()),
+            10: lambda: program.run(["check"], BROKEN.read_bytes().replace(b'"6"', b"6")),
+            11: lambda: program.run(["check"], BROKEN.read_bytes()),
         }
         return made[status]() if status in made else None
 
@@ -293,8 +300,8 @@ def status_table(table, run):
                 continue
             said = found[1] if isinstance(found[1], str) else found[1].decode()
             right = found[0] == status
-            if len(cells) == 2 or status in (1, 2, 3, 6, 9):
-                texts = [re.sub(r"\b[SRP]\b", lambda it: STANDS_AT[it[0]], code) for code in wanted]
+            if len(cells) == 2 or status in (1, 2, 3, 6, 9, 10, 11):
+                texts = [re.sub(r"\b[SRPLQ]\b", lambda it: STANDS_AT[it[0]], code) for code in wanted]
                 right = right and (not texts or "," in cells[0] or said.rstrip("\n") in texts)
             run.check(place, right, f"status {status}")
 

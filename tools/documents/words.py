@@ -16,7 +16,7 @@ SUFFIXES = (".md", ".json", ".html", ".svg", ".antt", ".rt", ".stdout", ".txt")
 STANDS_FOR = re.compile(r"\b[A-Z_]*[A-Z]\b")
 # Commands in the middle of a line.
 INLINE = re.compile(r"(rt (try|run) .*|replicator (gen|sum) \d+|tools/try_schema .*)")
-KNOWN = {"rt", "rt version", "rt try", "replicator", "run", "plain", "gen N", "sum N", "upgrade", "not json", "bad words"}
+KNOWN = {"rt", "rt version", "rt try", "replicator", "run", "plain", "gen N", "sum N", "upgrade", "check", "lawful", "not json", "bad words"}
 
 
 def schema_words(value):

@@ -12,19 +12,23 @@ use Rattle.script_reading.specs.declared.script.Script.{Script}
 use Rattle.script_reading.specs.declared.fault.Rule.{Rule}
 use Rattle.script_reading.specs.Reading.{Spells, Breaks, HasNoReading}
 use Rattle.report_lines.specs.Kept.{AreKept}
-use Rattle.top_call.specs.Answers.{Fulfils, IsOfBytes, IsOfSource, IsOfTold, HasNoJson, TellsRule, TellsPlace, IsTooLong, FailsAt, CannotClear, SomeRose, IsTextDue, ScriptCallsFor, CallsFor, IsUnlessRefused}
+use Rattle.trace_judged.specs.declared.judging.Judgement.{Judgement}
+use Rattle.trace_judged.specs.declared.judging.Judgement.TheVariants as judged
+use Rattle.top_call.specs.Answers.{Fulfils, IsOfBytes, IsOfSource, IsOfTold, HasNoJson, TellsRule, TellsPlace, TellsLine, TellsBroken, IsTooLong, FailsAt, CannotClear, SomeRose, IsTextDue, ScriptCallsFor, CallsFor, IsUnlessRefused}
 use Rattle.top_call.specs.Answers.{ScriptCallsFor as calls, IsTextDue as text_of}
 use Rattle.top_call.specs.Asking.{Reads, RunsNothing, IsAsked, AskNothing, AskToRead, AskToReadNothing, ReadsNothing, reads_in}
 use Rattle.top_call.specs.Behind.{untold}
+use Rattle.top_call.specs.Checking.{HasJudgement, judgement_status}
 use Rattle.top_call.specs.Due.{IsDueFor, IsDue, IsRefusal, IsRefusedFor, ComeBack, IsWritten, status_due, text_due}
 use Rattle.top_call.specs.Passages.{Passage, Traffic, ReadsWhole, limit}
 use Rattle.top_call.specs.Serving.{Refuses, Cause, IsDone, Answers, Returns}
 use Rattle.top_call.specs.declared.due.Due.{Due}
-use Rattle.top_call.specs.declared.due.Due.TheVariants.{Fulfilled, Upgraded, NotCleared, BadWords, NotJson, NotAScript, NotAnEnvelope, ReadFailed, TooLong, Memory}
+use Rattle.top_call.specs.declared.due.Due.TheVariants.{Fulfilled, Upgraded, NotCleared, BadWords, NotJson, NotAScript, NotAnEnvelope, NotATrace, NotLawful, ReadFailed, TooLong, Memory}
 use Rattle.top_call.specs.declared.status.Status.{Status}
 use Rattle.top_call.specs.declared.status.Status.TheVariants as status
 use Rattle.top_call.specs.declared.words.Asked.{Asked}
-use Rattle.top_call.specs.declared.words.Asked.TheVariants.{Report, Generate, Summarize, Behind, Upgrade}
+use Rattle.top_call.specs.declared.words.Asked.TheVariants.{Report, Generate, Summarize, Behind, Upgrade, Check}
+use Rattle.top_call.proofs.Judgements.{trace_calls, long_trace_calls}
 use Rattle.top_call.proofs.Entries.{entry_calls, no_entry_calls, length_calls}
 
 -- WHAT WAS READ
@@ -96,10 +100,12 @@ module _ {K : Type 0} (keeping : Keeping K) (bytes : List ℕ) where
   made_calls : (asked : Asked) (reads : Reads) (before after : List K) (text : List ℕ) (wanted : Status) → length bytes ≤ limit → IsOfBytes keeping asked reads bytes before after text → CallsFor reads bytes wanted → status.Done ≡ wanted
   made_calls asked (Reads.AScript clients) before after text wanted within h call = script_runs clients bytes h.script wanted within h.spelled call
   made_calls asked Reads.AnEntry before after text wanted within h call = entry_calls bytes h.0.parts wanted within h.0.is call
+  made_calls asked Reads.ATrace before after text wanted within h call = trace_calls bytes judged.Lawful wanted within h.0 call
 
   long_calls : (reads : Reads) (wanted : Status) → limit < length bytes → CallsFor reads bytes wanted → status.TooLong ≡ wanted
   long_calls (Reads.AScript clients) wanted more call = length_called clients bytes wanted more call
   long_calls Reads.AnEntry wanted more call = length_calls bytes wanted more call
+  long_calls Reads.ATrace wanted more call = long_trace_calls bytes wanted more call
 
 some_same : {X : Type 0} {x y : X} → Some x ≡ Some y → x ≡ y
 some_same {X} {x} {y} e = same_Some x y e
@@ -125,6 +131,7 @@ module _ {K : Type 0} (keeping : Keeping K) where
   fails_rise (Summarize n) place before after h = record { within = h.within; count = h.failed.count; rose = λ old new was is. (h.failed.each place old new was is refl).answered.counted }
   fails_rise (Behind n) place before after h = record { within = h.within; count = h.failed.count; rose = λ old new was is. (h.failed.each place old new was is refl).counted }
   fails_rise Upgrade place before after h = absurd h
+  fails_rise Check place before after h = absurd h
 
   -- a keeper that failed to be cleared counts a fault more
   clearing_rose : (asked : Asked) (read : Passage) (before after : List K) (text : List ℕ) → CannotClear keeping asked read before after text → SomeRose keeping before after
@@ -169,6 +176,7 @@ module _ {K : Type 0} (keeping : Keeping K) where
     of_source (Summarize n) reads is text h = absurd (none-some reads is)
     of_source (Behind n) reads is text h = subst (λ r. IsOfSource keeping (Behind n) r read before after text) (some_same is) h
     of_source Upgrade reads is text h = subst (λ r. IsOfSource keeping Upgrade r read before after text) (some_same is) h
+    of_source Check reads is text h = subst (λ r. IsOfSource keeping Check r read before after text) (some_same is) h
 
     -- the bytes of a source that tells them are those that were read
     told_bytes : (bytes found : List ℕ) → read.old ≡ Some bytes → ReadsWhole read found → found ≡ bytes
@@ -180,11 +188,17 @@ module _ {K : Type 0} (keeping : Keeping K) where
           let same = told_bytes bytes h.bytes told h.is_read in
           made_calls keeping h.bytes asked reads before after text wanted h.is_read.within h.made (subst (λ b. CallsFor reads b wanted) (sym same) call)
 
+      judged_called : (judgement : Judgement) → HasJudgement read judgement → CallsFor Reads.ATrace bytes wanted → judgement_status judgement ≡ wanted
+      judged_called judgement h call =
+          let same = told_bytes bytes h.0 told h.1 in
+          trace_calls h.0 judgement wanted h.1.within h.2 (subst (λ b. CallsFor Reads.ATrace b wanted) (sym same) call)
+
       json_refused : (reads : Reads) → IsRefusal reads read NotJson → CallsFor reads bytes wanted → status.NotJson ≡ wanted
       json_refused (Reads.AScript clients) h call =
           let same = told_bytes bytes h.0 told h.1 in
           json_called clients h.0 wanted h.1.within h.2 (subst (λ b. ScriptCallsFor clients b wanted) (sym same) call)
       json_refused Reads.AnEntry h call = absurd h
+      json_refused Reads.ATrace h call = judged_called judged.NotJson h call
 
       rule_refused : (reads : Reads) (text : String Global) → IsRefusal reads read (NotAScript text) → CallsFor reads bytes wanted → status.NotAScript ≡ wanted
       rule_refused (Reads.AScript clients) text h call =
@@ -192,6 +206,7 @@ module _ {K : Type 0} (keeping : Keeping K) where
           let same = told_bytes bytes broken.0 told broken.1 in
           script_called clients broken.0 h.0 wanted broken.1.within broken.2 (subst (λ b. ScriptCallsFor clients b wanted) (sym same) call)
       rule_refused Reads.AnEntry text h call = absurd h
+      rule_refused Reads.ATrace text h call = absurd h
 
       place_refused : (reads : Reads) (text : String Global) → IsRefusal reads read (NotAnEnvelope text) → CallsFor reads bytes wanted → status.NotAnEnvelope ≡ wanted
       place_refused (Reads.AScript clients) text h call = absurd h
@@ -199,6 +214,17 @@ module _ {K : Type 0} (keeping : Keeping K) where
           let fault = h.1 in
           let same = told_bytes bytes fault.0 told fault.1 in
           no_entry_calls fault.0 wanted fault.1.within fault.2.none (subst (λ b. CallsFor Reads.AnEntry b wanted) (sym same) call)
+      place_refused Reads.ATrace text h call = absurd h
+
+      line_refused : (reads : Reads) (text : String Global) → IsRefusal reads read (NotATrace text) → CallsFor reads bytes wanted → status.NotATrace ≡ wanted
+      line_refused (Reads.AScript clients) text h call = absurd h
+      line_refused Reads.AnEntry text h call = absurd h
+      line_refused Reads.ATrace text h call = judged_called (judged.NotATrace h.0) h.1 call
+
+      broken_refused : (reads : Reads) (text : String Global) → IsRefusal reads read (NotLawful text) → CallsFor reads bytes wanted → status.Broken ≡ wanted
+      broken_refused (Reads.AScript clients) text h call = absurd h
+      broken_refused Reads.AnEntry text h call = absurd h
+      broken_refused Reads.ATrace text h call = judged_called (judged.Broken h.0 h.1) h.2 call
 
       long_refused : (reads : Reads) → IsRefusal reads read TooLong → CallsFor reads bytes wanted → status.TooLong ≡ wanted
       long_refused reads h call = long_calls keeping bytes reads wanted (more_read bytes h.0 read.new (subst (λ o. Consumes o read.new h.0) told h.2) h.1) call
@@ -213,6 +239,8 @@ module _ {K : Type 0} (keeping : Keeping K) where
       calls_for asked reads NotJson is h call = inl (json_refused reads (refusal_of (reads_in asked) reads NotJson is h) call)
       calls_for asked reads (NotAScript text) is h call = inl (rule_refused reads text (refusal_of (reads_in asked) reads (NotAScript text) is h) call)
       calls_for asked reads (NotAnEnvelope text) is h call = inl (place_refused reads text (refusal_of (reads_in asked) reads (NotAnEnvelope text) is h) call)
+      calls_for asked reads (NotATrace text) is h call = inl (line_refused reads text (refusal_of (reads_in asked) reads (NotATrace text) is h) call)
+      calls_for asked reads (NotLawful text) is h call = inl (broken_refused reads text (refusal_of (reads_in asked) reads (NotLawful text) is h) call)
       calls_for asked reads ReadFailed is h call = inr (inl (refl, (refusal_of (reads_in asked) reads ReadFailed is h).0))
       calls_for asked reads TooLong is h call = inl (long_refused reads (refusal_of (reads_in asked) reads TooLong is h) call)
       calls_for asked reads Memory is h call = inr (inr (inr refl))
@@ -237,11 +265,13 @@ module _ {K : Type 0} (keeping : Keeping K) where
     unrun_fulfils : (asked : Asked) → RunsNothing asked → (text : List ℕ) → Fulfils keeping asked read before after text → after ≡ before
     unrun_fulfils (Generate n) none text h = h.1
     unrun_fulfils Upgrade none text h = h.made.1
+    unrun_fulfils Check none text h = h.made.2
     unrun_fulfils asked none text h = absurd none
 
     unrun_clears : (asked : Asked) → RunsNothing asked → (text : List ℕ) → CannotClear keeping asked read before after text → after ≡ before
     unrun_clears (Generate n) none text h = absurd h.run
     unrun_clears Upgrade none text h = absurd h.run
+    unrun_clears Check none text h = absurd h.run
     unrun_clears asked none text h = absurd none
 
     unrun_leaves : (asked : Asked) → RunsNothing asked → (due : Due) → IsDueFor keeping asked read before after due → after ≡ before
@@ -252,6 +282,8 @@ module _ {K : Type 0} (keeping : Keeping K) where
     unrun_leaves asked none NotJson h = (refused_reads (reads_in asked) NotJson h).kept
     unrun_leaves asked none (NotAScript text) h = (refused_reads (reads_in asked) (NotAScript text) h).kept
     unrun_leaves asked none (NotAnEnvelope text) h = (refused_reads (reads_in asked) (NotAnEnvelope text) h).kept
+    unrun_leaves asked none (NotATrace text) h = (refused_reads (reads_in asked) (NotATrace text) h).kept
+    unrun_leaves asked none (NotLawful text) h = (refused_reads (reads_in asked) (NotLawful text) h).kept
     unrun_leaves asked none ReadFailed h = (refused_reads (reads_in asked) ReadFailed h).kept
     unrun_leaves asked none TooLong h = (refused_reads (reads_in asked) TooLong h).kept
     unrun_leaves asked none Memory h = h none
@@ -290,6 +322,7 @@ module _ {K : Type 0} (keeping : Keeping K) (before after : List K) where
   come_back (Some (Summarize n)) h = untold_kept h
   come_back (Some (Behind n)) h = h
   come_back (Some Upgrade) h = untold_kept h
+  come_back (Some Check) h = untold_kept h
 
   come_back_told : (asked : Option Asked) → ((n : ℕ) → asked ≡ Some (Behind n) → ⊥) → ComeBack keeping asked before after → AreKept keeping before after
   come_back_told None none h = h
@@ -298,6 +331,7 @@ module _ {K : Type 0} (keeping : Keeping K) (before after : List K) where
   come_back_told (Some (Summarize n)) none h = h
   come_back_told (Some (Behind n)) none h = absurd (none n refl)
   come_back_told (Some Upgrade) none h = h
+  come_back_told (Some Check) none h = h
 
 module _ {K : Type 0} (keeping : Keeping K) (t : Traffic K) (served : Clients) (words : List (String Global)) (asked : Option Asked) (asks : (a : Asked) → (asked ≡ Some a) ↔ IsAsked served a words) where
   pub returned : ComeBack keeping asked t.before t.after → t.read.faults ≤ t.read.now → t.written.faults ≤ t.written.now → Returns keeping t served words
@@ -340,6 +374,8 @@ module _ {K : Type 0} (keeping : Keeping K) (t : Traffic K) (served : Clients) (
   due_cause asked NotJson a h w = refusal_cause asked NotJson (λ reads. HasNoJson reads t.read) (codes "not json\n") (λ reads why. why) a h w
   due_cause asked (NotAScript text) a h w = (string_bytes text, refusal_cause asked (NotAScript text) (λ reads. TellsRule reads t.read (string_bytes text)) (string_bytes text) (λ reads why. why) a h w)
   due_cause asked (NotAnEnvelope text) a h w = (string_bytes text, refusal_cause asked (NotAnEnvelope text) (λ reads. TellsPlace reads t.read (string_bytes text)) (string_bytes text) (λ reads why. why) a h w)
+  due_cause asked (NotATrace text) a h w = (string_bytes text, refusal_cause asked (NotATrace text) (λ reads. TellsLine reads t.read (string_bytes text)) (string_bytes text) (λ reads why. why) a h w)
+  due_cause asked (NotLawful text) a h w = (string_bytes text, refusal_cause asked (NotLawful text) (λ reads. TellsBroken reads t.read (string_bytes text)) (string_bytes text) (λ reads why. why) a h w)
   due_cause asked ReadFailed a h w = refusal_cause asked ReadFailed (λ reads. Rose t.read.faults t.read.now × ReadsUpTo t.read.old t.read.new limit) [] (λ reads why. why) a h w
   due_cause asked TooLong a h w = refusal_cause asked TooLong (λ reads. IsTooLong t.read) (codes "too long\n") (λ reads why. why) a h w
 
@@ -356,6 +392,10 @@ module _ {K : Type 0} (keeping : Keeping K) (t : Traffic K) (served : Clients) (
       let r = refused_reads keeping t.read t.before t.after (reads_in asked) (NotAScript text) h in text_of.not_a_script r.reads (string_bytes text) (asked_to_read asked (NotAScript text) r a) r.why r.kept
   is_text_due asked (NotAnEnvelope text) some a h =
       let r = refused_reads keeping t.read t.before t.after (reads_in asked) (NotAnEnvelope text) h in text_of.not_an_envelope r.reads (string_bytes text) (asked_to_read asked (NotAnEnvelope text) r a) r.why r.kept
+  is_text_due asked (NotATrace text) some a h =
+      let r = refused_reads keeping t.read t.before t.after (reads_in asked) (NotATrace text) h in text_of.not_a_trace r.reads (string_bytes text) (asked_to_read asked (NotATrace text) r a) r.why r.kept
+  is_text_due asked (NotLawful text) some a h =
+      let r = refused_reads keeping t.read t.before t.after (reads_in asked) (NotLawful text) h in text_of.broken r.reads (string_bytes text) (asked_to_read asked (NotLawful text) r a) r.why r.kept
   is_text_due asked TooLong some a h = let r = refused_reads keeping t.read t.before t.after (reads_in asked) TooLong h in text_of.too_long r.reads (asked_to_read asked TooLong r a) r.why r.kept
 
   -- A call was asked for this, this was due, and this was written and told.

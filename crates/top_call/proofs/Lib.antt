@@ -4,6 +4,7 @@ pub mod EachRun
 pub mod Entries
 pub mod Flushing
 pub mod Inside
+pub mod Judgements
 pub mod Refusals
 pub mod Settles
 pub mod Headline

@@ -13,16 +13,20 @@ use Rattle.report_lines.specs.Kept as kept
 use Rattle.report_lines.specs.Kept.{IsPlayed}
 use Rattle.report_lines.specs.declared.playing.Ending.{Ending}
 use Rattle.report_lines.specs.declared.playing.Ending.TheVariants as ending
+use Rattle.trace_judged.specs.Judgements.{IsJudgement}
+use Rattle.trace_judged.specs.declared.judging.Judgement.{Judgement}
+use Rattle.trace_judged.specs.declared.judging.Judgement.TheVariants as judged
 use Rattle.top_call.specs.Answers.{HasScript, IsReportOver, IsSummaryOver, IsReportBehind, IsOver, IsOfSource, Fulfils, FailsAt, AsksForRun}
 use Rattle.top_call.specs.Asking.{Reads, reads_in}
 use Rattle.top_call.specs.Behind as behind
+use Rattle.top_call.specs.Checking.{IsJudgementDue, IsCheckDue}
 use Rattle.top_call.specs.Due.{IsUnread, IsFaultDue, IsRefusal, IsRefusedFor, IsToldBy, IsScriptDue, IsDueFor}
 use Rattle.top_call.specs.Passages.{Passage, ReadsWhole}
 use Rattle.top_call.specs.Upgrading.{IsUpgradeDue}
 use Rattle.top_call.specs.declared.due.Due.{Due}
-use Rattle.top_call.specs.declared.due.Due.TheVariants.{Fulfilled, Upgraded, NotCleared, NotJson, NotAScript, NotAnEnvelope, ReadFailed, TooLong, Memory}
+use Rattle.top_call.specs.declared.due.Due.TheVariants.{Fulfilled, Upgraded, NotCleared, NotJson, NotAScript, NotAnEnvelope, NotATrace, NotLawful, ReadFailed, TooLong, Memory}
 use Rattle.top_call.specs.declared.words.Asked.{Asked}
-use Rattle.top_call.specs.declared.words.Asked.TheVariants.{Report, Generate, Summarize, Behind, Upgrade}
+use Rattle.top_call.specs.declared.words.Asked.TheVariants.{Report, Generate, Summarize, Behind, Upgrade, Check}
 
 module _ (reads : Reads) (read : Passage) where
   pub unread_refuses : (due : Due) → IsUnread read due → IsRefusal reads read due
@@ -54,6 +58,8 @@ module _ {K : Type 0} (keeping : Keeping K) where
       go NotJson h = refused NotJson h
       go (NotAScript text) h = refused (NotAScript text) h
       go (NotAnEnvelope text) h = refused (NotAnEnvelope text) h
+      go (NotATrace text) h = refused (NotATrace text) h
+      go (NotLawful text) h = refused (NotLawful text) h
       go ReadFailed h = refused ReadFailed h
       go TooLong h = refused TooLong h
       go Memory h = λ _. refl
@@ -65,6 +71,20 @@ module _ {K : Type 0} (keeping : Keeping K) where
   upgraded_due read bytes keepers (NotAnEnvelope text) is_read h = ((h.0, (bytes, is_read, h.1), h.2), refl)
   upgraded_due read bytes keepers Memory is_read h = λ _. refl
   upgraded_due read bytes keepers due is_read h = absurd h
+
+  -- what is due for what is said of a trace
+  judged_due : (read : Passage) (bytes : List ℕ) (keepers : List K) (judgement : Judgement) (due : Due) → ReadsWhole read bytes → IsJudgement bytes judgement → IsJudgementDue judgement due → IsDueFor keeping Check read keepers keepers due
+  judged_due read bytes keepers judgement Memory is_read is h = λ _. refl
+  judged_due read bytes keepers judged.NotJson NotJson is_read is h = ((bytes, is_read, is), refl)
+  judged_due read bytes keepers (judged.NotATrace line) (NotATrace text) is_read is h = ((line, (bytes, is_read, is), h), refl)
+  judged_due read bytes keepers (judged.Broken line rule) (NotLawful text) is_read is h = ((line, rule, (bytes, is_read, is), h), refl)
+  judged_due read bytes keepers judged.Lawful (Fulfilled text) is_read is h = record { bytes = bytes; is_read = is_read; made = (is, h, refl) }
+  judged_due read bytes keepers judgement due is_read is h = absurd h
+
+  -- what is due for the bytes of a trace
+  pub checked_due : (read : Passage) (bytes : List ℕ) (keepers : List K) (due : Due) → ReadsWhole read bytes → IsCheckDue bytes due → IsDueFor keeping Check read keepers keepers due
+  checked_due read bytes keepers Memory is_read h = λ _. refl
+  checked_due read bytes keepers due is_read h = judged_due read bytes keepers h.0 due is_read h.1 h.2
 
   -- a run that ended is due, for what asks for one
   ended_due : (asked : Asked) (read : Passage) (before after : List K) (end : Ending) (due : Due) → AsksForRun asked read → ((text : String Global) → end ≡ ending.Told text → Fulfils keeping asked read before after (string_bytes text))

@@ -19,12 +19,15 @@ use Rattle.report_lines.specs.Kept.{LoadWhatTheyTook, IsNotCleared, answers_by}
 use Rattle.report_lines.specs.Run.{decl_of, in_order, steps_of}
 use Rattle.member_node.specs.Members.{spelled_groups}
 use Rattle.theorem_digests.specs.Digests.{SettlesAgreeByDigests}
+use Rattle.trace_judged.specs.Judgements.{IsJudgement}
+use Rattle.trace_judged.specs.declared.judging.Judgement.TheVariants as judged
 use Rattle.top_call.specs.Asking.{Reads, IsAsked, AskNothing, AskToRead}
 use Rattle.top_call.specs.Behind.{IsRunBehind, IsNotClearedBehind}
+use Rattle.top_call.specs.Checking.{HasJudgement, TraceCallsFor, judgement_text}
 use Rattle.top_call.specs.Passages.{Passage, ReadsWhole, limit}
 use Rattle.top_call.specs.Upgrading.{EntryCallsFor, HasNoEntry, Upgrades, not_an_envelope_text}
 use Rattle.top_call.specs.declared.words.Asked.{Asked}
-use Rattle.top_call.specs.declared.words.Asked.TheVariants.{Report, Generate, Summarize, Behind, Upgrade}
+use Rattle.top_call.specs.declared.words.Asked.TheVariants.{Report, Generate, Summarize, Behind, Upgrade, Check}
 use Rattle.top_call.specs.declared.status.Status.{Status}
 use Rattle.top_call.specs.declared.status.Status.TheVariants.{Done, NotJson, NotAScript, ReadFailed, WriteFailed, TooLong, Memory, ClearFailed}
 
@@ -37,10 +40,11 @@ pub record HasScript (clients : Clients) (read : Passage) (script : Script) : Ty
   pub spelled : Spells clients bytes script
   pub allowed : All (IsAllowed clients) script.steps
 
--- A script was read, and the bytes are no JSON text.
+-- A script or a trace was read, and the bytes are no JSON text.
 abbrev pub HasNoJson : Reads → Passage → Type 0
 HasNoJson (Reads.AScript clients) read = (bytes : List ℕ) × ReadsWhole read bytes × HasNoReading bytes
 HasNoJson Reads.AnEntry read = ⊥
+HasNoJson Reads.ATrace read = HasJudgement read judged.NotJson
 
 -- Its bytes are a JSON text that breaks this rule of scripts, and none before it.
 abbrev pub HasNoScript : Clients → Passage → Rule → Type 0
@@ -54,11 +58,25 @@ not_a_script_text broken = codes "not a script: step " ++ decimal broken.step ++
 abbrev pub TellsRule : Reads → Passage → List ℕ → Type 0
 TellsRule (Reads.AScript clients) read text = (broken : Rule) × HasNoScript clients read broken × (text ≡ not_a_script_text broken)
 TellsRule Reads.AnEntry read text = ⊥
+TellsRule Reads.ATrace read text = ⊥
 
 -- A stored entry was read, the bytes are none, and this text tells the place of their first fault.
 abbrev pub TellsPlace : Reads → Passage → List ℕ → Type 0
 TellsPlace (Reads.AScript clients) read text = ⊥
 TellsPlace Reads.AnEntry read text = (place : ℕ) × HasNoEntry read place × (text ≡ not_an_envelope_text place)
+TellsPlace Reads.ATrace read text = ⊥
+
+-- A trace was read, and this text tells the first line that has not its form.
+abbrev pub TellsLine : Reads → Passage → List ℕ → Type 0
+TellsLine (Reads.AScript clients) read text = ⊥
+TellsLine Reads.AnEntry read text = ⊥
+TellsLine Reads.ATrace read text = (line : ℕ) × HasJudgement read (judged.NotATrace line) × (text ≡ judgement_text (judged.NotATrace line))
+
+-- A trace was read, and this text tells the first line that breaks a rule, and the least that it breaks.
+abbrev pub TellsBroken : Reads → Passage → List ℕ → Type 0
+TellsBroken (Reads.AScript clients) read text = ⊥
+TellsBroken Reads.AnEntry read text = ⊥
+TellsBroken Reads.ATrace read text = (line : ℕ) × (rule : ℕ) × HasJudgement read (judged.Broken line rule) × (text ≡ judgement_text (judged.Broken line rule))
 
 -- One byte was read more than the limit.
 abbrev pub IsTooLong : Passage → Type 0
@@ -77,6 +95,7 @@ AsksForRun (Generate n) read = ⊥
 AsksForRun (Summarize n) read = Unit {0}
 AsksForRun (Behind n) read = (script : Script) × HasScript Refused read script
 AsksForRun Upgrade read = ⊥
+AsksForRun Check read = ⊥
 
 module _ {K : Type 0} (keeping : Keeping K) where
   -- What the settles of a script's run tell is so, and they leave settled worlds, where digests tell apart what members have. The keepers gave these answers.
@@ -106,6 +125,7 @@ module _ {K : Type 0} (keeping : Keeping K) where
   IsOver (Summarize n) script before after text = IsSummaryOver script before after text
   IsOver (Behind n) script before after text = IsReportBehind script before after text
   IsOver Upgrade script before after text = ⊥
+  IsOver Check script before after text = ⊥
 
   -- The bytes spell a script, and the text tells of the script's run over the keepers.
   pub record IsOfScript (asked : Asked) (clients : Clients) (bytes : List ℕ) (before after : List K) (text : List ℕ) : Type 0 where
@@ -114,10 +134,11 @@ module _ {K : Type 0} (keeping : Keeping K) where
     pub allowed : All (IsAllowed clients) script.steps
     pub reported : IsOver asked script before after text
 
-  -- The text is what was asked for of the bytes that were read. To upgrade an entry leaves the keepers as they are.
+  -- The text is what was asked for of the bytes that were read. To upgrade an entry and to judge a trace leave the keepers as they are.
   abbrev pub IsOfBytes : Asked → Reads → (bytes : List ℕ) → (before after : List K) → List ℕ → Type 0
   IsOfBytes asked (Reads.AScript clients) bytes before after text = IsOfScript asked clients bytes before after text
   IsOfBytes asked Reads.AnEntry bytes before after text = Upgrades bytes text × (after ≡ before)
+  IsOfBytes asked Reads.ATrace bytes before after text = IsJudgement bytes judged.Lawful × (text ≡ judgement_text judged.Lawful) × (after ≡ before)
 
   -- The source was read to its end, and the text is what was asked for of its bytes.
   pub record IsOfSource (asked : Asked) (reads : Reads) (read : Passage) (before after : List K) (text : List ℕ) : Type 0 where
@@ -139,6 +160,7 @@ module _ {K : Type 0} (keeping : Keeping K) where
   Fulfils (Summarize n) read before after text = IsSummaryOver (generated_script n) before after text
   Fulfils (Behind n) read before after text = IsOfSource (Behind n) (Reads.AScript Refused) read before after text
   Fulfils Upgrade read before after text = IsOfSource Upgrade Reads.AnEntry read before after text
+  Fulfils Check read before after text = IsOfSource Check Reads.ATrace read before after text
 
   -- the keeper of a place failed to be cleared for the run that was asked for
   abbrev pub FailsAt : Asked → ℕ → (before after : List K) → Type 0
@@ -147,6 +169,7 @@ module _ {K : Type 0} (keeping : Keeping K) where
   FailsAt (Summarize n) place before after = IsNotCleared keeping place before after
   FailsAt (Behind n) place before after = IsNotClearedBehind keeping place before after
   FailsAt Upgrade place before after = ⊥
+  FailsAt Check place before after = ⊥
 
   -- A script's run was asked for, and the keeper of a place failed to be cleared for it; this text says so.
   pub record CannotClear (asked : Asked) (read : Passage) (before after : List K) (text : List ℕ) : Type 0 where
@@ -172,6 +195,8 @@ module _ {K : Type 0} (keeping : Keeping K) where
     not_json : (reads : Reads) → AskToRead served words reads → HasNoJson reads read → after ≡ before → IsTextDue served words read before after (codes "not json\n")
     not_a_script : (reads : Reads) (text : List ℕ) → AskToRead served words reads → TellsRule reads read text → after ≡ before → IsTextDue served words read before after text
     not_an_envelope : (reads : Reads) (text : List ℕ) → AskToRead served words reads → TellsPlace reads read text → after ≡ before → IsTextDue served words read before after text
+    not_a_trace : (reads : Reads) (text : List ℕ) → AskToRead served words reads → TellsLine reads read text → after ≡ before → IsTextDue served words read before after text
+    broken : (reads : Reads) (text : List ℕ) → AskToRead served words reads → TellsBroken reads read text → after ≡ before → IsTextDue served words read before after text
     too_long : (reads : Reads) → AskToRead served words reads → IsTooLong read → after ≡ before → IsTextDue served words read before after (codes "too long\n")
 
 -- ---- what bytes call for
@@ -187,6 +212,7 @@ pub data ScriptCallsFor (clients : Clients) (bytes : List ℕ) : Status → Type
 abbrev pub CallsFor : Reads → (bytes : List ℕ) → Status → Type 0
 CallsFor (Reads.AScript clients) bytes wanted = ScriptCallsFor clients bytes wanted
 CallsFor Reads.AnEntry bytes wanted = EntryCallsFor bytes wanted
+CallsFor Reads.ATrace bytes wanted = TraceCallsFor bytes wanted
 
 -- This status, unless a count rose at a read, a write or a keeper's start, or memory was refused.
 abbrev pub IsUnlessRefused : Type 0 → Type 0 → Type 0 → Status → Status → Type 0

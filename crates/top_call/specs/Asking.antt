@@ -4,7 +4,7 @@ use Rattle.std.specs.declared.alloc.Global.{Global}
 use Rattle.script_reading.specs.declared.clients.Clients.{Clients}
 use Rattle.script_reading.specs.declared.clients.Clients.TheVariants.{Allowed, Refused}
 use Rattle.top_call.specs.declared.words.Asked.{Asked}
-use Rattle.top_call.specs.declared.words.Asked.TheVariants.{Report, Generate, Summarize, Behind, Upgrade}
+use Rattle.top_call.specs.declared.words.Asked.TheVariants.{Report, Generate, Summarize, Behind, Upgrade, Check}
 
 -- the most steps that a script is generated with, its last two apart
 abbrev pub most_steps : ℕ
@@ -25,11 +25,13 @@ IsCounted (Generate n) = (1 ≤ n) × (n ≤ most_steps)
 IsCounted (Summarize n) = (1 ≤ n) × (n ≤ most_steps)
 IsCounted (Behind n) = (1 ≤ n) × (n ≤ most_period)
 IsCounted Upgrade = ⊤
+IsCounted Check = ⊤
 
--- What is read from the source: a script, which may have clients or may not, or a stored entry.
+-- What is read from the source: a script, which may have clients or may not, a stored entry or a trace.
 pub data Reads : Type 0 where
   AScript : Clients → Reads
   AnEntry : Reads
+  ATrace : Reads
 
 -- What is read for what is asked, where anything is.
 abbrev pub reads_in : Asked → Option Reads
@@ -38,6 +40,7 @@ reads_in (Generate n) = None
 reads_in (Summarize n) = None
 reads_in (Behind n) = Some (Reads.AScript Refused)
 reads_in Upgrade = Some Reads.AnEntry
+reads_in Check = Some Reads.ATrace
 
 -- No script is run for it.
 abbrev pub RunsNothing : Asked → Type 0
@@ -46,6 +49,7 @@ RunsNothing (Generate n) = ⊤
 RunsNothing (Summarize n) = ⊥
 RunsNothing (Behind n) = ⊥
 RunsNothing Upgrade = ⊤
+RunsNothing Check = ⊤
 
 -- The texts of words ask for it. A call that serves no clients is asked for nothing by `run`.
 abbrev pub Ask : (served : Clients) → Asked → List (List ℕ) → Type 0
@@ -56,6 +60,7 @@ Ask served (Generate n) texts = (texts ≡ codes "gen" ∷ decimal n ∷ []) × 
 Ask served (Summarize n) texts = (texts ≡ codes "sum" ∷ decimal n ∷ []) × (1 ≤ n) × (n ≤ most_steps)
 Ask served (Behind n) texts = (texts ≡ codes "behind" ∷ decimal n ∷ []) × (1 ≤ n) × (n ≤ most_period)
 Ask served Upgrade texts = texts ≡ codes "upgrade" ∷ []
+Ask served Check texts = texts ≡ codes "check" ∷ []
 
 -- what the words ask for
 abbrev pub IsAsked : (served : Clients) → Asked → List (String Global) → Type 0

@@ -10,12 +10,12 @@ use Rattle.report_lines.specs.declared.playing.Ending.{Ending}
 use Rattle.report_lines.specs.declared.playing.Ending.TheVariants as ending
 use Rattle.script_reading.specs.declared.read.ScriptError.{ScriptError}
 use Rattle.script_reading.specs.declared.read.ScriptError.TheVariants as error
-use Rattle.top_call.specs.Answers.{not_a_script_text, HasNoJson, TellsRule, TellsPlace, IsTooLong, Fulfils, CannotClear, not_cleared_text}
+use Rattle.top_call.specs.Answers.{not_a_script_text, HasNoJson, TellsRule, TellsPlace, TellsLine, TellsBroken, IsTooLong, Fulfils, CannotClear, not_cleared_text}
 use Rattle.top_call.specs.Asking.{Reads, RunsNothing, reads_in}
 use Rattle.top_call.specs.Behind.{untold}
 use Rattle.top_call.specs.Passages.{Passage, limit}
 use Rattle.top_call.specs.declared.due.Due.{Due}
-use Rattle.top_call.specs.declared.due.Due.TheVariants.{Fulfilled, Upgraded, NotCleared, BadWords, NotJson, NotAScript, NotAnEnvelope, ReadFailed, TooLong, Memory}
+use Rattle.top_call.specs.declared.due.Due.TheVariants.{Fulfilled, Upgraded, NotCleared, BadWords, NotJson, NotAScript, NotAnEnvelope, NotATrace, NotLawful, ReadFailed, TooLong, Memory}
 use Rattle.top_call.specs.declared.status.Status.{Status}
 use Rattle.top_call.specs.declared.status.Status.TheVariants as status
 use Rattle.top_call.specs.declared.words.Asked.{Asked}
@@ -29,6 +29,8 @@ text_due BadWords = codes "bad words\n"
 text_due NotJson = codes "not json\n"
 text_due (NotAScript text) = string_bytes text
 text_due (NotAnEnvelope text) = string_bytes text
+text_due (NotATrace text) = string_bytes text
+text_due (NotLawful text) = string_bytes text
 text_due ReadFailed = []
 text_due TooLong = codes "too long\n"
 text_due Memory = []
@@ -41,6 +43,8 @@ status_due BadWords = status.Usage
 status_due NotJson = status.NotJson
 status_due (NotAScript text) = status.NotAScript
 status_due (NotAnEnvelope text) = status.NotAnEnvelope
+status_due (NotATrace text) = status.NotATrace
+status_due (NotLawful text) = status.Broken
 status_due ReadFailed = status.ReadFailed
 status_due TooLong = status.TooLong
 status_due Memory = status.Memory
@@ -50,6 +54,8 @@ abbrev pub IsRefusal : Reads → Passage → Due → Type 0
 IsRefusal reads read NotJson = HasNoJson reads read
 IsRefusal reads read (NotAScript text) = TellsRule reads read (string_bytes text)
 IsRefusal reads read (NotAnEnvelope text) = TellsPlace reads read (string_bytes text)
+IsRefusal reads read (NotATrace text) = TellsLine reads read (string_bytes text)
+IsRefusal reads read (NotLawful text) = TellsBroken reads read (string_bytes text)
 IsRefusal reads read ReadFailed = Rose read.faults read.now × ReadsUpTo read.old read.new limit
 IsRefusal reads read TooLong = IsTooLong read
 IsRefusal reads read Memory = Unit {0}

@@ -1,6 +1,7 @@
 pub mod Answers
 pub mod Asking
 pub mod Behind
+pub mod Checking
 pub mod Due
 pub mod EachRun
 pub mod Passages

@@ -12,7 +12,7 @@ use Rattle.member_keeper.specs.declared.keeper.Keeper.{Ghosts as Keeping}
 use Rattle.script_reading.specs.declared.clients.Clients.{Clients}
 use Rattle.script_reading.specs.declared.clients.Clients.TheVariants.{Allowed}
 use Rattle.report_lines.specs.Kept.{AreKept}
-use Rattle.top_call.specs.Answers.{IsOfTold, Fulfils, CannotClear, HasNoJson, IsTooLong, TellsRule, TellsPlace, SomeRose, IsTextDue, CallsFor, IsUnlessRefused}
+use Rattle.top_call.specs.Answers.{IsOfTold, Fulfils, CannotClear, HasNoJson, IsTooLong, TellsRule, TellsPlace, TellsLine, TellsBroken, SomeRose, IsTextDue, CallsFor, IsUnlessRefused}
 use Rattle.top_call.specs.Asking.{Reads, RunsNothing, IsAsked, AskNothing, AskToRead, AskNothingBehind}
 use Rattle.top_call.specs.Behind.{untold}
 use Rattle.top_call.specs.Passages.{Traffic, limit}
@@ -38,6 +38,8 @@ module _ {K : Type 0} (keeping : Keeping K) (t : Traffic K) (served : Clients) (
   Cause status.NotJson = Refuses (λ reads. HasNoJson reads t.read) (codes "not json\n")
   Cause status.NotAScript = (text : List ℕ) × Refuses (λ reads. TellsRule reads t.read text) text
   Cause status.NotAnEnvelope = (text : List ℕ) × Refuses (λ reads. TellsPlace reads t.read text) text
+  Cause status.NotATrace = (text : List ℕ) × Refuses (λ reads. TellsLine reads t.read text) text
+  Cause status.Broken = (text : List ℕ) × Refuses (λ reads. TellsBroken reads t.read text) text
   Cause status.ReadFailed = Refuses (λ reads. Rose t.read.faults t.read.now × ReadsUpTo t.read.old t.read.new limit) []
   Cause status.WriteFailed = Rose t.written.faults t.written.now × ((text : List ℕ) × IsTextDue keeping served words t.read t.before t.after text × AppendsPrefix t.written.old t.written.new text)
   Cause status.TooLong = Refuses (λ reads. IsTooLong t.read) (codes "too long\n")
@@ -46,7 +48,7 @@ module _ {K : Type 0} (keeping : Keeping K) (t : Traffic K) (served : Clients) (
 
   module _ (end : Status) where
     -- With status `Done` what the words ask for is what the sink's new bytes are. For `plain`, `run` and `behind`, the source was read to its
-    -- end, its bytes spell a script, and they are the report of its run over the keepers; for `upgrade` they are an entry, and its format 2.
+    -- end, its bytes spell a script, and they are the report of its run over the keepers; for `upgrade` they are an entry, and its format 2; for `check` a lawful trace, and `lawful`.
     pub record IsDone : Type 0 where
       pub done : (asked : Asked) → IsAsked served asked words → end ≡ status.Done → (text : List ℕ) × Fulfils keeping asked t.read t.before t.after text × Appends t.written.old t.written.new text
       -- the same of what is read, where the source tells what it has left and the sink what it took

@@ -1,7 +1,7 @@
 -- The numbers of the statuses.
 use Rattle.std.specs.Prelude.{ℕ}
 use Rattle.top_call.specs.declared.status.Status.{Status}
-use Rattle.top_call.specs.declared.status.Status.TheVariants.{Done, Usage, NotJson, NotAScript, ReadFailed, WriteFailed, TooLong, Memory, ClearFailed, NotAnEnvelope}
+use Rattle.top_call.specs.declared.status.Status.TheVariants.{Done, Usage, NotJson, NotAScript, ReadFailed, WriteFailed, TooLong, Memory, ClearFailed, NotAnEnvelope, NotATrace, Broken}
 
 abbrev pub code_of : Status → ℕ
 code_of Done = 0
@@ -14,3 +14,5 @@ code_of TooLong = 6
 code_of Memory = 7
 code_of ClearFailed = 8
 code_of NotAnEnvelope = 9
+code_of NotATrace = 10
+code_of Broken = 11

@@ -9,6 +9,7 @@ ghost use Rattle.top_call.specs.Passages.{Passage, ReadsWhole, reading};
 ghost use Rattle.top_call.specs.declared.words.Asked.TheVariants as is_asked;
 
 use crate::behind::behind_due;
+use crate::checking::check_due;
 use crate::due::Due;
 use crate::upgrading::upgrade_due;
 use crate::words::Asked;
@@ -200,6 +201,7 @@ fn due_for<S: Source, K: Keeper + Drop>(
         Asked::Summarize(n) => summary_due(alloc, n, keepers),
         Asked::Behind(n) => behind_due(alloc, n, source, keepers),
         Asked::Upgrade => upgrade_due(alloc, source, keepers),
+        Asked::Check => check_due(alloc, source, keepers),
     }
 }
 

@@ -3,7 +3,7 @@ use crate::status::Status;
 /// What is to be written, and why.
 #[derive(Drop)]
 pub enum Due {
-    /// What was asked for: a report, a script, or the end of a run.
+    /// What was asked for: a report, a script, the end of a run, or that a trace is lawful.
     Fulfilled(String),
     /// What was asked for, where it is no text: a stored entry.
     Upgraded(Vec<u8>),
@@ -15,6 +15,10 @@ pub enum Due {
     NotAScript(String),
     /// The bytes are no stored entry.
     NotAnEnvelope(String),
+    /// The bytes are no trace.
+    NotATrace(String),
+    /// A line of the trace breaks a rule.
+    NotLawful(String),
     ReadFailed,
     TooLong,
     Memory,
@@ -32,7 +36,9 @@ impl Due {
             Due::Fulfilled(text)
             | Due::NotCleared(text)
             | Due::NotAScript(text)
-            | Due::NotAnEnvelope(text) => text.as_bytes(),
+            | Due::NotAnEnvelope(text)
+            | Due::NotATrace(text)
+            | Due::NotLawful(text) => text.as_bytes(),
             Due::Upgraded(bytes) => bytes.as_slice(),
             Due::BadWords => b"bad words\n",
             Due::NotJson => b"not json\n",
@@ -52,6 +58,8 @@ impl Due {
             Due::NotJson => Status::NotJson,
             Due::NotAScript(_) => Status::NotAScript,
             Due::NotAnEnvelope(_) => Status::NotAnEnvelope,
+            Due::NotATrace(_) => Status::NotATrace,
+            Due::NotLawful(_) => Status::Broken,
             Due::ReadFailed => Status::ReadFailed,
             Due::TooLong => Status::TooLong,
             Due::Memory => Status::Memory,

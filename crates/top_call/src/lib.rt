@@ -3,6 +3,7 @@
 
 mod answer;
 mod behind;
+mod checking;
 mod due;
 mod laws;
 mod running;

@@ -21,6 +21,10 @@ pub enum Status {
     ClearFailed,
     /// The source's bytes are no stored entry.
     NotAnEnvelope,
+    /// The source's bytes are no trace.
+    NotATrace,
+    /// A line of the trace on the source breaks a rule.
+    Broken,
 }
 
 impl From<Status> for u8 {
@@ -42,6 +46,8 @@ impl From<Status> for u8 {
             Status::Memory => 7,
             Status::ClearFailed => 8,
             Status::NotAnEnvelope => 9,
+            Status::NotATrace => 10,
+            Status::Broken => 11,
         }
     }
 }

@@ -47,7 +47,8 @@ fn written<K: Sink, D>(sink: &mut K, answer: Answer<D>) -> Outcome<D>
 /// The words are those behind the program's name. `plain` reads a script without clients from the source, runs it and writes its
 /// report to the sink; `behind N` does so too, with each keeper inside one that hands it `N` stores together. `gen N` writes a
 /// generated script of `N` steps and two, and `sum N` runs it and writes the end of its report. For these two nothing is read.
-/// `upgrade` reads a stored entry in format 1 or 2 from the source and writes it in format 2, without a newline. Where what was asked
+/// `upgrade` reads a stored entry in format 1 or 2 from the source and writes it in format 2, without a newline. `check` reads a
+/// trace and writes that it is lawful, or the first line that breaks a rule or has not its form. Where what was asked
 /// for can't be had it writes one line that says the cause, and nothing where the source failed or memory was refused.
 pub fn replicate_plain<S: Source, K: Sink, D: Keeper + Drop>(
     alloc: Global,

@@ -17,6 +17,8 @@ pub enum Asked {
     Behind(u8),
     /// The stored entry on the source, in format 2.
     Upgrade,
+    /// What is to be said of the trace on the source.
+    Check,
 }
 
 /// The most steps that a script is generated with, its last two apart.
@@ -48,6 +50,7 @@ fn asked_alone(clients: Clients, word: &str) -> Option<Asked>
         (_, "plain") => Some(Asked::Report(Clients::Refused)),
         (Clients::Allowed, "run") => Some(Asked::Report(Clients::Allowed)),
         (_, "upgrade") => Some(Asked::Upgrade),
+        (_, "check") => Some(Asked::Check),
         _ => None,
     }
 }

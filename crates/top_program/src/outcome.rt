@@ -27,13 +27,13 @@ pub(crate) fn outcome<R: Threads + Wait + Sync, S: Source, K: Sink, D: Keeper + 
 ) -> ExitCode
     requires { length keepers.items ≡ 8 }
     ensures serves { IfOk words (λ words. Exits D.Keeper.own (traffic S.Source.own K.Sink.own source.old source.new sink.old sink.new keepers.items) words.items (exit_status result)) }
-    // The source is read for `run`, `plain`, `behind` and `upgrade` alone.
+    // The source is read for `run`, `plain`, `behind`, `upgrade` and `check` alone.
     ensures unread { IfOk words (λ words. AskToReadNothing Clients.Allowed words.items → source.new ≡ source.old) }
 
     // There are no words.
     ensures refused { IsErr words → (exit_status result ≡ code_of Status.Memory) × (source.new ≡ source.old) × (sink.new ≡ sink.old) }
 
-    ensures known { exit_status result ≤ code_of Status.NotAnEnvelope }
+    ensures known { exit_status result ≤ code_of Status.Broken }
 {
     match words {
         Ok(words) => {

@@ -7,7 +7,7 @@ use std::process::ExitCode;
 use top_call::Status;
 
 const USAGE: &str =
-    "bad words: usage: replicator run|plain|behind K < script.json (K: 1 to 64), replicator upgrade < entry, replicator gen|sum N (N: 1 to 4094)";
+    "bad words: usage: replicator run|plain|behind K < script.json (K: 1 to 64), replicator upgrade < entry, replicator check < trace.json, replicator gen|sum N (N: 1 to 4094)";
 
 /// The longest script, in bytes, that is looked through for a slip, since to read it again costs as much as to read it.
 const LONGEST_LOOKED_THROUGH: usize = 8_192;
@@ -60,6 +60,8 @@ fn of_bytes(alloc: Global, code: ExitCode, clients: Clients, bytes: &[u8]) -> Op
         slip(alloc, bytes)
     } else if is(code, Status::NotJson) || is(code, Status::NotAScript) {
         hint(alloc, clients, bytes)
+    } else if is(code, Status::NotATrace) || is(code, Status::Broken) {
+        trace_hints::hint(alloc, bytes)
     } else if is(code, Status::NotAnEnvelope) {
         of_entry(alloc, bytes)
     } else {
