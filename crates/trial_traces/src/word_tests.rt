@@ -23,7 +23,7 @@ fn keepers(alloc: Global) -> Result<Vec<MemoryKeeper>, Fail>
     ensures { IfOk result (λ keepers. length keepers.items ≡ 8) }
 {
     let mut keepers = Vec::new(alloc);
-    for _place in 0..8 {
+    for _place in 0_usize..8 {
         keepers.push(MemoryKeeper::new(alloc, Vec::from_slice(alloc, &[0])?))?;
     }
     Ok(keepers)
