@@ -1,6 +1,5 @@
 ghost use Rattle.std.specs.Prelude.{◌≡◌, length, IfOk};
 
-use crate::hearing::turns;
 use base_bytes::Text;
 use data_value::Data;
 use member_keeper::MemoryKeeper;
@@ -8,6 +7,7 @@ use member_node::KeyDecl;
 use model_kinds::Kind;
 use std::alloc::Global;
 use std::test::*;
+use trial_turns::hearing::turns;
 use world_members::World;
 
 /// Eight keepers in memory.

@@ -1,5 +1,4 @@
-//! Trials of cells: tallies with a shelf that may fail, to which two clients add in a thread each; and what two turns take at
-//! the members of a world.
+//! Trials of cells: tallies with a shelf that may fail, to which two clients add in a thread each.
 //!
 //! # What is promised, and by which contract
 //!
@@ -10,7 +9,6 @@
 #![tactic(auto)]
 
 pub mod clients;
-pub mod hearing;
 #[cfg(test)]
 mod hearing_tests;
 pub mod locked;

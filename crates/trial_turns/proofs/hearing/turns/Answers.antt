@@ -1,7 +1,7 @@
 use Rattle.std.proofs.Common.{ap, sym, subst}
 use Rattle.world_members.specs.Parts.{ArePlaced}
 use Rattle.thread_section.proofs.Beginning.{placed_of}
-use Rattle.trial_cell.proofs.hearing.turns.Goals as goal
+use Rattle.trial_turns.proofs.hearing.turns.Goals as goal
 
 pub turns_named-requires-clause-placed : goal.turns_named-requires-clause-placed
 turns_named-requires-clause-placed g c =

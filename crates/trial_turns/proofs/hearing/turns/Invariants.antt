@@ -1,6 +1,6 @@
 use Rattle.member_views.specs.Sound.{last_view}
 use Rattle.world_members.specs.Places.{identity_at}
-use Rattle.trial_cell.proofs.hearing.turns.Given as goal
+use Rattle.trial_turns.proofs.hearing.turns.Given as goal
 
 -- the table that was just made, and the members of the last view
 abbrev pub ghosts-turns_named-N-Name : goal.ghosts-turns_named-N-Name

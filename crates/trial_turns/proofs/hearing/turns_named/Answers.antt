@@ -1,7 +1,7 @@
 use Rattle.std.proofs.Common.{subst}
 use Rattle.thread_section.specs.Places.{AreIdentities}
 use Rattle.thread_section.proofs.Beginning.{apart_of, are_new}
-use Rattle.trial_cell.proofs.hearing.turns_named.Goals as goal
+use Rattle.trial_turns.proofs.hearing.turns_named.Goals as goal
 
 pub new-cluster-requires-clause-apart : goal.new-cluster-requires-clause-apart
 new-cluster-requires-clause-apart g c = apart_of c.args.views g.N.Section.ids c.requires.ids c.last.ensures.sound

@@ -1,5 +1,5 @@
 use Rattle.std.proofs.Common.{◌≡◌}
-use Rattle.trial_cell.proofs.hearing.all_flushed.Given as goal
+use Rattle.trial_turns.proofs.hearing.all_flushed.Given as goal
 
 -- the session stays at the table
 abbrev pub invariant-loop-time : goal.invariant-loop-time
