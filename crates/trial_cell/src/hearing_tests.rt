@@ -15,7 +15,7 @@ fn keepers(alloc: Global) -> Result<Vec<MemoryKeeper>, Fail>
     ensures { IfOk result (λ keepers. length keepers.items ≡ 8) }
 {
     let mut keepers = Vec::new(alloc);
-    for _place in 0..8 {
+    for _place in 0..8_u32 {
         keepers.push(MemoryKeeper::new(alloc, Vec::new(alloc)))?;
     }
     Ok(keepers)
