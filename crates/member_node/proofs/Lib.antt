@@ -1,5 +1,6 @@
 pub mod Common
 pub mod Lists
+pub mod Sparse
 pub mod Operating
 pub mod Standing
 pub mod Sendings

@@ -3,7 +3,7 @@
 -- Searches of lists: where an element stands, and which it is.
 -- A list of which the items are changed one after another.
 -- A list that is written from its end back.
-use Rattle.std.proofs.Common.{◌≡◌, ℕ, zero, suc, ◌+◌, ◌<◌, List, [], ◌∷◌, ◌++◌, length, take, get_or, refl, sym, ap, ◌∙◌, arith, Bool, true, false, Some, find, if◌then◌else◌, cond, None, position, ◌≤◌, drop, set, map, ◌-◌, subst, subst₂, inl, inr, length-append, get_or-set_other, get_or-take}
+use Rattle.std.proofs.Common.{◌≡◌, ℕ, zero, suc, ◌+◌, ◌<◌, List, [], ◌∷◌, ◌++◌, length, take, get_or, refl, sym, ap, ◌∙◌, arith, Bool, true, false, Some, find, if◌then◌else◌, cond, None, position, ◌≤◌, drop, set, map, ◌-◌, subst, subst₂, inl, inr, length-append, length-set, get_or-set_other, get_or-take}
 use Rattle.std.specs.List.{AllZip, position_from}
 use Rattle.std.proofs.lemmas.List.{take_more, get_or_default}
 use Rattle.std.proofs.lemmas.Iterator.Adapters.{position_from-zero}
@@ -176,4 +176,32 @@ module _ {X C : Type 0} (Makes : X → C → Type 0) (keys : List X) (changes ne
     | inr other ↦
         let change : get_or changes k e ≡ get_or new k e = sym (ap (λ xs. get_or xs k e) pushed ∙ get_or-append changes (c ∷ []) e k (omega arith)) in
         subst (Makes (get_or keys k d)) change (made k d e (omega arith))
+  ]
+
+-- the same, where each place has a change, or none
+module _ {X C : Type 0} (Makes : X → C → Type 0) (keys : List X) (changes new : List C) (i : ℕ) (x : X) (c : C) (within : i < length keys) (is : x ≡ get_or keys i x) (counted : length changes ≡ length keys) (put : new ≡ set changes i c) (makes : Makes x c)
+    (made : (k : ℕ) (d : X) (e : C) → k < i → Makes (get_or keys k d) (get_or changes k e)) where
+  pub counted_put : length new ≡ length keys
+  counted_put = ap length put ∙ length-set changes i c ∙ counted
+
+  pub made_next : (k : ℕ) (d : X) (e : C) → k < i + 1 → Makes (get_or keys k d) (get_or new k e)
+  made_next k d e below = elim (cases_eq k i) [
+    | inl equal ↦
+        let key : x ≡ get_or keys k d = is ∙ get_or_default keys i x d within ∙ ap (λ j. get_or keys j d) (sym equal) in
+        let change : c ≡ get_or new k e = sym (ap (λ xs. get_or xs k e) put ∙ get_or-set_at changes i k c e equal (omega arith)) in
+        subst₂ Makes key change makes
+    | inr other ↦
+        let change : get_or changes k e ≡ get_or new k e = sym (ap (λ xs. get_or xs k e) put ∙ get_or-set_other changes i k c e other) in
+        subst (Makes (get_or keys k d)) change (made k d e (omega arith))
+  ]
+
+-- the same, where the next place keeps its change, or none
+module _ {X C : Type 0} (Makes : X → C → Type 0) (keys : List X) (changes : List C) (i : ℕ) (x : X) (c : C) (within : i < length keys) (is : x ≡ get_or keys i x) (here : (e : C) → c ≡ get_or changes i e) (makes : Makes x c)
+    (made : (k : ℕ) (d : X) (e : C) → k < i → Makes (get_or keys k d) (get_or changes k e)) where
+  pub made_still : (k : ℕ) (d : X) (e : C) → k < i + 1 → Makes (get_or keys k d) (get_or changes k e)
+  made_still k d e below = elim (cases_eq k i) [
+    | inl equal ↦
+        let key : x ≡ get_or keys k d = is ∙ get_or_default keys i x d within ∙ ap (λ j. get_or keys j d) (sym equal) in
+        subst₂ Makes key (here e ∙ ap (λ j. get_or changes j e) (sym equal)) makes
+    | inr other ↦ made k d e (omega arith)
   ]

@@ -2,10 +2,10 @@
 -- What a step has to store, key by key.
 -- Replies that open an operation, and those of failed stores.
 -- A step that was prepared and carried out is one of the model.
-use Rattle.std.proofs.Common.{◌≡◌, ℕ, zero, suc, ◌+◌, ◌<◌, take, List, [], ◌∷◌, ◌++◌, length, get_or, refl, sym, ap, ◌∙◌, subst, arith, append_assoc, Bool, true, false, not, append-nil, map, filter, All, ◌&&◌, if◌then◌else◌, ◌≢◌, Some, unwrap_or, IsFalse}
-use Rattle.std.proofs.lemmas.List.{map-append}
+use Rattle.std.proofs.Common.{◌≡◌, ℕ, zero, suc, ◌+◌, ◌-◌, ◌<◌, ◌≤◌, take, take_all, Option, None, List, [], ◌∷◌, ◌++◌, length, get_or, refl, sym, ap, ◌∙◌, subst, arith, append_assoc, Bool, true, false, not, append-nil, map, filter, All, ◌&&◌, if◌then◌else◌, ◌≢◌, Some, unwrap_or, IsFalse}
+use Rattle.std.proofs.lemmas.List.{map-append, take_more}
 use Rattle.std.proofs.lemmas.List.Elements.{All-append}
-use Rattle.member_node.proofs.Common.{Text, History, VersionVector, IsTakenFrom, is_unchanged, state_of, Stepped, step, Shown, Ghosts, Keeping, StandsForMessage, StandsForPosts, KeyState, declared_by, AreSpelled, Reply, meant, is_pending, Node, Prepared, Put, StandsForKey, StandsForNode, replication, StandsForOutput, IsStepOf, IsPrepared, IsSoundFor, Prepares, changed_operations, StandForOperations}
+use Rattle.member_node.proofs.Common.{Text, History, VersionVector, IsTakenFrom, is_unchanged, is_unchanged-same, Envelope, StandsAfter, state_of, Stepped, step, Shown, Ghosts, Keeping, StandsForMessage, StandsForPosts, KeyState, declared_by, AreSpelled, Reply, meant, is_pending, Node, Prepared, Put, StandsForKey, StandsForNode, replication, StandsForOutput, IsStepOf, IsPrepared, IsSoundFor, Prepares, changed_operations, StandForOperations}
 use Rattle.model_history.specs.History.{IsExactlyPruned}
 use Rattle.model_members.specs.Entry as model
 use Rattle.model_members.specs.Entry.{Entry}
@@ -23,6 +23,7 @@ use Rattle.member_messages.specs.declared.message.Message.TheVariants as message
 use Rattle.member_messages.specs.declared.message.Post.{Post}
 use Rattle.member_node.specs.Stores.{spelled_entry, IsKept}
 use Rattle.member_node.specs.Storing.{holding, stored_of}
+use Rattle.member_node.specs.Planning.{Lead}
 use Rattle.member_node.specs.declared.reply.Reply.TheVariants as reply
 use Rattle.member_node.specs.Replies.{meant_fate}
 use Rattle.member_node.specs.Outputs.{failed as failed_code, refused as refused_code, refused_post as refused_post_code, failed_output, after_fate}
@@ -101,6 +102,23 @@ module _ {T Kind Op Delta : Type 0} (old next : nodes.Node Kind Op Shown) where
   put_more (k ∷ ks) x =
       put_cons k (ks ++ x ∷ []) ∙ ap (λ l. of_key k ++ l) (put_more ks x) ∙ sym (append_assoc (of_key k) (put_of ks) (of_key x)) ∙ ap (λ l. l ++ of_key x) (sym (put_cons k ks))
 
+  -- where those between two places have not to be stored
+  put_further : (ks : List (KeyState T Kind Op Delta)) (from j : ℕ) → from + j ≤ length ks → ((k : ℕ) (d : KeyState T Kind Op Delta) → from ≤ k → k < from + j → of_key (get_or ks k d) ≡ []) → put_of (take (from + j) ks) ≡ put_of (take from ks)
+  put_further ks from zero few none = ap (λ n. put_of (take n ks)) (let same : from + 0 ≡ from = omega arith in same)
+  put_further [] from (suc j) few none = absurd (omega arith)
+  put_further (x ∷ ks) from (suc j) few none =
+      let i = from + j in
+      let next_place : from + suc j ≡ i + 1 = omega arith in
+      let at = get_or (x ∷ ks) i x in
+      ap (λ n. put_of (take n (x ∷ ks))) next_place ∙ ap put_of (take_more (x ∷ ks) i x (omega arith)) ∙ put_more (take i (x ∷ ks)) at
+      ∙ ap (λ l. put_of (take i (x ∷ ks)) ++ l) (none i x (omega arith) (omega arith)) ∙ append-nil (put_of (take i (x ∷ ks)))
+      ∙ put_further (x ∷ ks) from j (omega arith) (λ k d past below. none k d past (omega arith))
+
+  pub put_still : (ks : List (KeyState T Kind Op Delta)) (from to : ℕ) → from ≤ to → to ≤ length ks → ((k : ℕ) (d : KeyState T Kind Op Delta) → from ≤ k → k < to → of_key (get_or ks k d) ≡ []) → put_of (take to ks) ≡ put_of (take from ks)
+  put_still ks from to up few none =
+      let place : from + (to - from) ≡ to = omega arith in
+      ap (λ n. put_of (take n ks)) (sym place) ∙ put_further ks from (to - from) (omega arith) (λ k d past below. none k d past (omega arith))
+
   -- where no key has to be stored
   pub put_none : (ks : List (KeyState T Kind Op Delta)) → ((k : ℕ) (d : KeyState T Kind Op Delta) → k < length ks → stored_of (get_or ks k d) (old.entries (get_or ks k d).name) (next.entries (get_or ks k d).name) ≡ []) → put_of ks ≡ []
   put_none [] none = refl
@@ -132,6 +150,27 @@ module _ {T Kind Op Delta : Type 0} (ghosts : Ghosts T Kind Op Delta) (spelling 
   spelled_still unchanged same =
       let none = stored_same x (old.entries x.name) (next.entries x.name) unchanged in
       spelled_more (same ∙ sym (ap (λ ks. stores ++ map (spelled_entry spelling) ks) none ∙ append-nil stores)) (λ k below. absurd (let l = ap length none in omega arith))
+
+-- where the new entries lead from one member of the model to another
+module _ {T Kind Op Delta : Type 0} (ghosts : Ghosts T Kind Op Delta) (spelling : Spelling T Kind Op Delta) (logs : Text → History Op) (old next : nodes.Node Kind Op Shown) (keys : List (KeyState T Kind Op Delta)) (entry_of : ℕ → Option (Envelope T Kind Op Delta))
+    (lead : Lead ghosts.IsDataOf logs keys old.entries next.entries entry_of) where
+  -- a key without a new entry stays
+  pub entry_still : (k : ℕ) (d : KeyState T Kind Op Delta) → k < length keys → entry_of k ≡ None → is_unchanged (old.entries (get_or keys k d).name) (next.entries (get_or keys k d).name) ≡ true
+  entry_still k d within none =
+      let led : next.entries (get_or keys k d).name ≡ old.entries (get_or keys k d).name =
+      subst (λ o. StandsAfter ghosts.IsDataOf (logs (get_or keys k d).name) o (old.entries (get_or keys k d).name) (next.entries (get_or keys k d).name)) none (lead k d within) in
+      ap (is_unchanged (old.entries (get_or keys k d).name)) led ∙ is_unchanged-same (old.entries (get_or keys k d).name)
+
+  -- so are those up to a later place
+  pub spelled_past : (stores : List Kept) (from to : ℕ) → from ≤ to → to ≤ length keys → ((k : ℕ) → from ≤ k → k < to → entry_of k ≡ None) → AreSpelled ghosts spelling logs stores (put_of old next (take from keys)) → AreSpelled ghosts spelling logs stores (put_of old next (take to keys))
+  spelled_past stores from to up few none so_far =
+      subst (AreSpelled ghosts spelling logs stores) (sym (put_still old next keys from to up few
+      (λ k d past below. stored_same (get_or keys k d) (old.entries (get_or keys k d).name) (next.entries (get_or keys k d).name) (entry_still k d (omega arith) (none k past below))))) so_far
+
+  -- and all others
+  pub spelled_all : (stores : List Kept) (from : ℕ) → from ≤ length keys → ((k : ℕ) → from ≤ k → k < length keys → entry_of k ≡ None) → next.keys ≡ map declared_by keys → AreSpelled ghosts spelling logs stores (put_of old next (take from keys)) → AreSpelled ghosts spelling logs stores (to_store old next)
+  spelled_all stores from few none same so_far =
+      subst (AreSpelled ghosts spelling logs stores) (ap (put_of old next) (take_all (length keys) keys (omega arith)) ∙ put_all_keys old next keys same) (spelled_past stores from (length keys) few (omega arith) none so_far)
 
 -- REPLIES
 

@@ -12,7 +12,7 @@ use Rattle.model_members.specs.Entry as model
 use Rattle.model_members.specs.Node as nodes
 use Rattle.data_deltalog.proofs.Following.{last_later, kind_later, origin_later}
 use Rattle.member_node.specs.Taking.{KeepsOwn}
-use Rattle.member_node.specs.declared.change.Change.TheVariants.{Same, Entry}
+use Rattle.member_node.specs.declared.change.Change.TheVariants.{Entry, Flushed}
 use Rattle.member_node.specs.Own.{IsLogged}
 use Rattle.member_node.specs.Changes.{AreChanged}
 use Rattle.member_node.specs.declared.plan.Plan.TheVariants.{Ticked}
@@ -33,27 +33,30 @@ map-places f (x ∷ xs) [] counted same = absurd (omega arith)
 map-places f (x ∷ xs) (y ∷ ys) counted same = λ i. same 0 x (omega arith) i ∷ map-places f xs ys (omega arith) (λ k d below. same (suc k) d (omega arith)) i
 
 module _ {T Kind Op Delta : Type 0} where
-  pub same_name : (state : KeyState T Kind Op Delta) (change : Change T Kind Op Delta) → (changed state change).name ≡ state.name
-  same_name state Same = refl
-  same_name state _ = refl
+  pub same_name : (state : KeyState T Kind Op Delta) (change : Option (Change T Kind Op Delta)) → (changed state change).name ≡ state.name
+  same_name state None = refl
+  same_name state (Some (Entry entry)) = refl
+  same_name state (Some (Flushed flushed)) = refl
 
-  pub same_declared : (state : KeyState T Kind Op Delta) (change : Change T Kind Op Delta) → declared_by (changed state change) ≡ declared_by state
-  same_declared state Same = refl
-  same_declared state _ = refl
+  pub same_declared : (state : KeyState T Kind Op Delta) (change : Option (Change T Kind Op Delta)) → declared_by (changed state change) ≡ declared_by state
+  same_declared state None = refl
+  same_declared state (Some (Entry entry)) = refl
+  same_declared state (Some (Flushed flushed)) = refl
 
-  same_log : (state : KeyState T Kind Op Delta) (change : Change T Kind Op Delta) → (changed state change).log ≡ state.log
-  same_log state Same = refl
-  same_log state _ = refl
+  same_log : (state : KeyState T Kind Op Delta) (change : Option (Change T Kind Op Delta)) → (changed state change).log ≡ state.log
+  same_log state None = refl
+  same_log state (Some (Entry entry)) = refl
+  same_log state (Some (Flushed flushed)) = refl
 
   -- where each change keeps what is the member's own
-  module _ (kind_of : T → Kind) (Makes : KeyState T Kind Op Delta → Change T Kind Op Delta → Type 0) (id : ℕ) (keeps : (state : KeyState T Kind Op Delta) (change : Change T Kind Op Delta) → Makes state change → KeepsOwn kind_of id state.entry (changed state change).entry)
-      (old new : List (KeyState T Kind Op Delta)) (changes : List (Change T Kind Op Delta)) (made : AreMade Makes old changes) (after : AreChanged old changes new) (unpruned : IsUnpruned id old) where
+  module _ (kind_of : T → Kind) (Makes : KeyState T Kind Op Delta → Option (Change T Kind Op Delta) → Type 0) (id : ℕ) (keeps : (state : KeyState T Kind Op Delta) (change : Option (Change T Kind Op Delta)) → Makes state change → KeepsOwn kind_of id state.entry (changed state change).entry)
+      (old new : List (KeyState T Kind Op Delta)) (changes : List (Option (Change T Kind Op Delta))) (made : AreMade Makes old changes) (after : AreChanged old changes new) (unpruned : IsUnpruned id old) where
     -- own numbers that stay are small later
     pub few_changed : (steps later : ℕ) → steps ≤ later → HasFewOwn id steps old → HasFewOwn id later new
     few_changed steps later more few k d within =
         let inside : k < length old = (let l = after.same_length in omega arith) in
-        let stays = (keeps (get_or old k d) (get_or changes k Same) (made.made k d Same inside)).own (unpruned k d inside) in
-        let e = ap (own_number id) (after.each k d Same inside) in
+        let stays = (keeps (get_or old k d) (get_or changes k None) (made.made k d None inside)).own (unpruned k d inside) in
+        let e = ap (own_number id) (after.each k d None inside) in
         let before = few k d inside in
         omega (arith, e, stays, before)
 
@@ -62,10 +65,10 @@ module _ {T Kind Op Delta : Type 0} where
     logged_changed logged k d within =
         let inside : k < length old = (let l = after.same_length in omega arith) in
         let state = get_or old k d in
-        let change = get_or changes k Same in
-        let kept = keeps (get_or old k d) (get_or changes k Same) (made.made k d Same inside) in
+        let change = get_or changes k None in
+        let kept = keeps (get_or old k d) (get_or changes k None) (made.made k d None inside) in
         let before = logged k d inside in
-        subst (IsLogged kind_of id) (sym (after.each k d Same inside)) (record {
+        subst (IsLogged kind_of id) (sym (after.each k d None inside)) (record {
           origin = ap (λ (parts : LogParts Kind Delta). parts.origin) (same_log state change) ∙ before.origin;
           kind = ap (λ (parts : LogParts Kind Delta). parts.kind) (same_log state change) ∙ before.kind ∙ sym kept.kind;
           last = ap (λ (parts : LogParts Kind Delta). parts.last) (same_log state change) ∙ before.last ∙ sym (kept.own (unpruned k d inside));
@@ -74,7 +77,7 @@ module _ {T Kind Op Delta : Type 0} where
     pub unpruned_changed : IsUnpruned id new
     unpruned_changed k d within =
         let inside : k < length old = (let l = after.same_length in omega arith) in
-        ap (λ (state : KeyState T Kind Op Delta). performed_in (parts_of state.entry).marks id) (after.each k d Same inside) ∙ (keeps (get_or old k d) (get_or changes k Same) (made.made k d Same inside)).unpruned (unpruned k d inside)
+        ap (λ (state : KeyState T Kind Op Delta). performed_in (parts_of state.entry).marks id) (after.each k d None inside) ∙ (keeps (get_or old k d) (get_or changes k None) (made.made k d None inside)).unpruned (unpruned k d inside)
 
 -- PLANS
 
@@ -103,37 +106,37 @@ module _ {T Kind Op Delta : Type 0} (ghosts : Ghosts T Kind Op Delta) (id steps 
 
   -- A CHANGE FOR EACH
 
-  module _ (Makes : KeyState T Kind Op Delta → Change T Kind Op Delta → Type 0) (keeps : (state : KeyState T Kind Op Delta) (change : Change T Kind Op Delta) → Makes state change → KeepsOwn ghosts.kind_of id state.entry (changed state change).entry)
-      (changes : Vec (Change T Kind Op Delta)) (made : AreMade Makes keys changes.items) where
-    same_kinds : (after : List (KeyState T Kind Op Delta)) → AreChanged keys changes.items after → AreOfTheirKinds ghosts.kind_of after
+  module _ (Makes : KeyState T Kind Op Delta → Option (Change T Kind Op Delta) → Type 0) (keeps : (state : KeyState T Kind Op Delta) (change : Option (Change T Kind Op Delta)) → Makes state change → KeepsOwn ghosts.kind_of id state.entry (changed state change).entry)
+      (changes : List (Option (Change T Kind Op Delta))) (made : AreMade Makes keys changes) where
+    same_kinds : (after : List (KeyState T Kind Op Delta)) → AreChanged keys changes after → AreOfTheirKinds ghosts.kind_of after
     same_kinds after is k d within =
         let inside : k < length keys = (let l = is.same_length in omega arith) in
         let state = get_or keys k d in
-        let change = get_or changes.items k Same in
-        subst (λ (state : KeyState T Kind Op Delta). ghosts.kind_of state.entry.value ≡ state.kind) (sym (is.each k d Same inside))
-        ((keeps (get_or keys k d) (get_or changes.items k Same) (made.made k d Same inside)).kind ∙ own.of_kinds k d inside ∙ sym (ap (λ (decl : nodes.KeyDecl Kind). decl.kind) (same_declared (get_or keys k d) (get_or changes.items k Same))))
+        let change = get_or changes k None in
+        subst (λ (state : KeyState T Kind Op Delta). ghosts.kind_of state.entry.value ≡ state.kind) (sym (is.each k d None inside))
+        ((keeps (get_or keys k d) (get_or changes k None) (made.made k d None inside)).kind ∙ own.of_kinds k d inside ∙ sym (ap (λ (decl : nodes.KeyDecl Kind). decl.kind) (same_declared (get_or keys k d) (get_or changes k None))))
 
-    changed_entry : (state : KeyState T Kind Op Delta) (change : Change T Kind Op Delta) (entry : Envelope T Kind Op Delta) → new_entry change ≡ Some entry → (changed state change).entry ≡ entry
-    changed_entry state (Entry e) entry is = cc is
+    changed_entry : (state : KeyState T Kind Op Delta) (change : Option (Change T Kind Op Delta)) (entry : Envelope T Kind Op Delta) → new_entry change ≡ Some entry → (changed state change).entry ≡ entry
+    changed_entry state (Some (Entry e)) entry is = cc is
     changed_entry state _ entry is = absurd (cc is)
 
     pub sound_each : IsSoundPlan ghosts id steps keys (Each changes)
     sound_each = record {
       can = made.one_each;
       owned = λ after is. record {
-        few = few_changed ghosts.kind_of Makes id keeps keys after changes.items made is own.unpruned steps (steps + 1) (omega arith) own.few;
-        unpruned = unpruned_changed ghosts.kind_of Makes id keeps keys after changes.items made is own.unpruned;
-        logged = logged_changed ghosts.kind_of Makes id keeps keys after changes.items made is own.unpruned own.logged;
+        few = few_changed ghosts.kind_of Makes id keeps keys after changes made is own.unpruned steps (steps + 1) (omega arith) own.few;
+        unpruned = unpruned_changed ghosts.kind_of Makes id keeps keys after changes made is own.unpruned;
+        logged = logged_changed ghosts.kind_of Makes id keeps keys after changes made is own.unpruned own.logged;
         of_kinds = same_kinds after is;
         distinct = subst AreDistinct (sym (map-places (λ (state : KeyState T Kind Op Delta). state.name) keys after is.same_length
-            (λ k d within. ap (λ (state : KeyState T Kind Op Delta). state.name) (is.each k d Same within) ∙ same_name _ _))) own.distinct;
+            (λ k d within. ap (λ (state : KeyState T Kind Op Delta). state.name) (is.each k d None within) ∙ same_name _ _))) own.distinct;
       };
-      declared = λ after is. map-places declared_by keys after is.same_length (λ k d within. ap declared_by (is.each k d Same within) ∙ same_declared _ _);
+      declared = λ after is. map-places declared_by keys after is.same_length (λ k d within. ap declared_by (is.each k d None within) ∙ same_declared _ _);
       kinds = λ k d entry within is.
           let state = get_or keys k d in
-          let change = get_or changes.items k Same in
-          ap (λ (e : Envelope T Kind Op Delta). ghosts.kind_of e.value) (sym (changed_entry (get_or keys k d) (get_or changes.items k Same) entry is))
-          ∙ (keeps (get_or keys k d) (get_or changes.items k Same) (made.made k d Same within)).kind ∙ own.of_kinds k d within;
+          let change = get_or changes k None in
+          ap (λ (e : Envelope T Kind Op Delta). ghosts.kind_of e.value) (sym (changed_entry (get_or keys k d) (get_or changes k None) entry is))
+          ∙ (keeps (get_or keys k d) (get_or changes k None) (made.made k d None within)).kind ∙ own.of_kinds k d within;
     }
 
   -- A TICK OF EACH
@@ -283,24 +286,24 @@ module _ {T Kind Op Delta : Type 0} (ghosts : Ghosts T Kind Op Delta) (kinds : T
   }
 
   -- where each has a change
-  pub leads_each : (changes : Vec (Change T Kind Op Delta))
+  pub leads_each : (changes : List (Option (Change T Kind Op Delta)))
       → ((k : ℕ) (d : KeyState T Kind Op Delta) → k < length keys → StandsForKey ghosts.kind_of ghosts.IsDataOf ghosts.IsDeltaOf kinds logs (get_or keys k d) (old.entries (get_or keys k d).name) (old.flushed (get_or keys k d).name)
-      → StandsForKey ghosts.kind_of ghosts.IsDataOf ghosts.IsDeltaOf kinds logs (changed (get_or keys k d) (get_or changes.items k Same)) (next.entries (get_or keys k d).name) (next.flushed (get_or keys k d).name))
-      → ((k : ℕ) (d : KeyState T Kind Op Delta) → k < length keys → new_entry (get_or changes.items k Same) ≡ None → next.entries (get_or keys k d).name ≡ old.entries (get_or keys k d).name)
+      → StandsForKey ghosts.kind_of ghosts.IsDataOf ghosts.IsDeltaOf kinds logs (changed (get_or keys k d) (get_or changes k None)) (next.entries (get_or keys k d).name) (next.flushed (get_or keys k d).name))
+      → ((k : ℕ) (d : KeyState T Kind Op Delta) → k < length keys → new_entry (get_or changes k None) ≡ None → next.entries (get_or keys k d).name ≡ old.entries (get_or keys k d).name)
       → LeadsOn ghosts kinds logs keys old next (Each changes)
   leads_each changes each still = record {
     stands = λ after is k d within.
         let inside : k < length keys = (let l = is.same_length in omega arith) in
-        subst (λ (state : KeyState T Kind Op Delta). StandsForKey ghosts.kind_of ghosts.IsDataOf ghosts.IsDeltaOf kinds logs state (next.entries state.name) (next.flushed state.name)) (sym (is.each k d Same inside))
-        (subst (λ name. StandsForKey ghosts.kind_of ghosts.IsDataOf ghosts.IsDeltaOf kinds logs (changed (get_or keys k d) (get_or changes.items k Same)) (next.entries name) (next.flushed name)) (sym (same_name (get_or keys k d) (get_or changes.items k Same)))
+        subst (λ (state : KeyState T Kind Op Delta). StandsForKey ghosts.kind_of ghosts.IsDataOf ghosts.IsDeltaOf kinds logs state (next.entries state.name) (next.flushed state.name)) (sym (is.each k d None inside))
+        (subst (λ name. StandsForKey ghosts.kind_of ghosts.IsDataOf ghosts.IsDeltaOf kinds logs (changed (get_or keys k d) (get_or changes k None)) (next.entries name) (next.flushed name)) (sym (same_name (get_or keys k d) (get_or changes k None)))
         (each k d inside (held k d inside)));
-    leads = λ k d within. after_by (get_or keys k d) (get_or changes.items k Same) (each k d within (held k d within)) (still k d within);
+    leads = λ k d within. after_by (get_or keys k d) (get_or changes k None) (each k d within (held k d within)) (still k d within);
   }
     where
-      after_by : (state : KeyState T Kind Op Delta) (change : Change T Kind Op Delta)
+      after_by : (state : KeyState T Kind Op Delta) (change : Option (Change T Kind Op Delta))
           → StandsForKey ghosts.kind_of ghosts.IsDataOf ghosts.IsDeltaOf kinds logs (changed state change) (next.entries state.name) (next.flushed state.name)
           → (new_entry change ≡ None → next.entries state.name ≡ old.entries state.name) → StandsAfter ghosts.IsDataOf (logs state.name) (new_entry change) (old.entries state.name) (next.entries state.name)
-      after_by state (Entry entry) s still = s.held.image
+      after_by state (Some (Entry entry)) s still = s.held.image
       after_by state _ s still = still refl
 
   -- where each has a tick

@@ -3,12 +3,12 @@
 -- A flush: what is sent, and what counts as sent after it.
 -- What a member answers to a message: its reply and its posts.
 use Rattle.std.proofs.Common.{◌≡◌, ℕ, arith, ◌<◌, List, [], ◌∷◌, ◌++◌, length, nat_eq, refl, sym, ap, ◌∙◌, subst, Bool, true, false, Option, Some, None, map, filter, find, option_map, if◌then◌else◌, ◌&&◌, bytes_eq, append-nil, ◌+◌, get_or, take, not, nat_lt, All, ◌==◌, ◌||◌, ◌≤◌, inl, inr}
-use Rattle.std.specs.List.{AllZip, list_any}
+use Rattle.std.specs.List.{AllZip, list_any, list_all}
 use Rattle.std.proofs.lemmas.Bool.Decides.{Decides-eqb, eqb_tells}
 use Rattle.std.proofs.lemmas.List.{map-append}
 use Rattle.std.proofs.lemmas.List.Elements.{filter-append, All-head, All-tail}
 use Rattle.std.proofs.lemmas.Simd.{map-map}
-use Rattle.std.proofs.lemmas.Bool.{and_parts}
+use Rattle.std.proofs.lemmas.Bool.{and_parts, eqb-true}
 use Rattle.member_node.proofs.Common.{Text, VersionVector, IdentitySet, History, at, versions, uncleaned, Replication, has_records, is_unchanged, state_of, one_step_later, keyed_entry, gossip_to, after_groups, after_entries, step_of_take, named_entries, identities_of, number_at, performed_in, Shown, Ghosts, Keeping, Envelope, parts_of, entry_digest, Keyed, digest_told, StandsForEntry, StandsForKeyed, StandsForPosts, StandsForMessage, StandsForPost, Message, KeyState, declared_by, HoldsKey, Node, Change, Flushed, own_number, state_in, IsHeldBy, peers_of, changed, IsFlush, StandsForKey, StandsForNode, Reply, meant, is_pending, StandsForTaken, TellsGroups, TellsEntries, gap_told}
 use Rattle.model_history.specs.Texts.{contains_text}
 use Rattle.model_members.specs.Entry as model
@@ -25,6 +25,7 @@ use Rattle.member_messages.specs.declared.message.Message.TheVariants.{Gossip, D
 use Rattle.member_messages.specs.Sketches.{groups_of as message_groups, entries_of as message_entries, names_of}
 use Rattle.member_node.specs.Taking.{KeepsOwn}
 use Rattle.member_node.specs.Gossip.{is_told}
+use Rattle.member_node.specs.declared.change.Change.TheVariants.{Entry}
 use Rattle.member_node.specs.Sending.{is_behind, groups_of, entries_of, is_sent, post_to, flushed_to}
 use Rattle.member_node.specs.Answers.{reply_to, is_status, is_exchange, only_asks, nack_of, gossip_of, answers_of}
 use Rattle.member_node.specs.declared.reply.Reply.TheVariants as reply
@@ -190,6 +191,30 @@ module _ (id own before i : ℕ) (members : List ℕ) (peer : ℕ) where
   flushed_to-itself same =
       ap (λ ps. flushed_to own ps before i) (filter-append (λ j. not (j == id)) members (peer ∷ []) ∙ ap (λ b. peers_of id members ++ (if not b then peer ∷ [] else [])) same ∙ append-nil (peers_of id members))
 
+-- a flush after which each peer has the own number changes none of the numbers
+module _ (id own : ℕ) (sent : ℕ → ℕ) (i : ℕ) where
+  abbrev has_own : ℕ → Bool
+  has_own peer = (peer == id) || (sent peer == own)
+
+  peer_flushed : (members : List ℕ) → list_all has_own members ≡ true → list_any (λ j. j == i) (peers_of id members) ≡ true → sent i ≡ own
+  peer_flushed [] all any = absurd (cc any)
+  peer_flushed (m ∷ ms) all any = go (m == id) (sent m == own) (m == i) refl refl refl (peer_flushed ms) all any
+    where
+      go : (itself same here : Bool) → (m == id) ≡ itself → (sent m == own) ≡ same → (m == i) ≡ here
+          → (list_all has_own ms ≡ true → list_any (λ j. j == i) (peers_of id ms) ≡ true → sent i ≡ own)
+          → ((itself || same) && list_all has_own ms) ≡ true → list_any (λ j. j == i) (if not itself then m ∷ peers_of id ms else peers_of id ms) ≡ true → sent i ≡ own
+      go true same here is is' is'' rest all any = rest all any
+      go false false here is is' is'' rest all any = absurd (cc all)
+      go false true true is is' is'' rest all any = ap sent (sym (eqb-true m i is'')) ∙ eqb-true (sent m) own is'
+      go false true false is is' is'' rest all any = rest all (ap (λ b. b || list_any (λ j. j == i) (peers_of id ms)) (sym is'') ∙ any)
+
+  pub all_flushed : (members : List ℕ) → list_all has_own members ≡ true → sent i ≡ flushed_to own (peers_of id members) (sent i) i
+  all_flushed members all = go (list_any (λ j. j == i) (peers_of id members)) refl
+    where
+      go : (b : Bool) → list_any (λ j. j == i) (peers_of id members) ≡ b → sent i ≡ (if list_any (λ j. j == i) (peers_of id members) then own else sent i)
+      go true is = peer_flushed members all is ∙ sym (ap (λ b. if b then own else sent i) is)
+      go false is = sym (ap (λ b. if b then own else sent i) is)
+
 -- ONE KEY IN THE MODEL
 
 module _ {Kind Op : Type 0} (D : Replication Kind Op Shown) (node : nodes.Node Kind Op Shown) (peer : ℕ) where
@@ -276,16 +301,22 @@ module _ {T K Kind Op Delta : Type 0} {ghosts : Ghosts T Kind Op Delta} {keeping
       (λ k. if list_any (λ j. j == i) (sym peers_are k) then own k else stands.sent i k)
       ∙ ap (λ id. if list_any (λ j. j == i) (others (one_step_later node).view (one_step_later node).identity) then at entry.history id else before i) (sym s.identity)
 
-  pub stands_flushed : (state : KeyState T Kind Op Delta) (change : Change T Kind Op Delta) (entry : model.Entry Op) (before : VersionVector) → performed_in (parts_of state.entry).marks code.id ≡ false
+  pub stands_flushed : (state : KeyState T Kind Op Delta) (change : Option (Change T Kind Op Delta)) (entry : model.Entry Op) (before : VersionVector) → performed_in (parts_of state.entry).marks code.id ≡ false
       → IsFlush code.id (identities_of code.view) state change → StandsForKey kind_of IsDataOf ghosts.IsDeltaOf kinds logs state entry before
       → StandsForKey kind_of IsDataOf ghosts.IsDeltaOf kinds logs (changed state change) entry (λ i. if list_any (λ j. j == i) (others (one_step_later node).view (one_step_later node).identity) then at entry.history (one_step_later node).identity else before i)
-  stands_flushed state (Flushed flushed) entry before unpruned flush stands = record {
+  stands_flushed state None entry before unpruned flush stands = record {
     kind = stands.kind;
     held = stands.held;
     logged = stands.logged;
     sent = λ i. flush i ∙ flushed_is state entry before unpruned stands i;
   }
-  stands_flushed state _ entry before unpruned flush stands = absurd flush
+  stands_flushed state (Some (Flushed flushed)) entry before unpruned flush stands = record {
+    kind = stands.kind;
+    held = stands.held;
+    logged = stands.logged;
+    sent = λ i. flush i ∙ flushed_is state entry before unpruned stands i;
+  }
+  stands_flushed state (Some (Entry new)) entry before unpruned flush stands = absurd flush
 
 -- what the keys hold when a flush begins
 module _ {T K Kind Op Delta : Type 0} {ghosts : Ghosts T Kind Op Delta} {keeping : Keeping K} (IsDataOf : T → History Op → VersionVector → IdentitySet → Type 0) (kinds : Text → Kind) (logs : Text → History Op) (code : Node T K Kind Op Delta ghosts keeping) (node : nodes.Node Kind Op Shown)
@@ -295,9 +326,10 @@ module _ {T K Kind Op Delta : Type 0} {ghosts : Ghosts T Kind Op Delta} {keeping
 
 -- a flush changes no entry
 module _ {T Kind Op Delta : Type 0} (id : ℕ) (members : List ℕ) where
-  pub flush_keeps : (kind_of : T → Kind) (state : KeyState T Kind Op Delta) (change : Change T Kind Op Delta) → IsFlush id members state change → KeepsOwn kind_of id state.entry (changed state change).entry
-  flush_keeps kind_of state (Flushed flushed) flush = record { kind = refl; own = λ before. refl; unpruned = λ before. before }
-  flush_keeps kind_of state _ flush = absurd flush
+  pub flush_keeps : (kind_of : T → Kind) (state : KeyState T Kind Op Delta) (change : Option (Change T Kind Op Delta)) → IsFlush id members state change → KeepsOwn kind_of id state.entry (changed state change).entry
+  flush_keeps kind_of state None flush = record { kind = refl; own = λ before. refl; unpruned = λ before. before }
+  flush_keeps kind_of state (Some (Flushed flushed)) flush = record { kind = refl; own = λ before. refl; unpruned = λ before. before }
+  flush_keeps kind_of state (Some (Entry entry)) flush = absurd flush
 
 -- AN ANSWER TO A MESSAGE
 

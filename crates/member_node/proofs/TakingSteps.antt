@@ -3,7 +3,6 @@
 -- What a write and an answer bring: an entry that is told, or one that is passed over.
 -- Steps of gossip, in the model and at a member.
 use Rattle.std.proofs.Common.{◌≡◌, ℕ, List, get_or, refl, sym, ap, ◌∙◌, subst, true, false, Option, None, unwrap_or, if◌then◌else◌, ◌≢◌, [], ◌∷◌, length, cond, arith, suc, Bool, Some, map, find, option_map, nat_le, All, bytes_eq, not, ◌&&◌, ◌||◌, ◌==◌}
-use Rattle.std.specs.Global.{Vec}
 use Rattle.member_node.proofs.Common.{uncleaned, Text, VersionVector, IdentitySet, History, at, versions, IsTakenFrom, is_member, Replication, one_step_later, OpenOperation, state_of, step, step_of_take, answered, after_entries, counted, answer_to, performed_in, Shown, Ghosts, Keeping, Envelope, StandsFor, parts_of, LogParts, StandsForLog, Message, StandsForKeyed, Keyed, Node, KeyState, Change, Flushed, Each, Prepared, changed, AreMade, StandsForKey, StandsForNode, changed_operations, StandForOperations, IsSoundPlan, LeadsOn, IsPrepared, StandsForOutput, IsKept, LeadsTo, AreHeld, declared_by, IsEntryPassedOver, HoldsKey}
 use Rattle.model_history.specs.Vector.{members_of}
 use Rattle.model_members.specs.Entry as model
@@ -16,7 +15,7 @@ use Rattle.model_members.specs.Step.{keyed_option, with_answer, sent, status_of}
 use Rattle.model_members.proofs.Cases.{with_taken_entry, counted_for}
 use Rattle.member_messages.specs.declared.message.Message.TheVariants.{Write, WriteAck, WriteNack, Read, ReadAnswer, Status}
 use Rattle.member_node.specs.Answers.{is_exchange, is_status}
-use Rattle.member_node.specs.declared.change.Change.TheVariants.{Same, Entry}
+use Rattle.member_node.specs.declared.change.Change.TheVariants.{Entry}
 use Rattle.member_node.specs.Own.{IsLogged}
 use Rattle.member_node.specs.Planning.{new_entry}
 use Rattle.member_node.specs.Taking.{KeepsOwn, AreHeldBy}
@@ -52,23 +51,23 @@ module _ {T Kind Op Delta : Type 0} (kind_of : T → Kind) (IsDataOf : T → His
       ∙ s.holds.numbers id ∙ uncleaned (performed_in (parts_of one).marks) (versions before.history) id unpruned
 
   -- what is held of a key after the change
-  pub stands_after : (state : KeyState T Kind Op Delta) (change : Change T Kind Op Delta) → performed_in (parts_of state.entry).marks id ≡ false → IsLogged kind_of id state → IsKept kind_of id state change → LeadsTo IsDataOf logs old new state change
+  pub stands_after : (state : KeyState T Kind Op Delta) (change : Option (Change T Kind Op Delta)) → performed_in (parts_of state.entry).marks id ≡ false → IsLogged kind_of id state → IsKept kind_of id state change → LeadsTo IsDataOf logs old new state change
       → StandsForKey kind_of IsDataOf IsDeltaOf kinds logs state (old state.name) (flushed state.name) → StandsForKey kind_of IsDataOf IsDeltaOf kinds logs (changed state change) (new state.name) (flushed state.name)
-  stands_after state Same unpruned own kept leads s = subst (λ (e : model.Entry Op). StandsForKey kind_of IsDataOf IsDeltaOf kinds logs state e (flushed state.name)) (sym leads) s
-  stands_after state (Entry entry) unpruned own kept leads s = record {
+  stands_after state None unpruned own kept leads s = subst (λ (e : model.Entry Op). StandsForKey kind_of IsDataOf IsDeltaOf kinds logs state e (flushed state.name)) (sym leads) s
+  stands_after state (Some (Entry entry)) unpruned own kept leads s = record {
     kind = s.kind;
     held = record { kind = kept.kind ∙ s.held.kind; image = leads.1 };
     logged = log_kept IsDeltaOf state.log (logs state.name) (old state.name) (new state.name) leads.1.taken
         (subst (λ i. at (new state.name).history i ≡ at (old state.name).history i) (sym own.origin) (own_kept state.entry entry (logs state.name) (old state.name) (new state.name) unpruned kept leads.0 leads.1)) s.logged;
     sent = s.sent;
   }
-  stands_after state (Flushed sent) unpruned own kept leads s = absurd leads
+  stands_after state (Some (Flushed sent)) unpruned own kept leads s = absurd leads
 
   -- a key without another entry has the same in the model
-  pub still_led : (state : KeyState T Kind Op Delta) (change : Change T Kind Op Delta) → LeadsTo IsDataOf logs old new state change → new_entry change ≡ None → new state.name ≡ old state.name
-  still_led state Same leads none = leads
-  still_led state (Entry entry) leads none = absurd (cc none)
-  still_led state (Flushed sent) leads none = absurd leads
+  pub still_led : (state : KeyState T Kind Op Delta) (change : Option (Change T Kind Op Delta)) → LeadsTo IsDataOf logs old new state change → new_entry change ≡ None → new state.name ≡ old state.name
+  still_led state None leads none = leads
+  still_led state (Some (Entry entry)) leads none = absurd (cc none)
+  still_led state (Some (Flushed sent)) leads none = absurd leads
 
 -- THE STEP
 
@@ -102,22 +101,22 @@ module _ {T K Kind Op Delta : Type 0} {ghosts : Ghosts T Kind Op Delta} {keeping
         declares = s.keys;
       })
 
-module _ {T K Kind Op Delta : Type 0} {ghosts : Ghosts T Kind Op Delta} {keeping : Keeping K} (code : Node T K Kind Op Delta ghosts keeping) (changes : Vec (Change T Kind Op Delta)) (kept : AreMade (IsKept ghosts.kind_of code.id) code.keys.items changes.items) where
+module _ {T K Kind Op Delta : Type 0} {ghosts : Ghosts T Kind Op Delta} {keeping : Keeping K} (code : Node T K Kind Op Delta ghosts keeping) (changes : List (Option (Change T Kind Op Delta))) (kept : AreMade (IsKept ghosts.kind_of code.id) code.keys.items changes) where
   -- what was taken can be carried out
   pub sound_taken : IsSoundPlan ghosts code.id code.steps code.keys.items (Each changes)
   sound_taken = sound_each ghosts code.id code.steps code.keys.items (owned code) (IsKept ghosts.kind_of code.id) (kept_changed ghosts.kind_of code.id) changes kept
 
   -- and leads to what it leads to in the model
   module _ (kinds : Text → Kind) (logs : Text → History Op) (node : nodes.Node Kind Op Shown) (s : StandsForNode ghosts.kind_of ghosts.IsDataOf kinds logs code node) where
-    pub leads_taken : (next : nodes.Node Kind Op Shown) → AreMade (LeadsTo ghosts.IsDataOf logs node.entries next.entries) code.keys.items changes.items → next.flushed ≡ node.flushed → LeadsOn ghosts kinds logs code.keys.items node next (Each changes)
+    pub leads_taken : (next : nodes.Node Kind Op Shown) → AreMade (LeadsTo ghosts.IsDataOf logs node.entries next.entries) code.keys.items changes → next.flushed ≡ node.flushed → LeadsOn ghosts kinds logs code.keys.items node next (Each changes)
     leads_taken next leads flushed = leads_each ghosts kinds logs code.keys.items node next s.entries changes
         (λ k d within here.
-        subst (λ (f : Text → VersionVector). StandsForKey ghosts.kind_of ghosts.IsDataOf ghosts.IsDeltaOf kinds logs (changed (get_or code.keys.items k d) (get_or changes.items k Same)) (next.entries (get_or code.keys.items k d).name) (f (get_or code.keys.items k d).name)) (sym flushed)
-        (stands_after ghosts.kind_of ghosts.IsDataOf ghosts.IsDeltaOf kinds logs code.id node.entries next.entries node.flushed (get_or code.keys.items k d) (get_or changes.items k Same) (code.unpruned k d within) (code.logged k d within) (kept.made k d Same within) (leads.made k d Same within) here))
-        (λ k d within none. still_led ghosts.kind_of ghosts.IsDataOf ghosts.IsDeltaOf kinds logs code.id node.entries next.entries node.flushed (get_or code.keys.items k d) (get_or changes.items k Same) (leads.made k d Same within) none)
+        subst (λ (f : Text → VersionVector). StandsForKey ghosts.kind_of ghosts.IsDataOf ghosts.IsDeltaOf kinds logs (changed (get_or code.keys.items k d) (get_or changes k None)) (next.entries (get_or code.keys.items k d).name) (f (get_or code.keys.items k d).name)) (sym flushed)
+        (stands_after ghosts.kind_of ghosts.IsDataOf ghosts.IsDeltaOf kinds logs code.id node.entries next.entries node.flushed (get_or code.keys.items k d) (get_or changes k None) (code.unpruned k d within) (code.logged k d within) (kept.made k d None within) (leads.made k d None within) here))
+        (λ k d within none. still_led ghosts.kind_of ghosts.IsDataOf ghosts.IsDeltaOf kinds logs code.id node.entries next.entries node.flushed (get_or code.keys.items k d) (get_or changes k None) (leads.made k d None within) none)
 
     -- a step that makes these entries, and it may be other operations
-    pub prepared_taken : (after : nodes.Node Kind Op Shown) → after ≡ record (one_step_later node) { entries = after.entries } → AreMade (LeadsTo ghosts.IsDataOf logs node.entries after.entries) code.keys.items changes.items
+    pub prepared_taken : (after : nodes.Node Kind Op Shown) → after ≡ record (one_step_later node) { entries = after.entries } → AreMade (LeadsTo ghosts.IsDataOf logs node.entries after.entries) code.keys.items changes
         → (next : nodes.Stepped Kind Op Shown) → next.node ≡ record after { open_operations = next.node.open_operations; finished = next.node.finished }
         → (prepared : Prepared T Kind Op Delta ghosts) → prepared.view ≡ None → prepared.plan ≡ Each changes → StandForOperations (changed_operations code.operations prepared.operations) next.node
         → StandsForOutput kinds logs prepared.output next.output → IsPrepared {ghosts = ghosts} kinds logs code.keys.items code.operations node next prepared
@@ -127,7 +126,7 @@ module _ {T K Kind Op Delta : Type 0} {ghosts : Ghosts T Kind Op Delta} {keeping
       counted = ap (λ n. n.steps) is ∙ ap (λ n. n.steps) only;
       viewed = ap (λ n. n.view) is ∙ ap (λ n. n.view) only ∙ sym (ap (λ o. unwrap_or o node.view) none);
       leads_on = subst (LeadsOn ghosts kinds logs code.keys.items node next.node) (sym plan)
-          (leads_taken next.node (subst (λ entries. AreMade (LeadsTo ghosts.IsDataOf logs node.entries entries) code.keys.items changes.items) (sym (ap (λ n. n.entries) is)) leads) (ap (λ n. n.flushed) is ∙ ap (λ n. n.flushed) only));
+          (leads_taken next.node (subst (λ entries. AreMade (LeadsTo ghosts.IsDataOf logs node.entries entries) code.keys.items changes) (sym (ap (λ n. n.entries) is)) leads) (ap (λ n. n.flushed) is ∙ ap (λ n. n.flushed) only));
       operates = operates;
       answers = answers;
     }

@@ -4,11 +4,10 @@
 -- Changes of keys in the course of a step.
 -- Groups and entries that a member takes, one after another.
 -- Entries that are asked for by name.
-use Rattle.std.proofs.Common.{◌≡◌, List, [], ◌∷◌, ◌++◌, refl, sym, ap, ◌∙◌, subst, Some, None, ◌≢◌, ℕ, ◌<◌, length, get_or, set, subst₂, arith, false, not, Option, inl, inr, map, find, option_map, IfSome, bytes_eq, Vec, get_or-set_same, get_or-set_other, length-set, true, if◌then◌else◌, Bool, filter, ◌&&◌, append-nil}
+use Rattle.std.proofs.Common.{◌≡◌, zero, suc, List, [], ◌∷◌, ◌++◌, refl, sym, ap, ◌∙◌, subst, Some, None, ◌≢◌, ℕ, ◌<◌, length, get_or, set, subst₂, arith, false, not, Option, inl, inr, map, find, option_map, IfSome, bytes_eq, get_or-set_same, get_or-set_other, length-set, true, if◌then◌else◌, Bool, filter, ◌&&◌, append-nil}
 use Rattle.std.specs.List.{AllZip}
-use Rattle.std.specs.Vec.{with_items}
 use Rattle.std.proofs.lemmas.Bool.{cases_eq}
-use Rattle.std.proofs.lemmas.List.{get_or_default, get_or-map, length-map, with_items_is, map-append}
+use Rattle.std.proofs.lemmas.List.{get_or_default, length-map, map-append}
 use Rattle.std.proofs.lemmas.List.Elements.{filter-append}
 use Rattle.std.proofs.lemmas.Simd.{map-map}
 use Rattle.member_node.proofs.Common.{Text, History, VersionVector, IdentitySet, IsTakenFrom, is_unchanged, seen_by, has_records, HasKey, state_of, keyed_entry, bytes_eq-tells, is_unchanged-same, AfterGroups, take_entry, take_group, after_entries, named_entries, Replication, performed_in, Shown, Ghosts, Envelope, StandsFor, parts_of, Message, StandsForKeyed, StandsForKeyedGroup, StandsForMessage, StandsForEntry, Keyed, StandsForTaken, IsEntryPassedOver, KeyState, Change, Flushed, AreDistinct, declared_by, AreOfTheirKinds, changed, AreMade, current_of, IsKept, StandsAfter, LeadsTo, AreHeld, AreExactAt, IsAtWork, gap_told}
@@ -19,6 +18,7 @@ use Rattle.model_members.specs.Message.{Message as Sent}
 use Rattle.model_members.specs.Entry as model
 use Rattle.model_members.specs.Entry.{merged}
 use Rattle.model_members.specs.Node as nodes
+use Rattle.model_members.specs.Node.{key_states}
 use Rattle.model_members.proofs.Steps.{bytes_eq-same}
 use Rattle.model_members.proofs.Taking.{take_entry-only, take_entry-at}
 use Rattle.model_members.specs.Step.{is_entry_passed_over}
@@ -29,7 +29,13 @@ use Rattle.data_envelope.specs.declared.group.Group.{Group}
 use Rattle.member_messages.specs.declared.message.Message.TheVariants.{Deltas, Gossip, Write, ReadAnswer}
 use Rattle.member_node.specs.Inputs.{Tells, IsGroupPassedOver}
 use Rattle.member_node.specs.Inputs.Tells.{nothing, told, passed_over}
-use Rattle.member_node.specs.declared.change.Change.TheVariants.{Same, Entry}
+use Rattle.member_node.specs.Changes.{IsSparse}
+use Rattle.member_node.specs.Entries.{is_changed_at}
+use Rattle.member_node.specs.declared.change.ChangeAt.{ChangeAt}
+use Rattle.member_node.specs.declared.change.Change.TheVariants.{Entry}
+use Rattle.member_node.proofs.Sparse.{stands_at, sparse_at}
+use Rattle.std.specs.List.{list_any}
+use Rattle.std.proofs.lemmas.List.Folds.{list_any_none}
 use Rattle.member_node.specs.Taking.{put_at, KeepsOwn, AreHeldBy, judged_for, entry_after, lacking_in, gaps_at}
 use Rattle.member_node.specs.declared.groups.GroupTaken.{GroupTaken}
 use Rattle.member_node.proofs.Lists.{find_one, IsFound}
@@ -126,8 +132,8 @@ module _ {T Kind Op Delta : Type 0} {ghosts : Ghosts T Kind Op Delta} (kinds : T
 -- CHANGES OF KEYS
 
 module _ {T Kind Op Delta : Type 0} where
-  abbrev no_change : Change T Kind Op Delta
-  no_change = Same
+  abbrev no_change : Option (Change T Kind Op Delta)
+  no_change = None
 
   abbrev pub name_at : List (KeyState T Kind Op Delta) → ℕ → KeyState T Kind Op Delta → Text
   name_at keys k d = (get_or keys k d).name
@@ -135,9 +141,10 @@ module _ {T Kind Op Delta : Type 0} where
   -- WHAT IS KEPT
 
   module _ (kind_of : T → Kind) (id : ℕ) where
-    pub kept_changed : (state : KeyState T Kind Op Delta) (change : Change T Kind Op Delta) → IsKept kind_of id state change → KeepsOwn kind_of id state.entry (changed state change).entry
-    kept_changed state Same kept = kept
-    kept_changed state _ kept = kept
+    pub kept_changed : (state : KeyState T Kind Op Delta) (change : Option (Change T Kind Op Delta)) → IsKept kind_of id state change → KeepsOwn kind_of id state.entry (changed state change).entry
+    kept_changed state None kept = kept
+    kept_changed state (Some (Entry entry)) kept = kept
+    kept_changed state (Some (Flushed flushed)) kept = kept
 
     kept_same : (envelope : Envelope T Kind Op Delta) → KeepsOwn kind_of id envelope envelope
     kept_same envelope = record { kind = refl; own = λ before. refl; unpruned = λ before. before }
@@ -146,43 +153,50 @@ module _ {T Kind Op Delta : Type 0} where
     kept_further one two three a b = record { kind = b.kind ∙ a.kind; own = λ before. b.own (a.unpruned before) ∙ a.own before; unpruned = λ before. b.unpruned (a.unpruned before) }
 
   -- no change yet, at each place
-  unchanged_at : (keys : List (KeyState T Kind Op Delta)) (k : ℕ) (d : KeyState T Kind Op Delta) (e : Change T Kind Op Delta) → k < length keys → get_or (map (λ (state : KeyState T Kind Op Delta). no_change) keys) k e ≡ Same
-  unchanged_at keys k d e within = get_or-map (λ (state : KeyState T Kind Op Delta). no_change) keys k d e within
+  pub unchanged_at : (keys : List (KeyState T Kind Op Delta)) (k : ℕ) (e : Option (Change T Kind Op Delta)) → k < length keys → get_or (map (λ (state : KeyState T Kind Op Delta). no_change) keys) k e ≡ None
+  unchanged_at [] k e within = absurd (omega arith)
+  unchanged_at (x ∷ keys) zero e within = refl
+  unchanged_at (x ∷ keys) (suc k) e within = unchanged_at keys k e (omega arith)
 
-  made_first : (Makes : KeyState T Kind Op Delta → Change T Kind Op Delta → Type 0) (keys : List (KeyState T Kind Op Delta)) (changes : List (Change T Kind Op Delta)) → changes ≡ map (λ state. Same) keys
-      → ((k : ℕ) (d : KeyState T Kind Op Delta) → k < length keys → Makes (get_or keys k d) Same) → AreMade Makes keys changes
+  made_first : (Makes : KeyState T Kind Op Delta → Option (Change T Kind Op Delta) → Type 0) (keys : List (KeyState T Kind Op Delta)) (changes : List (Option (Change T Kind Op Delta))) → changes ≡ map (λ state. None) keys
+      → ((k : ℕ) (d : KeyState T Kind Op Delta) → k < length keys → Makes (get_or keys k d) None) → AreMade Makes keys changes
   made_first Makes keys changes is each = subst (AreMade Makes keys) (sym is) (record {
     one_each = length-map keys (λ (state : KeyState T Kind Op Delta). no_change);
-    made = λ k d e within. subst (Makes (get_or keys k d)) (sym (unchanged_at keys k d e within)) (each k d within);
+    made = λ k d e within. subst (Makes (get_or keys k d)) (sym (unchanged_at keys k e within)) (each k d within);
   })
 
-  pub kept_first : (kind_of : T → Kind) (id : ℕ) (keys : List (KeyState T Kind Op Delta)) (changes : List (Change T Kind Op Delta)) → changes ≡ map (λ state. Same) keys → AreMade (IsKept kind_of id) keys changes
+  pub kept_first : (kind_of : T → Kind) (id : ℕ) (keys : List (KeyState T Kind Op Delta)) (changes : List (Option (Change T Kind Op Delta))) → changes ≡ map (λ state. None) keys → AreMade (IsKept kind_of id) keys changes
   kept_first kind_of id keys changes is = made_first (IsKept kind_of id) keys changes is (λ k d within. kept_same kind_of id (get_or keys k d).entry)
 
   -- ONE MORE CHANGE
 
   -- what holds of every change, and of another at a place
-  pub made_put : (Makes : KeyState T Kind Op Delta → Change T Kind Op Delta → Type 0) (keys : List (KeyState T Kind Op Delta)) (changes : List (Change T Kind Op Delta)) (index : ℕ) (at : KeyState T Kind Op Delta) → index < length keys → at ≡ get_or keys index at
-      → (taken : Option (Envelope T Kind Op Delta)) → ((envelope : Envelope T Kind Op Delta) → taken ≡ Some envelope → Makes at (Entry envelope)) → AreMade Makes keys changes → AreMade Makes keys (put_at changes index taken)
+  pub made_put : (Makes : KeyState T Kind Op Delta → Option (Change T Kind Op Delta) → Type 0) (keys : List (KeyState T Kind Op Delta)) (changes : List (Option (Change T Kind Op Delta))) (index : ℕ) (at : KeyState T Kind Op Delta) → index < length keys → at ≡ get_or keys index at
+      → (taken : Option (Envelope T Kind Op Delta)) → ((envelope : Envelope T Kind Op Delta) → taken ≡ Some envelope → Makes at (Some (Entry envelope))) → AreMade Makes keys changes → AreMade Makes keys (put_at changes index taken)
   made_put Makes keys changes index at within is None makes made = made
   made_put Makes keys changes index at within is (Some envelope) makes made = record {
-    one_each = length-set changes index (Entry envelope) ∙ made.one_each;
+    one_each = length-set changes index (Some (Entry envelope)) ∙ made.one_each;
     made = λ k d e inside. elim (cases_eq k index) [
       | inl equal ↦
           let state : at ≡ get_or keys k d = is ∙ get_or_default keys index at d within ∙ ap (λ j. get_or keys j d) (sym equal) in
-          let change : Entry envelope ≡ get_or (set changes index (Entry envelope)) k e =
-          sym (ap (λ j. get_or (set changes index (Entry envelope)) j e) equal ∙ get_or-set_same changes index (Entry envelope) e (let l = made.one_each in omega arith)) in
+          let change : Some (Entry envelope) ≡ get_or (set changes index (Some (Entry envelope))) k e =
+          sym (ap (λ j. get_or (set changes index (Some (Entry envelope))) j e) equal ∙ get_or-set_same changes index (Some (Entry envelope)) e (let l = made.one_each in omega arith)) in
           subst₂ Makes state change (makes envelope refl)
-      | inr other ↦ subst (Makes (get_or keys k d)) (sym (get_or-set_other changes index k (Entry envelope) e other)) (made.made k d e inside)
+      | inr other ↦ subst (Makes (get_or keys k d)) (sym (get_or-set_other changes index k (Some (Entry envelope)) e other)) (made.made k d e inside)
     ];
   }
 
+  -- each key has its place still
+  pub length-put_at : (changes : List (Option (Change T Kind Op Delta))) (index : ℕ) (taken : Option (Envelope T Kind Op Delta)) → length (put_at changes index taken) ≡ length changes
+  length-put_at changes index None = refl
+  length-put_at changes index (Some envelope) = length-set changes index (Some (Entry envelope))
+
   -- what the change at a place is
-  pub made_at : (Makes : KeyState T Kind Op Delta → Change T Kind Op Delta → Type 0) (keys : List (KeyState T Kind Op Delta)) (changes : List (Change T Kind Op Delta)) (index : ℕ) (at : KeyState T Kind Op Delta) (change : Change T Kind Op Delta)
+  pub made_at : (Makes : KeyState T Kind Op Delta → Option (Change T Kind Op Delta) → Type 0) (keys : List (KeyState T Kind Op Delta)) (changes : List (Option (Change T Kind Op Delta))) (index : ℕ) (at : KeyState T Kind Op Delta) (change : Option (Change T Kind Op Delta))
       → index < length keys → at ≡ get_or keys index at → change ≡ get_or changes index change → AreMade Makes keys changes → Makes at change
   made_at Makes keys changes index at change within is is' made = subst₂ Makes (sym is) (sym is') (made.made index at change within)
 
-  pub kept_put : (kind_of : T → Kind) (id : ℕ) (keys : List (KeyState T Kind Op Delta)) (changes : List (Change T Kind Op Delta)) (index : ℕ) (at : KeyState T Kind Op Delta) (change : Change T Kind Op Delta) → index < length keys → at ≡ get_or keys index at → change ≡ get_or changes index change
+  pub kept_put : (kind_of : T → Kind) (id : ℕ) (keys : List (KeyState T Kind Op Delta)) (changes : List (Option (Change T Kind Op Delta))) (index : ℕ) (at : KeyState T Kind Op Delta) (change : Option (Change T Kind Op Delta)) → index < length keys → at ≡ get_or keys index at → change ≡ get_or changes index change
       → (mine : Envelope T Kind Op Delta) → mine ≡ current_of at change → (taken : Option (Envelope T Kind Op Delta)) → IfSome taken (KeepsOwn kind_of id mine) → AreMade (IsKept kind_of id) keys changes → AreMade (IsKept kind_of id) keys (put_at changes index taken)
   kept_put kind_of id keys changes index at change within is is' mine same None keeps kept = kept
   kept_put kind_of id keys changes index at change within is is' mine same (Some envelope) keeps kept =
@@ -191,15 +205,10 @@ module _ {T Kind Op Delta : Type 0} where
       (λ other is_other. let e : envelope ≡ other = cc is_other in subst (KeepsOwn kind_of id at.entry) e (kept_further kind_of id at.entry mine envelope now keeps)) kept
 
   -- an entry is of its key's kind in the course of a step
-  pub current_kind : (kind_of : T → Kind) (id : ℕ) (keys : List (KeyState T Kind Op Delta)) (changes : List (Change T Kind Op Delta)) (index : ℕ) (at : KeyState T Kind Op Delta) (change : Change T Kind Op Delta) → index < length keys → at ≡ get_or keys index at → change ≡ get_or changes index change
+  pub current_kind : (kind_of : T → Kind) (id : ℕ) (keys : List (KeyState T Kind Op Delta)) (changes : List (Option (Change T Kind Op Delta))) (index : ℕ) (at : KeyState T Kind Op Delta) (change : Option (Change T Kind Op Delta)) → index < length keys → at ≡ get_or keys index at → change ≡ get_or changes index change
       → AreMade (IsKept kind_of id) keys changes → AreOfTheirKinds kind_of keys → kind_of (current_of at change).value ≡ at.kind
   current_kind kind_of id keys changes index at change within is is' made kinds =
       (made_at (IsKept kind_of id) keys changes index at change within is is' made).kind ∙ subst (λ (state : KeyState T Kind Op Delta). kind_of state.entry.value ≡ state.kind) (sym is) (kinds index at within)
-
-  -- a slice that was written is the vector's items
-  pub items_back : {Z : Type 0} (Makes : KeyState T Kind Op Delta → Change T Kind Op Delta → Type 0) (keys : List (KeyState T Kind Op Delta)) (changes : Vec (Change T Kind Op Delta) Z) (new : List (Change T Kind Op Delta)) → AreMade Makes keys changes.items → AreMade Makes keys new
-      → (with_items changes new).items ≡ new
-  items_back Makes keys changes new before after = with_items_is changes new (after.one_each ∙ sym before.one_each ∙ sym changes.ok.0)
 
   -- KEYS IN THE MODEL
 
@@ -228,23 +237,23 @@ module _ {T Kind Op Delta : Type 0} where
   -- LEADING
 
   module _ (IsDataOf : T → History Op → VersionVector → IdentitySet → Type 0) (logs : Text → History Op) where
-    leads_along : (base now next : Text → model.Entry Op) (state : KeyState T Kind Op Delta) (change : Change T Kind Op Delta) → next state.name ≡ now state.name → LeadsTo IsDataOf logs base now state change → LeadsTo IsDataOf logs base next state change
-    leads_along base now next state Same same leads = same ∙ leads
-    leads_along base now next state (Entry entry) same leads = (leads.0, subst (λ (e : model.Entry Op). StandsFor IsDataOf (parts_of entry) (logs state.name) e) (sym same) leads.1)
-    leads_along base now next state (Flushed flushed) same leads = absurd leads
+    leads_along : (base now next : Text → model.Entry Op) (state : KeyState T Kind Op Delta) (change : Option (Change T Kind Op Delta)) → next state.name ≡ now state.name → LeadsTo IsDataOf logs base now state change → LeadsTo IsDataOf logs base next state change
+    leads_along base now next state None same leads = same ∙ leads
+    leads_along base now next state (Some (Entry entry)) same leads = (leads.0, subst (λ (e : model.Entry Op). StandsFor IsDataOf (parts_of entry) (logs state.name) e) (sym same) leads.1)
+    leads_along base now next state (Some (Flushed flushed)) same leads = absurd leads
 
     -- what a key's entry is in the course of a step
-    pub stands_current : (base now : Text → model.Entry Op) (state : KeyState T Kind Op Delta) (change : Change T Kind Op Delta) → LeadsTo IsDataOf logs base now state change → StandsFor IsDataOf (parts_of state.entry) (logs state.name) (base state.name)
+    pub stands_current : (base now : Text → model.Entry Op) (state : KeyState T Kind Op Delta) (change : Option (Change T Kind Op Delta)) → LeadsTo IsDataOf logs base now state change → StandsFor IsDataOf (parts_of state.entry) (logs state.name) (base state.name)
         → StandsFor IsDataOf (parts_of (current_of state change)) (logs state.name) (now state.name)
-    stands_current base now state Same leads held = subst (λ (e : model.Entry Op). StandsFor IsDataOf (parts_of state.entry) (logs state.name) e) (sym leads) held
-    stands_current base now state (Entry entry) leads held = leads.1
-    stands_current base now state (Flushed flushed) leads held = absurd leads
+    stands_current base now state None leads held = subst (λ (e : model.Entry Op). StandsFor IsDataOf (parts_of state.entry) (logs state.name) e) (sym leads) held
+    stands_current base now state (Some (Entry entry)) leads held = leads.1
+    stands_current base now state (Some (Flushed flushed)) leads held = absurd leads
 
-    pub leads_first : (base : Text → model.Entry Op) (keys : List (KeyState T Kind Op Delta)) (changes : List (Change T Kind Op Delta)) → changes ≡ map (λ state. Same) keys → AreMade (LeadsTo IsDataOf logs base base) keys changes
+    pub leads_first : (base : Text → model.Entry Op) (keys : List (KeyState T Kind Op Delta)) (changes : List (Option (Change T Kind Op Delta))) → changes ≡ map (λ state. None) keys → AreMade (LeadsTo IsDataOf logs base base) keys changes
     leads_first base keys changes is = made_first (LeadsTo IsDataOf logs base base) keys changes is (λ k d within. refl)
 
     -- one key's entry is another, or stays
-    pub leads_put : (base now next : Text → model.Entry Op) (keys : List (KeyState T Kind Op Delta)) (changes : List (Change T Kind Op Delta)) (index : ℕ) (at : KeyState T Kind Op Delta) → index < length keys → at ≡ get_or keys index at
+    pub leads_put : (base now next : Text → model.Entry Op) (keys : List (KeyState T Kind Op Delta)) (changes : List (Option (Change T Kind Op Delta))) (index : ℕ) (at : KeyState T Kind Op Delta) → index < length keys → at ≡ get_or keys index at
         → ((k : ℕ) (d : KeyState T Kind Op Delta) → k < length keys → k ≢ index → next (name_at keys k d) ≡ now (name_at keys k d))
         → StandsFor IsDataOf (parts_of at.entry) (logs at.name) (base at.name)
         → (taken : Option (Envelope T Kind Op Delta)) → StandsAfter IsDataOf (logs at.name) taken (now at.name) (next at.name)
@@ -259,14 +268,14 @@ module _ {T Kind Op Delta : Type 0} where
       ]) (made.made k d e inside);
     }
     leads_put base now next keys changes index at within is others held (Some envelope) after made = record {
-      one_each = length-set changes index (Entry envelope) ∙ made.one_each;
+      one_each = length-set changes index (Some (Entry envelope)) ∙ made.one_each;
       made = λ k d e inside. elim (cases_eq k index) [
         | inl equal ↦
             let state : at ≡ get_or keys k d = is ∙ get_or_default keys index at d within ∙ ap (λ j. get_or keys j d) (sym equal) in
-            let change : Entry envelope ≡ get_or (set changes index (Entry envelope)) k e =
-            sym (ap (λ j. get_or (set changes index (Entry envelope)) j e) equal ∙ get_or-set_same changes index (Entry envelope) e (let l = made.one_each in omega arith)) in
+            let change : Some (Entry envelope) ≡ get_or (set changes index (Some (Entry envelope))) k e =
+            sym (ap (λ j. get_or (set changes index (Some (Entry envelope))) j e) equal ∙ get_or-set_same changes index (Some (Entry envelope)) e (let l = made.one_each in omega arith)) in
             subst₂ (LeadsTo IsDataOf logs base next) state change (held, after)
-        | inr other ↦ subst (LeadsTo IsDataOf logs base next (get_or keys k d)) (sym (get_or-set_other changes index k (Entry envelope) e other)) (leads_along base now next (get_or keys k d) (get_or changes k e) (others k d inside other) (made.made k d e inside))
+        | inr other ↦ subst (LeadsTo IsDataOf logs base next (get_or keys k d)) (sym (get_or-set_other changes index k (Some (Entry envelope)) e other)) (leads_along base now next (get_or keys k d) (get_or changes k e) (others k d inside other) (made.made k d e inside))
       ];
     }
 
@@ -274,13 +283,20 @@ module _ {T Kind Op Delta : Type 0} where
 
 module _ {T Kind Op Delta : Type 0} (IsDataOf : T → History Op → VersionVector → IdentitySet → Type 0) (logs : Text → History Op) (old new : Text → model.Entry Op) where
   -- where nothing was taken, nothing changed
-  pub unchanged_same : (state : KeyState T Kind Op Delta) → LeadsTo IsDataOf logs old new state Same → false ≡ not (is_unchanged (old state.name) (new state.name))
+  pub unchanged_same : (state : KeyState T Kind Op Delta) → LeadsTo IsDataOf logs old new state None → false ≡ not (is_unchanged (old state.name) (new state.name))
   unchanged_same state same = sym (ap not (ap (is_unchanged (old state.name)) same ∙ is_unchanged-same (old state.name)))
 
-  pub changed_to : (state : KeyState T Kind Op Delta) (change : Change T Kind Op Delta) → LeadsTo IsDataOf logs old new state change → ((entry : Envelope T Kind Op Delta) → change ≡ Entry entry → ⊥) → false ≡ not (is_unchanged (old state.name) (new state.name))
-  changed_to state Same leads no_entry = unchanged_same state leads
-  changed_to state (Entry entry) leads no_entry = absurd (no_entry entry refl)
-  changed_to state (Flushed flushed) leads no_entry = absurd leads
+  -- so it is where each that was written is as before
+  pub none_changed : (keys : List (KeyState T Kind Op Delta)) (changes : List (Option (Change T Kind Op Delta))) (written : List (ChangeAt T Kind Op Delta)) → IsSparse changes written → AreMade (LeadsTo IsDataOf logs old new) keys changes
+      → ((j : ℕ) (d : ChangeAt T Kind Op Delta) (state : KeyState T Kind Op Delta) → j < length written → is_changed_at old new (get_or keys (get_or written j d).index state) ≡ false) → list_any (is_changed_at old new) keys ≡ false
+  none_changed keys changes written sparse made still = list_any_none (is_changed_at old new) keys (λ k d within. go k d within (get_or changes k None) refl)
+    where
+      go : (k : ℕ) (d : KeyState T Kind Op Delta) → k < length keys → (change : Option (Change T Kind Op Delta)) → get_or changes k None ≡ change → is_changed_at old new (get_or keys k d) ≡ false
+      go k d within None is = sym (unchanged_same (get_or keys k d) (subst (LeadsTo IsDataOf logs old new (get_or keys k d)) is (made.made k d None within)))
+      go k d within (Some change) is =
+          let at = stands_at written k change (sym (sparse_at changes written sparse k None (let counted = made.one_each in omega arith)) ∙ is) in
+          let one : ChangeAt T Kind Op Delta = record { index = k; change = change } in
+          ap (λ j. is_changed_at old new (get_or keys j d)) (sym (at.at one)) ∙ still at.place one d at.within
 
 -- GROUPS AND ENTRIES
 
@@ -294,8 +310,8 @@ record IsPlace {T Kind Op Delta : Type 0} (kind_of : T → Kind) (IsDataOf : T �
   current : StandsFor IsDataOf (parts_of mine) (logs at.name) (now at.name)
 
 module _ {T Kind Op Delta : Type 0} (kind_of : T → Kind) (IsDataOf : T → History Op → VersionVector → IdentitySet → Type 0) (kinds : Text → Kind) (logs : Text → History Op) (id : ℕ) (keys : List (KeyState T Kind Op Delta)) (view : ℕ)
-    (entries : Text → model.Entry Op) (held : AreHeld kind_of IsDataOf kinds logs id keys entries) (changes : List (Change T Kind Op Delta)) (kept : AreMade (IsKept kind_of id) keys changes) where
-  place : (node : nodes.Node Kind Op Shown) → IsAtWork kind_of IsDataOf kinds logs id keys view entries changes node → (key : Text) (index : ℕ) (at : KeyState T Kind Op Delta) (change : Change T Kind Op Delta)
+    (entries : Text → model.Entry Op) (held : AreHeld kind_of IsDataOf kinds logs id keys entries) (changes : List (Option (Change T Kind Op Delta))) (kept : AreMade (IsKept kind_of id) keys changes) where
+  place : (node : nodes.Node Kind Op Shown) → IsAtWork kind_of IsDataOf kinds logs id keys view entries changes node → (key : Text) (index : ℕ) (at : KeyState T Kind Op Delta) (change : Option (Change T Kind Op Delta))
       → IsFound (λ (state : KeyState T Kind Op Delta). bytes_eq state.name key) keys index → at ≡ get_or keys index at → change ≡ get_or changes index change → (mine : Envelope T Kind Op Delta) → mine ≡ current_of at change
       → IsPlace kind_of IsDataOf kinds logs id keys key node.entries index at mine
   place node work key index at change found is is' mine same =
@@ -337,7 +353,7 @@ module _ {T Kind Op Delta : Type 0} (kind_of : T → Kind) (IsDataOf : T → His
     pub group_passed : find (λ (state : KeyState T Kind Op Delta). bytes_eq state.name keyed.key) keys ≡ None → take_group so_far sent ≡ so_far
     group_passed none = take_group-undeclared so_far sent (undeclared_in so_far.node keys sent.key work.declares (ap (λ key. find (λ (state : KeyState T Kind Op Delta). bytes_eq state.name key) keys) s.same ∙ none))
 
-    module _ (index : ℕ) (at : KeyState T Kind Op Delta) (change : Change T Kind Op Delta) (found : IsFound (λ (state : KeyState T Kind Op Delta). bytes_eq state.name keyed.key) keys index) (is : at ≡ get_or keys index at) (is' : change ≡ get_or changes index change)
+    module _ (index : ℕ) (at : KeyState T Kind Op Delta) (change : Option (Change T Kind Op Delta)) (found : IsFound (λ (state : KeyState T Kind Op Delta). bytes_eq state.name keyed.key) keys index) (is : at ≡ get_or keys index at) (is' : change ≡ get_or changes index change)
         (mine : Envelope T Kind Op Delta) (same : mine ≡ current_of at change) (taken : GroupTaken T Kind Op Delta)
         (image : (log : History Op) (before : model.Entry Op) (theirs : model.Group Op) → ghosts.delta_fits_kind (kind_of mine.value) keyed.item.delta ≡ true → StandsFor IsDataOf (parts_of mine) log before
         → StandsForGroup ghosts.IsDeltaOf (group_parts keyed.item) log theirs
@@ -373,7 +389,7 @@ module _ {T Kind Op Delta : Type 0} (kind_of : T → Kind) (IsDataOf : T → His
     entry_passed none =
         ap (λ o. with_taken_entry node (option_map (state_of node) o) sent.item) (undeclared_in node keys sent.key work.declares (ap (λ key. find (λ (state : KeyState T Kind Op Delta). bytes_eq state.name key) keys) s.same ∙ none))
 
-    module _ (exact : AreExactAt keys (take_entry node sent).entries) (index : ℕ) (at : KeyState T Kind Op Delta) (change : Change T Kind Op Delta) (found : IsFound (λ (state : KeyState T Kind Op Delta). bytes_eq state.name keyed.key) keys index) (is : at ≡ get_or keys index at)
+    module _ (exact : AreExactAt keys (take_entry node sent).entries) (index : ℕ) (at : KeyState T Kind Op Delta) (change : Option (Change T Kind Op Delta)) (found : IsFound (λ (state : KeyState T Kind Op Delta). bytes_eq state.name keyed.key) keys index) (is : at ≡ get_or keys index at)
         (is' : change ≡ get_or changes index change) (mine : Envelope T Kind Op Delta) (same : mine ≡ current_of at change) (taken : Option (Envelope T Kind Op Delta))
         (image : (log : History Op) (before other : model.Entry Op) → performed_in (parts_of mine).marks id ≡ false → kind_of mine.value ≡ kind_of keyed.item.value → StandsFor IsDataOf (parts_of mine) log before
         → StandsFor IsDataOf (parts_of keyed.item) log other → (is_entry_passed_over id before other ≡ false → IsExactlyPruned (union before.history other.history))
@@ -410,7 +426,7 @@ module _ {T Kind Op Delta : Type 0} (kind_of : T → Kind) (IsDataOf : T → His
 
 -- nothing was taken yet
 pub work_first : {T Kind Op Delta : Type 0} (kind_of : T → Kind) (IsDataOf : T → History Op → VersionVector → IdentitySet → Type 0) (kinds : Text → Kind) (logs : Text → History Op) (id : ℕ) (keys : List (KeyState T Kind Op Delta)) (view : ℕ) (node : nodes.Node Kind Op Shown)
-    → AreHeldBy kind_of IsDataOf kinds logs id keys view node → (changes : List (Change T Kind Op Delta)) → changes ≡ map (λ state. Same) keys → IsAtWork kind_of IsDataOf kinds logs id keys view node.entries changes node
+    → AreHeldBy kind_of IsDataOf kinds logs id keys view node → (changes : List (Option (Change T Kind Op Delta))) → changes ≡ map (λ state. None) keys → IsAtWork kind_of IsDataOf kinds logs id keys view node.entries changes node
 work_first kind_of IsDataOf kinds logs id keys view node held changes is = record {
   identity = held.identity;
   viewed = held.viewed;
@@ -420,8 +436,8 @@ work_first kind_of IsDataOf kinds logs id keys view node held changes is = recor
 
 -- WHAT IS PASSED OVER
 
-module _ {T Kind Op Delta : Type 0} (ghosts : Ghosts T Kind Op Delta) (id : ℕ) (keys : List (KeyState T Kind Op Delta)) (changes : List (Change T Kind Op Delta)) (kinds : AreOfTheirKinds ghosts.kind_of keys) (kept : AreMade (IsKept ghosts.kind_of id) keys changes)
-    (key : Text) (index : ℕ) (at : KeyState T Kind Op Delta) (change : Change T Kind Op Delta) (found : IsFound (λ (state : KeyState T Kind Op Delta). bytes_eq state.name key) keys index) (is : at ≡ get_or keys index at) (is' : change ≡ get_or changes index change)
+module _ {T Kind Op Delta : Type 0} (ghosts : Ghosts T Kind Op Delta) (id : ℕ) (keys : List (KeyState T Kind Op Delta)) (changes : List (Option (Change T Kind Op Delta))) (kinds : AreOfTheirKinds ghosts.kind_of keys) (kept : AreMade (IsKept ghosts.kind_of id) keys changes)
+    (key : Text) (index : ℕ) (at : KeyState T Kind Op Delta) (change : Option (Change T Kind Op Delta)) (found : IsFound (λ (state : KeyState T Kind Op Delta). bytes_eq state.name key) keys index) (is : at ≡ get_or keys index at) (is' : change ≡ get_or changes index change)
     (mine : Envelope T Kind Op Delta) (same : mine ≡ current_of at change) where
   mine_kind : ghosts.kind_of mine.value ≡ at.kind
   mine_kind = ap (λ (e : Envelope T Kind Op Delta). ghosts.kind_of e.value) same ∙ current_kind ghosts.kind_of id keys changes index at change found.within is is' kept kinds
@@ -443,15 +459,15 @@ module _ {T Kind Op Delta : Type 0} (ghosts : Ghosts T Kind Op Delta) (id : ℕ)
 -- EXACT PRUNES
 
 module _ {T Kind Op Delta : Type 0} (kind_of : T → Kind) (IsDataOf : T → History Op → VersionVector → IdentitySet → Type 0) (kinds : Text → Kind) (logs : Text → History Op) (id : ℕ) (keys : List (KeyState T Kind Op Delta)) (view : ℕ)
-    (base : Text → model.Entry Op) (held : AreHeld kind_of IsDataOf kinds logs id keys base) (changes : List (Change T Kind Op Delta)) (mid : nodes.Node Kind Op Shown) (work : IsAtWork kind_of IsDataOf kinds logs id keys view base changes mid) where
+    (base : Text → model.Entry Op) (held : AreHeld kind_of IsDataOf kinds logs id keys base) (changes : List (Option (Change T Kind Op Delta))) (mid : nodes.Node Kind Op Shown) (work : IsAtWork kind_of IsDataOf kinds logs id keys view base changes mid) where
   -- what is exactly pruned at the end is so after the next entry
   pub exact_before : (e : sending.Keyed (model.Entry Op)) (rest : List (sending.Keyed (model.Entry Op))) → IsTakenFrom (logs e.key) e.item.history → AreExactAt keys (after_entries (take_entry mid e) rest).entries → AreExactAt keys (take_entry mid e).entries
   exact_before e rest theirs exact k d within =
       let name = name_at keys k d in
       let has = has_key_at mid keys work.declares held.distinct k d within in
       let state : KeyState T Kind Op Delta = get_or keys k d in
-      let change : Change T Kind Op Delta = get_or changes k Same in
-      let mine = (stands_current IsDataOf logs base mid.entries (get_or keys k d) (get_or changes k Same) (work.leads.made k d Same within) (held.held k d within).image).taken in
+      let change : Option (Change T Kind Op Delta) = get_or changes k None in
+      let mine = (stands_current IsDataOf logs base mid.entries (get_or keys k d) (get_or changes k None) (work.leads.made k d None within) (held.held k d within).image).taken in
       exact_part (logs (name_at keys k d)) ((take_entry mid e).entries (name_at keys k d)).history ((after_entries (take_entry mid e) rest).entries (name_at keys k d)).history
       (taken_one mid (name_at keys k d) (get_or keys k d).kind has e logs mine theirs)
       (grows rest (take_entry mid e) (name_at keys k d) (get_or keys k d).kind (has_still mid (name_at keys k d) (get_or keys k d).kind e has)) (exact k d within)
@@ -468,6 +484,14 @@ module _ {Kind Op : Type 0} (D : Replication Kind Op Shown) (names : List Text) 
       go : (b : Bool) → map keyed_entry (if b then k ∷ [] else []) ≡ (if b then keyed_entry k ∷ [] else [])
       go true = refl
       go false = refl
+
+-- where none is named, none is sent
+asks_none : {Kind Op : Type 0} (D : Replication Kind Op Shown) (ks : List (nodes.KeyState Kind Op)) → filter (is_asked D []) ks ≡ []
+asks_none D [] = refl
+asks_none D (k ∷ ks) = asks_none D ks
+
+pub names_none : {Kind Op : Type 0} (D : Replication Kind Op Shown) (node : nodes.Node Kind Op Shown) (names : List Text) → names ≡ [] → named_entries D node names ≡ []
+names_none D node names none = ap (named_entries D node) none ∙ ap (map keyed_entry) (asks_none D (key_states node))
 
 module _ {T Kind Op Delta : Type 0} (D : Replication Kind Op Shown) (node : nodes.Node Kind Op Shown) (names : List Text) where
   abbrev state_in : KeyState T Kind Op Delta → nodes.KeyState Kind Op
@@ -497,8 +521,8 @@ module _ {T Kind Op Delta : Type 0} (D : Replication Kind Op Shown) (node : node
 
 -- an entry of a key in the course of a step
 module _ {T Kind Op Delta : Type 0} (kind_of : T → Kind) (IsDataOf : T → History Op → VersionVector → IdentitySet → Type 0) (kinds : Text → Kind) (logs : Text → History Op) (id : ℕ) (keys : List (KeyState T Kind Op Delta)) (view : ℕ) (entries : Text → model.Entry Op)
-    (held : AreHeld kind_of IsDataOf kinds logs id keys entries) (changes : List (Change T Kind Op Delta)) (kept : AreMade (IsKept kind_of id) keys changes) (node : nodes.Node Kind Op Shown) (work : IsAtWork kind_of IsDataOf kinds logs id keys view entries changes node)
-    (index : ℕ) (at : KeyState T Kind Op Delta) (change : Change T Kind Op Delta) (within : index < length keys) (is : at ≡ get_or keys index at) (is' : change ≡ get_or changes index change) (mine : Envelope T Kind Op Delta) (same : mine ≡ current_of at change) where
+    (held : AreHeld kind_of IsDataOf kinds logs id keys entries) (changes : List (Option (Change T Kind Op Delta))) (kept : AreMade (IsKept kind_of id) keys changes) (node : nodes.Node Kind Op Shown) (work : IsAtWork kind_of IsDataOf kinds logs id keys view entries changes node)
+    (index : ℕ) (at : KeyState T Kind Op Delta) (change : Option (Change T Kind Op Delta)) (within : index < length keys) (is : at ≡ get_or keys index at) (is' : change ≡ get_or changes index change) (mine : Envelope T Kind Op Delta) (same : mine ≡ current_of at change) where
   pub entry_now : StandsForEntry kind_of IsDataOf kinds logs at.name mine (node.entries at.name)
   entry_now =
       let own = made_at (IsKept kind_of id) keys changes index at change within is is' kept in

@@ -3,7 +3,7 @@
 --     answers_of        what is posted to the sender
 --     IsTaken        what was taken is what the model's member takes and answers
 --     MeansNamed, ComparesIfOk, BringsIfOk, TakesIfOk        it is so for all members of the model, in all logs
-use Rattle.std.specs.Prelude.{◌≡◌, ℕ, List, [], ◌∷◌, ◌++◌, None, Bool, true, false, if◌then◌else◌, map, Result, IfOk}
+use Rattle.std.specs.Prelude.{◌≡◌, ℕ, List, [], ◌∷◌, ◌++◌, Option, None, Bool, true, false, if◌then◌else◌, map, Result, IfOk}
 use Rattle.std.specs.List.{AllZip}
 use Rattle.model_history.specs.Texts.{Text}
 use Rattle.model_history.specs.Vector.{VersionVector, IdentitySet}
@@ -75,7 +75,7 @@ module _ {T Kind Op Delta : Type 0} {ghosts : Ghosts T Kind Op Delta} (kind_of :
   -- what was taken is what the model's member takes and answers
   pub record IsTaken (keys : List (KeyState T Kind Op Delta)) (node : nodes.Node Kind Op Shown) (next : nodes.Stepped Kind Op Shown) (taken : MessageTaken T Kind Op Delta ghosts) : Type 0 where
     pub only : next.node ≡ record node { entries = next.node.entries }
-    pub leads : AreMade (LeadsTo IsDataOf logs node.entries next.node.entries) keys taken.changes.items
+    pub leads : AreMade (LeadsTo IsDataOf logs node.entries next.node.entries) keys taken.changes
     pub reply : meant taken.output.reply ≡ next.output.reply
     pub ended : next.output.ended ≡ None
     pub posts : StandsForPosts kind_of IsDataOf kinds logs taken.output.posts next.output.posts
@@ -83,7 +83,7 @@ module _ {T Kind Op Delta : Type 0} {ghosts : Ghosts T Kind Op Delta} (kind_of :
 -- IN ALL LOGS
 
 -- the entries of these names are those of a member to which the changes lead
-abbrev pub MeansNamed : {T Kind Op Delta : Type 0} → Ghosts T Kind Op Delta → List (KeyState T Kind Op Delta) → List (Change T Kind Op Delta) → List Text → List (Keyed (Envelope T Kind Op Delta)) → Type 0
+abbrev pub MeansNamed : {T Kind Op Delta : Type 0} → Ghosts T Kind Op Delta → List (KeyState T Kind Op Delta) → List (Option (Change T Kind Op Delta)) → List Text → List (Keyed (Envelope T Kind Op Delta)) → Type 0
 MeansNamed {T} {Kind} {Op} ghosts keys changes names named =
     (digest : Kind → Entry Op → List ℕ) (kinds : Text → Kind) (logs : Text → History Op) (id view : ℕ) (before : Text → Entry Op) (node : nodes.Node Kind Op Shown)
     → AreHeld ghosts.kind_of ghosts.IsDataOf kinds logs id keys before → AreMade (IsKept ghosts.kind_of id) keys changes → IsAtWork ghosts.kind_of ghosts.IsDataOf kinds logs id keys view before changes node

@@ -90,17 +90,17 @@ module _ {T K Kind Op Delta : Type 0} {ghosts : Ghosts T Kind Op Delta} {keeping
       → StandsForMessage ghosts.kind_of ghosts.IsDataOf kinds logs answer (Sent.ReadAnswer op key (answered_entry (delta_groups ghosts.data_type digest) (key_state node key)))
 
   -- what is so of each member of the model to which the changes lead, and each open read of the key there
-  abbrev pub ForReads : Text → List (Change T Kind Op Delta) → ((digest : Kind → Entry Op → List ℕ) → nodes.Node Kind Op Shown → OpenOperation → Type 0) → Type 0
+  abbrev pub ForReads : Text → List (Option (Change T Kind Op Delta)) → ((digest : Kind → Entry Op → List ℕ) → nodes.Node Kind Op Shown → OpenOperation → Type 0) → Type 0
   ForReads key changes P =
       (digest : Kind → Entry Op → List ℕ) (kinds : Text → Kind) (logs : Text → History Op) (before : Text → Entry Op) (node : nodes.Node Kind Op Shown) (asked : OpenOperation)
       → AreHeld ghosts.kind_of ghosts.IsDataOf kinds logs code.id code.keys.items before → AreMade (IsKept ghosts.kind_of code.id) code.keys.items changes
       → AreMade (LeadsTo ghosts.IsDataOf logs before node.entries) code.keys.items changes → node.keys ≡ map declared_by code.keys.items → asked.key ≡ key → asked.reads ≡ true → P digest node asked
 
   -- the read ends with what the model's ends with
-  abbrev pub EndsReadIfOk : {E : Type 0} → Text → List (Change T Kind Op Delta) → Result OperationResult E → Type 0
+  abbrev pub EndsReadIfOk : {E : Type 0} → Text → List (Option (Change T Kind Op Delta)) → Result OperationResult E → Type 0
   EndsReadIfOk key changes result = ForReads key changes (λ digest node asked. IfOk result (λ end. result_meant end ≡ result_of (delta_groups ghosts.data_type digest) node asked))
 
   -- what one more answer makes of it, which ends so with the last one
-  abbrev pub CountsReadIfOk : {E : Type 0} → (from op : ℕ) → Text → List (Change T Kind Op Delta) → Result Counted E → Type 0
+  abbrev pub CountsReadIfOk : {E : Type 0} → (from op : ℕ) → Text → List (Option (Change T Kind Op Delta)) → Result Counted E → Type 0
   CountsReadIfOk from op key changes result =
       ForReads key changes (λ digest node asked. IfOk result (IsCountOf code.operations from op (is_read_of key) (λ end. result_meant end ≡ result_of (delta_groups ghosts.data_type digest) node asked)))

@@ -44,7 +44,7 @@ module _ {T Kind Op Delta : Type 0} (ghosts : Ghosts T Kind Op Delta) (id view :
       → StandsAfter ghosts.IsDataOf log taken before (entry_taken id view before other)
 
   -- the changes lead to the member that has taken the entry too
-  abbrev pub MeansEnvelopeTaken : List (KeyState T Kind Op Delta) → Keyed (Envelope T Kind Op Delta) → (old new : List (Change T Kind Op Delta)) → Type 0
+  abbrev pub MeansEnvelopeTaken : List (KeyState T Kind Op Delta) → Keyed (Envelope T Kind Op Delta) → (old new : List (Option (Change T Kind Op Delta))) → Type 0
   MeansEnvelopeTaken keys keyed old new =
       (kinds : Text → Kind) (logs : Text → History Op) (entries : Text → model.Entry Op) (node : Node Kind Op Shown) (sent : sending.Keyed (model.Entry Op))
       → AreExactAt keys (take_entry node sent).entries → AreHeld ghosts.kind_of ghosts.IsDataOf kinds logs id keys entries → AreMade (IsKept ghosts.kind_of id) keys old
@@ -52,14 +52,14 @@ module _ {T Kind Op Delta : Type 0} (ghosts : Ghosts T Kind Op Delta) (id view :
       → IsAtWork ghosts.kind_of ghosts.IsDataOf kinds logs id keys view entries new (take_entry node sent)
 
   -- and the entries of a message, one after another
-  abbrev pub MeansEntriesTaken : List (KeyState T Kind Op Delta) → List (Keyed (Envelope T Kind Op Delta)) → (old new : List (Change T Kind Op Delta)) → Type 0
+  abbrev pub MeansEntriesTaken : List (KeyState T Kind Op Delta) → List (Keyed (Envelope T Kind Op Delta)) → (old new : List (Option (Change T Kind Op Delta))) → Type 0
   MeansEntriesTaken keys entries old new =
       (kinds : Text → Kind) (logs : Text → History Op) (before : Text → model.Entry Op) (node : Node Kind Op Shown) (sent : List (sending.Keyed (model.Entry Op)))
       → AreExactAt keys (after_entries node sent).entries → AreOnTheWay ghosts.kind_of ghosts.IsDataOf kinds logs id keys before old → TellsEntries ghosts kinds logs keys entries sent
       → IsAtWork ghosts.kind_of ghosts.IsDataOf kinds logs id keys view before old node → IsAtWork ghosts.kind_of ghosts.IsDataOf kinds logs id keys view before new (after_entries node sent)
 
   -- so they do where nothing was taken before
-  abbrev pub MeansMerged : List (KeyState T Kind Op Delta) → List (Keyed (Envelope T Kind Op Delta)) → List (Change T Kind Op Delta) → Type 0
+  abbrev pub MeansMerged : List (KeyState T Kind Op Delta) → List (Keyed (Envelope T Kind Op Delta)) → List (Option (Change T Kind Op Delta)) → Type 0
   MeansMerged keys entries changes =
       (kinds : Text → Kind) (logs : Text → History Op) (node : Node Kind Op Shown) (sent : List (sending.Keyed (model.Entry Op)))
       → AreExactAt keys (after_entries node sent).entries → AreHeldBy ghosts.kind_of ghosts.IsDataOf kinds logs id keys view node → TellsEntries ghosts kinds logs keys entries sent
@@ -67,5 +67,5 @@ module _ {T Kind Op Delta : Type 0} (ghosts : Ghosts T Kind Op Delta) (id view :
 
 module _ {T Kind Op Delta : Type 0} (ghosts : Ghosts T Kind Op Delta) (id : ℕ) where
   -- an entry of no declared key, or of another kind, changes nothing
-  abbrev pub PassesEntryOver : List (KeyState T Kind Op Delta) → Keyed (Envelope T Kind Op Delta) → (old new : List (Change T Kind Op Delta)) → Type 0
+  abbrev pub PassesEntryOver : List (KeyState T Kind Op Delta) → Keyed (Envelope T Kind Op Delta) → (old new : List (Option (Change T Kind Op Delta))) → Type 0
   PassesEntryOver keys keyed old new = AreOfTheirKinds ghosts.kind_of keys → AreMade (IsKept ghosts.kind_of id) keys old → IsEntryPassedOver ghosts keys keyed → new ≡ old

@@ -3,7 +3,7 @@
 --     MeansGroupTaken        by an envelope
 --     MeansGroupTakenAt, MeansGroupsTaken, MeansGaps        by the keys
 --     PassesGroupOver        a group of no declared key, or of another kind, changes nothing
-use Rattle.std.specs.Prelude.{◌≡◌, ℕ, List, Bool, true, map}
+use Rattle.std.specs.Prelude.{◌≡◌, ℕ, List, Option, Bool, true, map}
 use Rattle.model_history.specs.Texts.{Text}
 use Rattle.model_history.specs.History.{History}
 use Rattle.model_members.specs.Entry as model
@@ -42,7 +42,7 @@ module _ {T Kind Op Delta : Type 0} (ghosts : Ghosts T Kind Op Delta) (id : ℕ)
 
 module _ {T Kind Op Delta : Type 0} (ghosts : Ghosts T Kind Op Delta) (id : ℕ) (keys : List (KeyState T Kind Op Delta)) where
   -- the changes and the gaps are those of the member that has taken the group too
-  abbrev pub MeansGroupTakenAt : Keyed (Group T Kind Op Delta ghosts) → (old : List (Change T Kind Op Delta)) → (before : List (Keyed ℕ)) → (new : List (Change T Kind Op Delta)) → (after : List (Keyed ℕ)) → Type 0
+  abbrev pub MeansGroupTakenAt : Keyed (Group T Kind Op Delta ghosts) → (old : List (Option (Change T Kind Op Delta))) → (before : List (Keyed ℕ)) → (new : List (Option (Change T Kind Op Delta))) → (after : List (Keyed ℕ)) → Type 0
   MeansGroupTakenAt keyed old before new after =
       (kinds : Text → Kind) (logs : Text → History Op) (view : ℕ) (entries : Text → model.Entry Op) (so_far : AfterGroups Kind Op Shown) (sent : sending.Keyed (model.Group Op))
       → AreHeld ghosts.kind_of ghosts.IsDataOf kinds logs id keys entries → AreMade (IsKept ghosts.kind_of id) keys old → StandsForKeyedGroup kinds logs keyed sent
@@ -50,19 +50,19 @@ module _ {T Kind Op Delta : Type 0} (ghosts : Ghosts T Kind Op Delta) (id : ℕ)
       → IsAtWork ghosts.kind_of ghosts.IsDataOf kinds logs id keys view entries new (take_group so_far sent).node × (after ≡ map gap_told (take_group so_far sent).gaps)
 
   -- a group of no declared key, or of another kind, changes nothing
-  abbrev pub PassesGroupOver : Keyed (Group T Kind Op Delta ghosts) → (old : List (Change T Kind Op Delta)) → (before : List (Keyed ℕ)) → (new : List (Change T Kind Op Delta)) → (after : List (Keyed ℕ)) → Type 0
+  abbrev pub PassesGroupOver : Keyed (Group T Kind Op Delta ghosts) → (old : List (Option (Change T Kind Op Delta))) → (before : List (Keyed ℕ)) → (new : List (Option (Change T Kind Op Delta))) → (after : List (Keyed ℕ)) → Type 0
   PassesGroupOver keyed old before new after =
       AreOfTheirKinds ghosts.kind_of keys → AreMade (IsKept ghosts.kind_of id) keys old → IsGroupPassedOver ghosts keys keyed → (new ≡ old) × (after ≡ before)
 
   -- the changes lead to the member that has taken the groups of a message
-  abbrev pub MeansGroupsTaken : List (Keyed (Group T Kind Op Delta ghosts)) → (old new : List (Change T Kind Op Delta)) → Type 0
+  abbrev pub MeansGroupsTaken : List (Keyed (Group T Kind Op Delta ghosts)) → (old new : List (Option (Change T Kind Op Delta))) → Type 0
   MeansGroupsTaken groups old new =
       (kinds : Text → Kind) (logs : Text → History Op) (view : ℕ) (entries : Text → model.Entry Op) (node : Node Kind Op Shown) (sent : List (sending.Keyed (model.Group Op)))
       → AreOfTheirKinds ghosts.kind_of keys → AreHeld ghosts.kind_of ghosts.IsDataOf kinds logs id keys entries → AreMade (IsKept ghosts.kind_of id) keys old → TellsGroups ghosts kinds logs keys groups sent
       → IsAtWork ghosts.kind_of ghosts.IsDataOf kinds logs id keys view entries old node → IsAtWork ghosts.kind_of ghosts.IsDataOf kinds logs id keys view entries new (after_groups node sent).node
 
   -- and the gaps are those that it met
-  abbrev pub MeansGaps : List (Keyed (Group T Kind Op Delta ghosts)) → (old : List (Change T Kind Op Delta)) → List (Keyed ℕ) → Type 0
+  abbrev pub MeansGaps : List (Keyed (Group T Kind Op Delta ghosts)) → (old : List (Option (Change T Kind Op Delta))) → List (Keyed ℕ) → Type 0
   MeansGaps groups old gaps =
       (kinds : Text → Kind) (logs : Text → History Op) (view : ℕ) (entries : Text → model.Entry Op) (node : Node Kind Op Shown) (sent : List (sending.Keyed (model.Group Op)))
       → AreOfTheirKinds ghosts.kind_of keys → AreHeld ghosts.kind_of ghosts.IsDataOf kinds logs id keys entries → AreMade (IsKept ghosts.kind_of id) keys old → TellsGroups ghosts kinds logs keys groups sent

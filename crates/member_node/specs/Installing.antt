@@ -1,5 +1,5 @@
 -- What installing a view makes of a key's entry.
-use Rattle.std.specs.Prelude.{◌≡◌, ℕ}
+use Rattle.std.specs.Prelude.{◌≡◌, ℕ, Option, Some}
 use Rattle.model_history.specs.History.{History}
 use Rattle.model_members.specs.Entry as model
 use Rattle.model_members.specs.Entry.{seen_by}
@@ -20,6 +20,6 @@ module _ {T Kind Op Delta : Type 0} (ghosts : Ghosts T Kind Op Delta) (id view :
     pub performed : (r : ℕ) → performed_in (parts_of new).marks r ≡ performed_in (parts_of old).marks r
     pub image : (log : History Op) (entry : model.Entry Op) → StandsFor ghosts.IsDataOf (parts_of old) log entry → StandsFor ghosts.IsDataOf (parts_of new) log (seen_by id view entry)
 
-  abbrev pub IsSeen : KeyState T Kind Op Delta → Change T Kind Op Delta → Type 0
-  IsSeen state (Entry entry) = IsSeenEntry state.entry entry
+  abbrev pub IsSeen : KeyState T Kind Op Delta → Option (Change T Kind Op Delta) → Type 0
+  IsSeen state (Some (Entry entry)) = IsSeenEntry state.entry entry
   IsSeen state _ = ⊥

@@ -8,6 +8,8 @@
 use Rattle.std.specs.Prelude.{◌≡◌, ℕ, ◌+◌, ◌<◌, ◌^◌, ◌==◌, List, length, Option, Some, None, unwrap_or, map, if◌then◌else◌, slice_get, slice_index_or, slice_set, All}
 use Rattle.model_history.specs.Texts.{Text}
 use Rattle.model_history.specs.History.{History}
+use Rattle.model_history.specs.Vector.{VersionVector, IdentitySet}
+use Rattle.model_members.specs.Entry as model
 use Rattle.model_members.specs.Node as nodes
 use Rattle.model_kinds.specs.declared.shown.Shown.{Shown}
 use Rattle.data_lattice.specs.declared.replica.Replica.{Ghosts}
@@ -46,22 +48,29 @@ module _ {T Kind Op Delta : Type 0} where
   abbrev pub IsPlanned : List (KeyState T Kind Op Delta) → Plan T Kind Op Delta → List (KeyState T Kind Op Delta) → Type 0
   IsPlanned keys Nothing after = after ≡ keys
   IsPlanned keys (At index entry next) after = (state : KeyState T Kind Op Delta) × (state ≡ slice_index_or keys index state) × (after ≡ slice_set keys index (recorded state entry next))
-  IsPlanned keys (Each changes) after = AreChanged keys changes.items after
+  IsPlanned keys (Each changes) after = AreChanged keys changes after
   IsPlanned keys (Ticked ticks) after = AreTicked keys ticks.items after
 
-  abbrev pub new_entry : Change T Kind Op Delta → Option (Envelope T Kind Op Delta)
-  new_entry (change.Entry entry) = Some entry
+  abbrev pub new_entry : Option (Change T Kind Op Delta) → Option (Envelope T Kind Op Delta)
+  new_entry (Some (change.Entry entry)) = Some entry
   new_entry _ = None
 
   abbrev pub entry_told : Option (KeyTick T Kind Op Delta) → Option (Envelope T Kind Op Delta)
   entry_told None = None
   entry_told (Some tick) = tick.entry
 
+  -- the new entry of the key at a place, by the changes and by a tick
+  abbrev pub changed_entry : List (Option (Change T Kind Op Delta)) → ℕ → Option (Envelope T Kind Op Delta)
+  changed_entry changes k = new_entry (slice_index_or changes k None)
+
+  abbrev pub ticked_entry : List (KeyTick T Kind Op Delta) → ℕ → Option (Envelope T Kind Op Delta)
+  ticked_entry ticks k = entry_told (slice_get ticks k)
+
   abbrev pub entry_in : Plan T Kind Op Delta → ℕ → Option (Envelope T Kind Op Delta)
   entry_in Nothing k = None
   entry_in (At index entry next) k = if index == k then Some entry else None
-  entry_in (Each changes) k = new_entry (slice_index_or changes.items k change.Same)
-  entry_in (Ticked ticks) k = entry_told (slice_get ticks.items k)
+  entry_in (Each changes) k = changed_entry changes k
+  entry_in (Ticked ticks) k = ticked_entry ticks.items k
 
 module _ {T Kind Op Delta : Type 0} (ghosts : Ghosts T Kind Op Delta) where
   -- the record follows the log
@@ -81,12 +90,15 @@ module _ {T Kind Op Delta : Type 0} (ghosts : Ghosts T Kind Op Delta) where
   abbrev pub CanCarryOut : List (KeyState T Kind Op Delta) → Plan T Kind Op Delta → Type 0
   CanCarryOut keys Nothing = Unit {0}
   CanCarryOut keys (At index entry next) = CanRecord keys index next
-  CanCarryOut keys (Each changes) = length changes.items ≡ length keys
+  CanCarryOut keys (Each changes) = length changes ≡ length keys
   CanCarryOut keys (Ticked ticks) = AreMade CanFollow keys ticks.items
 
   -- each new entry is of its key's kind
+  abbrev pub HaveTheirKinds : List (KeyState T Kind Op Delta) → (entry_of : ℕ → Option (Envelope T Kind Op Delta)) → Type 0
+  HaveTheirKinds keys entry_of = (k : ℕ) (d : KeyState T Kind Op Delta) (entry : Envelope T Kind Op Delta) → k < length keys → entry_of k ≡ Some entry → ghosts.kind_of entry.value ≡ (slice_index_or keys k d).kind
+
   abbrev pub KeepsKinds : List (KeyState T Kind Op Delta) → Plan T Kind Op Delta → Type 0
-  KeepsKinds keys plan = (k : ℕ) (d : KeyState T Kind Op Delta) (entry : Envelope T Kind Op Delta) → k < length keys → entry_in plan k ≡ Some entry → ghosts.kind_of entry.value ≡ (slice_index_or keys k d).kind
+  KeepsKinds keys plan = HaveTheirKinds keys (entry_in plan)
 
   -- what a member keeps of its keys
   pub record AreOwned (id steps : ℕ) (keys : List (KeyState T Kind Op Delta)) : Type 0 where
@@ -102,13 +114,17 @@ module _ {T Kind Op Delta : Type 0} (ghosts : Ghosts T Kind Op Delta) where
     pub declared : (after : List (KeyState T Kind Op Delta)) → IsPlanned keys plan after → map declared_by after ≡ map declared_by keys
     pub kinds : KeepsKinds keys plan
 
+-- the new entries lead from these entries of the model to others
+abbrev pub Lead : {T Kind Op Delta : Type 0} → (T → History Op → VersionVector → IdentitySet → Type 0) → (Text → History Op) → List (KeyState T Kind Op Delta) → (old new : Text → model.Entry Op) → (entry_of : ℕ → Option (Envelope T Kind Op Delta)) → Type 0
+Lead {T} {Kind} {Op} {Delta} IsDataOf logs keys old new entry_of =
+    (k : ℕ) (d : KeyState T Kind Op Delta) → k < length keys → StandsAfter IsDataOf (logs (slice_index_or keys k d).name) (entry_of k) (old (slice_index_or keys k d).name) (new (slice_index_or keys k d).name)
+
 module _ {T Kind Op Delta : Type 0} (ghosts : Ghosts T Kind Op Delta) (kinds : Text → Kind) (logs : Text → History Op) (keys : List (KeyState T Kind Op Delta)) (old next : nodes.Node Kind Op Shown) (plan : Plan T Kind Op Delta) where
   -- the plan leads from one member of the model to the other
   pub record LeadsOn : Type 0 where
     pub stands : (after : List (KeyState T Kind Op Delta)) → IsPlanned keys plan after
         → All (λ state. StandsForKey ghosts.kind_of ghosts.IsDataOf ghosts.IsDeltaOf kinds logs state (next.entries state.name) (next.flushed state.name)) after
-    pub leads : (k : ℕ) (d : KeyState T Kind Op Delta) → k < length keys
-        → StandsAfter ghosts.IsDataOf (logs (slice_index_or keys k d).name) (entry_in plan k) (old.entries (slice_index_or keys k d).name) (next.entries (slice_index_or keys k d).name)
+    pub leads : Lead ghosts.IsDataOf logs keys old.entries next.entries (entry_in plan)
 
 module _ {T Kind Op Delta : Type 0} {ghosts : Ghosts T Kind Op Delta} (kinds : Text → Kind) (logs : Text → History Op) (keys : List (KeyState T Kind Op Delta)) (operations : List Operation) (node : nodes.Node Kind Op Shown) (next : nodes.Stepped Kind Op Shown) where
   pub record IsPrepared (prepared : Prepared T Kind Op Delta ghosts) : Type 0 where

@@ -1,8 +1,8 @@
 -- What of a plan has to be stored.
 --     stored_of        a key, if its entry has to be stored
 --     AddsSpellingOnOk, IsReadableOnOk        its entry is spelled, and can be read again
---     AreStores        what is stored of all keys
-use Rattle.std.specs.Prelude.{◌≡◌, ℕ, ◌<◌, List, [], ◌∷◌, ◌++◌, length, ◌&&◌, not, map, if◌then◌else◌, All, Result, OnOk}
+--     AreStoresOf, AreStores        what is stored of all keys, by their new entries
+use Rattle.std.specs.Prelude.{◌≡◌, ℕ, ◌<◌, List, [], ◌∷◌, ◌++◌, length, ◌&&◌, not, map, if◌then◌else◌, All, Option, Result, OnOk}
 use Rattle.model_history.specs.Texts.{Text}
 use Rattle.model_history.specs.History.{History}
 use Rattle.model_members.specs.Entry as model
@@ -21,7 +21,7 @@ use Rattle.member_node.specs.declared.plan.Plan.{Plan}
 use Rattle.member_node.specs.Keys.{declared_by}
 use Rattle.member_node.specs.Members.{StandsForKey}
 use Rattle.member_node.specs.Stores.{spelled_entry, IsKept}
-use Rattle.member_node.specs.Planning.{LeadsOn}
+use Rattle.member_node.specs.Planning.{Lead, LeadsOn}
 
 module _ {T Kind Op Delta : Type 0} where
   -- the key, with this entry in the model
@@ -49,6 +49,13 @@ module _ {T Kind Op Delta : Type 0} (ghosts : Ghosts T Kind Op Delta) (spelling 
   pub record AreSpelled (logs : Text → History Op) (items : List Stored) (entries : List (nodes.KeyState Kind Op)) : Type 0 where
     pub these : items ≡ map (spelled_entry spelling) entries
     pub kept : All (λ k. IsKept ghosts spelling k.kind (logs k.name) k.entry) entries
+
+  -- whatever members of the model the new entries lead from and to
+  abbrev pub AreStoresOf : List (KeyState T Kind Op Delta) → (entry_of : ℕ → Option (Envelope T Kind Op Delta)) → List Stored → Type 0
+  AreStoresOf keys entry_of items =
+      (kinds : Text → Kind) (logs : Text → History Op) (old next : nodes.Node Kind Op Shown) → old.keys ≡ map declared_by keys → next.keys ≡ map declared_by keys
+      → All (λ state. StandsForKey ghosts.kind_of ghosts.IsDataOf ghosts.IsDeltaOf kinds logs state (old.entries state.name) (old.flushed state.name)) keys
+      → Lead ghosts.IsDataOf logs keys old.entries next.entries entry_of → AreSpelled logs items (to_store old next)
 
   -- whatever members of the model the plan leads from and to
   abbrev pub AreStores : List (KeyState T Kind Op Delta) → Plan T Kind Op Delta → List Stored → Type 0

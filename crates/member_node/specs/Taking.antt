@@ -18,7 +18,7 @@ use Rattle.member_messages.specs.declared.message.Keyed.{Keyed}
 use Rattle.member_messages.specs.Standing.{StandsForEntry}
 use Rattle.member_node.specs.declared.key.KeyState.{KeyState}
 use Rattle.member_node.specs.declared.change.Change.{Change}
-use Rattle.member_node.specs.declared.change.Change.TheVariants.{Same, Entry, Flushed}
+use Rattle.member_node.specs.declared.change.Change.TheVariants.{Entry, Flushed}
 use Rattle.member_node.specs.Keys.{AreDistinct, declared_by}
 use Rattle.member_node.specs.Own.{IsUnpruned, AreOfTheirKinds}
 use Rattle.member_node.specs.Changes.{AreMade}
@@ -53,16 +53,16 @@ gaps_at key (Some i) = record { key = key; item = i } ∷ []
 -- ENVELOPES
 
 module _ {T Kind Op Delta : Type 0} where
-  -- a key's entry once the change is written
-  abbrev pub current_of : KeyState T Kind Op Delta → Change T Kind Op Delta → Envelope T Kind Op Delta
-  current_of state Same = state.entry
-  current_of state (Entry entry) = entry
-  current_of state (Flushed flushed) = state.entry
+  -- a key's entry once its change is written, if there is one
+  abbrev pub current_of : KeyState T Kind Op Delta → Option (Change T Kind Op Delta) → Envelope T Kind Op Delta
+  current_of state None = state.entry
+  current_of state (Some (Entry entry)) = entry
+  current_of state (Some (Flushed flushed)) = state.entry
 
   -- another entry at a place, if there is one
-  abbrev pub put_at : List (Change T Kind Op Delta) → ℕ → Option (Envelope T Kind Op Delta) → List (Change T Kind Op Delta)
+  abbrev pub put_at : List (Option (Change T Kind Op Delta)) → ℕ → Option (Envelope T Kind Op Delta) → List (Option (Change T Kind Op Delta))
   put_at changes index None = changes
-  put_at changes index (Some entry) = slice_set changes index (Entry entry)
+  put_at changes index (Some entry) = slice_set changes index (Some (Entry entry))
 
   -- an envelope of the same kind, with as many own records, and not pruned, where the first wasn't
   pub record KeepsOwn (kind_of : T → Kind) (id : ℕ) (old new : Envelope T Kind Op Delta) : Type 0 where
@@ -70,7 +70,7 @@ module _ {T Kind Op Delta : Type 0} where
     pub own : performed_in (parts_of old).marks id ≡ false → number_at (parts_of new).versions id ≡ number_at (parts_of old).versions id
     pub unpruned : performed_in (parts_of old).marks id ≡ false → performed_in (parts_of new).marks id ≡ false
 
-  abbrev pub IsKept : (T → Kind) → ℕ → KeyState T Kind Op Delta → Change T Kind Op Delta → Type 0
+  abbrev pub IsKept : (T → Kind) → ℕ → KeyState T Kind Op Delta → Option (Change T Kind Op Delta) → Type 0
   IsKept kind_of id state change = KeepsOwn kind_of id state.entry (current_of state change)
 
 module _ {T Kind Op Delta : Type 0} (IsDataOf : T → History Op → VersionVector → IdentitySet → Type 0) where
@@ -80,10 +80,10 @@ module _ {T Kind Op Delta : Type 0} (IsDataOf : T → History Op → VersionVect
   StandsAfter log (Some envelope) before after = StandsFor IsDataOf (parts_of envelope) log after
 
   -- the change leads from one entry to another
-  abbrev pub LeadsTo : (Text → History Op) → (old new : Text → model.Entry Op) → KeyState T Kind Op Delta → Change T Kind Op Delta → Type 0
-  LeadsTo logs old new state Same = new state.name ≡ old state.name
-  LeadsTo logs old new state (Entry entry) = StandsFor IsDataOf (parts_of state.entry) (logs state.name) (old state.name) × StandsFor IsDataOf (parts_of entry) (logs state.name) (new state.name)
-  LeadsTo logs old new state (Flushed flushed) = ⊥
+  abbrev pub LeadsTo : (Text → History Op) → (old new : Text → model.Entry Op) → KeyState T Kind Op Delta → Option (Change T Kind Op Delta) → Type 0
+  LeadsTo logs old new state None = new state.name ≡ old state.name
+  LeadsTo logs old new state (Some (Entry entry)) = StandsFor IsDataOf (parts_of state.entry) (logs state.name) (old state.name) × StandsFor IsDataOf (parts_of entry) (logs state.name) (new state.name)
+  LeadsTo logs old new state (Some (Flushed flushed)) = ⊥
 
 -- the history of each key is exactly pruned
 abbrev pub AreExactAt : {T Kind Op Delta : Type 0} → List (KeyState T Kind Op Delta) → (Text → model.Entry Op) → Type 0
@@ -108,13 +108,13 @@ module _ {T Kind Op Delta : Type 0} (kind_of : T → Kind) (IsDataOf : T → His
     pub declares : node.keys ≡ map declared_by keys
 
   -- what was taken so far keeps what the keys are
-  pub record AreOnTheWay (entries : Text → model.Entry Op) (changes : List (Change T Kind Op Delta)) : Type 0 where
+  pub record AreOnTheWay (entries : Text → model.Entry Op) (changes : List (Option (Change T Kind Op Delta))) : Type 0 where
     pub of_kinds : AreOfTheirKinds kind_of keys
     pub held : AreHeld entries
     pub kept : AreMade (IsKept kind_of id) keys changes
 
   -- the changes so far lead from these entries to those of a member of the model
-  pub record IsAtWork (view : ℕ) (entries : Text → model.Entry Op) (changes : List (Change T Kind Op Delta)) (node : nodes.Node Kind Op Shown) : Type 0 where
+  pub record IsAtWork (view : ℕ) (entries : Text → model.Entry Op) (changes : List (Option (Change T Kind Op Delta))) (node : nodes.Node Kind Op Shown) : Type 0 where
     pub identity : node.identity ≡ id
     pub viewed : node.view.number ≡ view
     pub declares : node.keys ≡ map declared_by keys

@@ -3,7 +3,7 @@ ghost use Rattle.model_history.specs.Texts.{contains_text};
 ghost use Rattle.member_node.specs.Replies.{meant};
 ghost use Rattle.member_node.specs.Answers.{reply_to, only_asks, answers_of, MeansNamed};
 
-use crate::change::{Change, current};
+use crate::change::{Changes, current};
 use crate::key::KeyState;
 use crate::reply::Reply;
 use base_bytes::{Items, Memory, Text};
@@ -23,15 +23,18 @@ fn contains(names: &[Text], key: &Text) -> bool
 pub(crate) fn named<T: Replica>(
     alloc: Global,
     keys: &[KeyState<T>],
-    changes: &[Change<T>],
+    changes: &Changes<T>,
     names: &[Text],
 ) -> Result<Entries<T>, Memory>
     requires { length changes.now ≡ length keys.now }
     ensures { IfOk result (MeansNamed T.Replica keys.now changes.now names.now) }
 {
     let mut entries = Items::new(alloc);
+    if names.is_empty() {
+        return Ok(entries);
+    }
     for (index, state) in keys.iter().enumerate() {
-        let now = current(state, &changes[index]);
+        let now = current(state, changes, index);
         if contains(names, &state.name) && now.has_records() {
             let key = state.name.copied();
             let item = now.copy(alloc)?;

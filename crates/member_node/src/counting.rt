@@ -14,7 +14,7 @@ ghost use Rattle.member_node.specs.Showing.{ShowsReadIfOk};
 ghost use Rattle.member_node.specs.Counting.{open_at, IsAnswered, is_write, is_read_of, IsCountOf, AnswersRead, EndsReadIfOk, CountsReadIfOk};
 ghost use Rattle.member_node.specs.Preparing.{IsSoundFor, Prepares};
 
-use crate::change::{Change, current};
+use crate::change::{Changes, current};
 use crate::entries::{any_changed, merged};
 use crate::node::Node;
 use crate::operation::{Asked, Finished, Operation, OperationResult};
@@ -249,14 +249,14 @@ impl<T: SpelledData, K: Keeper + Drop> Node<T, K> {
     }
 
     /// What a read of a key ends with, once these changes are written.
-    fn end_of_read(&self, key: &Text, changes: &[Change<T>]) -> Result<OperationResult, Memory>
+    fn end_of_read(&self, key: &Text, changes: &Changes<T>) -> Result<OperationResult, Memory>
         requires { length changes.now ≡ length self.now.keys.items }
         ensures { EndsReadIfOk self.now key.now changes.now result }
     {
         let Some(index) = self.position(key) else {
             return Ok(OperationResult::ReadNothing);
         };
-        let entry = current(&self.keys[index], &changes[index]);
+        let entry = current(&self.keys[index], changes, index);
         read_result(self.alloc, entry)
     }
 
@@ -266,7 +266,7 @@ impl<T: SpelledData, K: Keeper + Drop> Node<T, K> {
         from: Id,
         op: u64,
         key: &Text,
-        changes: &[Change<T>],
+        changes: &Changes<T>,
     ) -> Result<Counted, Memory>
         requires { length changes.now ≡ length self.now.keys.items }
         ensures counts { IfOk result (IsCountOf self.now.operations from op (is_read_of key.now) (λ end. Unit {0})) }

@@ -1,4 +1,4 @@
-ghost use Rattle.std.specs.Prelude.{◌≡◌, ◌≢◌, ◌||◌, None, nat_lt, length, IfOk, OnOk, IfSome};
+ghost use Rattle.std.specs.Prelude.{◌≡◌, ◌≢◌, ◌||◌, None, Some, nat_lt, length, IfOk, OnOk, IfSome};
 ghost use Rattle.std.specs.List.{list_any};
 ghost use Rattle.std.specs.Option.{option_copied};
 ghost use Rattle.model_history.specs.Texts.{Text as Name};
@@ -11,7 +11,7 @@ ghost use Rattle.member_node.specs.Inputs.{keyed_envelope};
 ghost use Rattle.member_node.specs.Taking.{KeepsOwn, IsKept, LeadsTo};
 ghost use Rattle.member_node.specs.Entries.{MeansEntryTaken, MeansEnvelopeTaken, MeansEntriesTaken, MeansMerged, PassesEntryOver, is_changed_at};
 
-use crate::change::{Change, current, put, unchanged};
+use crate::change::{Change, Changes, current, put, unchanged};
 use crate::key::{KeyState, index_of};
 use base_bytes::{Memory, Text};
 use base_vectors::Id;
@@ -55,13 +55,14 @@ fn take_entry<T: Replica>(
 pub(crate) fn take_envelope<T: Replica>(
     alloc: Global,
     keys: &[KeyState<T>],
-    changes: &mut [Change<T>],
+    changes: &mut Changes<T>,
     id: Id,
     view: u32,
     key: &Text,
     envelope: &Envelope<T>,
 ) -> Result<(), Memory>
     requires { length changes.old ≡ length keys.now }
+    ensures counted { OnOk result (length changes.new ≡ length keys.now) }
     ensures kept { AreMade (IsKept T.kind_of id) keys.now changes.old → OnOk result (AreMade (IsKept T.kind_of id) keys.now changes.new) }
     ensures image { OnOk result (MeansEnvelopeTaken T.Replica id view keys.now (record { key = key.now; item = envelope.now }) changes.old changes.new) }
     ensures passed_over { OnOk result (PassesEntryOver T.Replica id keys.now (record { key = key.now; item = envelope.now }) changes.old changes.new) }
@@ -69,17 +70,16 @@ pub(crate) fn take_envelope<T: Replica>(
     let Some(index) = index_of(keys, key) else {
         return Ok(());
     };
-    let now = current(&keys[index], &changes[index]);
+    let now = current(&keys[index], changes, index);
     let taken = take_entry(alloc, now, envelope, id, view)?;
-    put(changes, index, taken);
-    Ok(())
+    put(changes, index, taken)
 }
 
 /// Takes the entries of a message, one after another.
 pub(crate) fn take_entries<T: Replica>(
     alloc: Global,
     keys: &[KeyState<T>],
-    changes: &mut [Change<T>],
+    changes: &mut Changes<T>,
     id: Id,
     view: u32,
     entries: &[Keyed<Envelope<T>>],
@@ -94,7 +94,7 @@ pub(crate) fn take_entries<T: Replica>(
     Ok(())
 }
 
-/// The change of each key after an entry of one was taken, if there is an entry.
+/// What becomes of the keys after an entry of one was taken, if there is an entry.
 pub(crate) fn merged<T: Replica>(
     alloc: Global,
     keys: &[KeyState<T>],
@@ -102,35 +102,36 @@ pub(crate) fn merged<T: Replica>(
     view: u32,
     key: &Text,
     envelope: Option<&Envelope<T>>,
-) -> Result<Vec<Change<T>>, Memory>
-    ensures kept { IfOk result (λ changes. AreMade (IsKept T.kind_of id) keys.now changes.items) }
-    ensures image { IfOk result (λ changes. MeansMerged T.Replica id view keys.now (keyed_envelope key.now (option_copied envelope.entry)) changes.items) }
+) -> Result<Changes<T>, Memory>
+    ensures kept { IfOk result (AreMade (IsKept T.kind_of id) keys.now) }
+    ensures image { IfOk result (MeansMerged T.Replica id view keys.now (keyed_envelope key.now (option_copied envelope.entry))) }
 {
-    let mut changes = unchanged(alloc, keys)?;
+    let mut changes = unchanged(alloc, keys);
     let Some(envelope) = envelope else {
         return Ok(changes);
     };
-    take_envelope(alloc, keys, changes.as_mut_slice(), id, view, key, envelope)?;
+    take_envelope(alloc, keys, &mut changes, id, view, key, envelope)?;
     Ok(changes)
 }
 
 /// Whether the entry would be another.
 fn is_changed<T: Replica>(state: &KeyState<T>, change: &Change<T>) -> bool
-    ensures { (logs : Name → History T.Op) (old new : Name → Entry T.Op) → LeadsTo T.IsDataOf logs old new state.now change.now → result ≡ is_changed_at old new state.now }
+    ensures { (logs : Name → History T.Op) (old new : Name → Entry T.Op) → LeadsTo T.IsDataOf logs old new state.now (Some change.now) → result ≡ is_changed_at old new state.now }
 {
     match change {
         Change::Entry(entry) => !entry.is_unchanged(state.entry.envelope()),
-        _ => false,
+        Change::Flushed(_) => false,
     }
 }
 
 /// Whether some entry would be another.
-pub(crate) fn any_changed<T: Replica>(keys: &[KeyState<T>], changes: &[Change<T>]) -> bool
+pub(crate) fn any_changed<T: Replica>(keys: &[KeyState<T>], changes: &Changes<T>) -> bool
     requires { length changes.now ≡ length keys.now }
     ensures { (logs : Name → History T.Op) (old new : Name → Entry T.Op) → AreMade (LeadsTo T.IsDataOf logs old new) keys.now changes.now → result ≡ list_any (is_changed_at old new) keys.now }
 {
-    for (index, state) in keys.iter().enumerate() {
-        if is_changed(state, &changes[index]) {
+    let written = changes.written();
+    for at in written {
+        if is_changed(&keys[at.index], &at.change) {
             return true;
         }
     }

@@ -4,7 +4,7 @@ ghost use Rattle.member_node.specs.Changes.{AreMade};
 ghost use Rattle.member_node.specs.Taking.{KeepsOwn, IsKept, gaps_at};
 ghost use Rattle.member_node.specs.Groups.{TellsPassedOver, MeansGroupTaken, MeansGroupTakenAt, PassesGroupOver, MeansGroupsTaken, MeansGaps};
 
-use crate::change::{Change, current, put};
+use crate::change::{Changes, current, put};
 use crate::key::{KeyState, index_of};
 use base_bytes::{Items, Memory, Text};
 use base_vectors::Id;
@@ -83,12 +83,13 @@ fn add_gap(alloc: Global, gaps: &mut Gaps, key: &Text, lacking: Option<Id>) -> R
 fn take_group_at<T: Replica>(
     alloc: Global,
     keys: &[KeyState<T>],
-    changes: &mut [Change<T>],
+    changes: &mut Changes<T>,
     gaps: &mut Gaps,
     id: Id,
     keyed: &Keyed<Group<T>>,
 ) -> Result<(), Memory>
     requires { length changes.old ≡ length keys.now }
+    ensures counted { OnOk result (length changes.new ≡ length keys.now) }
     ensures kept { AreMade (IsKept T.kind_of id) keys.now changes.old → OnOk result (AreMade (IsKept T.kind_of id) keys.now changes.new) }
     ensures image { OnOk result (MeansGroupTakenAt T.Replica id keys.now keyed.now changes.old gaps.old changes.new gaps.new) }
     ensures passed_over { OnOk result (PassesGroupOver T.Replica id keys.now keyed.now changes.old gaps.old changes.new gaps.new) }
@@ -96,19 +97,18 @@ fn take_group_at<T: Replica>(
     let Some(index) = index_of(keys, &keyed.key) else {
         return Ok(());
     };
-    let now = current(&keys[index], &changes[index]);
+    let now = current(&keys[index], changes, index);
     let taken = take_group(alloc, now, &keyed.item, id)?;
     let GroupTaken { entry, lacking } = taken;
     add_gap(alloc, gaps, &keyed.key, lacking)?;
-    put(changes, index, entry);
-    Ok(())
+    put(changes, index, entry)
 }
 
 /// Takes the groups of a message, one after another, and gives the gaps.
 pub(crate) fn take_groups<T: Replica>(
     alloc: Global,
     keys: &[KeyState<T>],
-    changes: &mut [Change<T>],
+    changes: &mut Changes<T>,
     id: Id,
     groups: &[Keyed<Group<T>>],
 ) -> Result<Gaps, Memory>

@@ -1,10 +1,10 @@
-ghost use Rattle.std.specs.Prelude.{◌≡◌, ◌<◌, length, slice_get, slice_index_or, slice_set};
+ghost use Rattle.std.specs.Prelude.{◌≡◌, ◌<◌, length, slice_index_or, slice_set};
 ghost use Rattle.std.specs.Option.{option_copied};
-ghost use Rattle.member_node.specs.Planning.{recorded, IsPlanned, entry_in, IsRecordable, CanCarryOut, new_entry};
+ghost use Rattle.member_node.specs.Planning.{recorded, IsPlanned, ticked_entry as entry_after_tick, IsRecordable, CanCarryOut};
 ghost use Rattle.member_node.specs.declared.plan.Plan.TheVariants as plan;
 ghost use Rattle.member_node.specs.declared.operations.OperationChange.TheVariants as operations;
 
-use crate::change::{Change, write_all};
+use crate::change::{Changes, write_all};
 use crate::key::KeyState;
 use crate::operations::OperationChange;
 use crate::reply::{Output, Reply};
@@ -26,8 +26,8 @@ pub(crate) enum Plan<T: Replica> {
         entry: Envelope<T>,
         next: NextRecord<T::Delta>,
     },
-    /// A change for each.
-    Each(Vec<Change<T>>),
+    /// Each changes so.
+    Each(Changes<T>),
     /// What a tick makes of each.
     Ticked(Vec<KeyTick<T>>),
 }
@@ -96,30 +96,12 @@ pub(crate) fn carry_out<T: Replica>(keys: &mut [KeyState<T>], plan: Plan<T>)
     }
 }
 
-/// The new entry of a change, if there is one.
-fn entry_of<T: Replica>(change: &Change<T>) -> Option<&Envelope<T>>
-    ensures { option_copied result ≡ new_entry change.now }
+/// The new entry of the key at a place after a tick, if there is one.
+pub(crate) fn ticked_entry<T: Replica>(ticks: &[KeyTick<T>], place: usize) -> Option<&Envelope<T>>
+    ensures { option_copied result ≡ entry_after_tick ticks.now place }
 {
-    match change {
-        Change::Entry(entry) => Some(entry),
-        _ => None,
-    }
-}
-
-/// The new entry of the key at a place, if there is one.
-pub(crate) fn entry_at<T: Replica>(plan: &Plan<T>, place: usize) -> Option<&Envelope<T>>
-    ensures { option_copied result ≡ entry_in plan.now place }
-{
-    match plan {
-        Plan::Nothing => None,
-        Plan::At { index, entry, .. } => { if *index == place { Some(entry) } else { None } }
-        Plan::Each(changes) => match changes.get(place) {
-            Some(change) => entry_of(change),
-            None => None,
-        },
-        Plan::Ticked(ticks) => match ticks.get(place) {
-            Some(tick) => tick.entry.as_ref(),
-            None => None,
-        },
+    match ticks.get(place) {
+        Some(tick) => tick.entry.as_ref(),
+        None => None,
     }
 }

@@ -6,7 +6,7 @@ ghost use Rattle.member_node.specs.Changes.{AreMade};
 ghost use Rattle.member_node.specs.Preparing.{IsSoundFor, Prepares};
 ghost use Rattle.member_node.specs.Installing.{IsSeen};
 
-use crate::change::Change;
+use crate::change::{Change, Changes, unchanged};
 use crate::gossip::status;
 use crate::input::Input;
 use crate::key::KeyState;
@@ -53,22 +53,22 @@ fn left(alloc: Global, view: &View) -> Result<Vec<Id>, Memory>
     Ok(ids.into_vec())
 }
 
-/// The entries after a member saw their marks with another view, a change for each.
+/// The entries after a member saw their marks with another view.
 fn seen<T: Replica>(
     alloc: Global,
     keys: &[KeyState<T>],
     id: Id,
     view: u32,
-) -> Result<Vec<Change<T>>, Memory>
-    ensures { IfOk result (λ changes. AreMade (IsSeen T.Replica id view) keys.now changes.items) }
+) -> Result<Changes<T>, Memory>
+    ensures { IfOk result (AreMade (IsSeen T.Replica id view) keys.now) }
 {
-    let mut changes = Items::new(alloc);
-    for state in keys {
+    let mut changes = unchanged(alloc, keys);
+    for (index, state) in keys.iter().enumerate() {
         let mut entry = state.entry.envelope().copy(alloc)?;
         entry.add_seen(id, view);
-        changes.push(Change::Entry(entry))?;
+        changes.set(index, Change::Entry(entry))?;
     }
-    Ok(changes.into_vec())
+    Ok(changes)
 }
 
 impl<T: SpelledData, K: Keeper + Drop> Node<T, K> {

@@ -1,11 +1,11 @@
-ghost use Rattle.std.specs.Prelude.{◌≡◌, ◌≤◌, ◌^◌, ℕ, IfOk, OnOk, ◌==◌, if◌then◌else◌};
-ghost use Rattle.std.specs.List.{list_any};
+ghost use Rattle.std.specs.Prelude.{◌≡◌, ◌≤◌, ◌^◌, ℕ, IfOk, OnOk, ◌==◌, ◌||◌, if◌then◌else◌};
+ghost use Rattle.std.specs.List.{list_any, list_all};
 ghost use Rattle.base_vectors.specs.Vectors.{number_at};
 ghost use Rattle.member_node.specs.Changes.{AreMade, IsFlush};
 ghost use Rattle.member_node.specs.Sending.{own_number, is_behind, peers_of, flushed_to};
 ghost use Rattle.member_node.specs.Flushing.{MeansGroup, AddsGroups, AddsEntries, MeansDeltas, MeansPost, MeansPosts};
 
-use crate::change::Change;
+use crate::change::{Change, Changes, unchanged};
 use crate::key::KeyState;
 use base_bytes::{Items, Memory};
 use base_vectors::{Id, Seq, VersionVector};
@@ -165,19 +165,31 @@ pub(crate) fn flushed<T: Replica>(
     Ok(flushed)
 }
 
-/// What a flush writes, a change for each key.
+/// Whether a flush to the other members changes none of the numbers.
+fn is_flushed<T: Replica>(state: &KeyState<T>, id: Id, members: &[Id]) -> bool
+    ensures { result ≡ list_all (λ peer. (peer == id) || (number_at state.now.flushed peer == own_number id state.now)) members.now }
+{
+    let own = own_number(state, id);
+    members
+        .iter()
+        .all(|peer| *peer == id || state.flushed.at(*peer) == own)
+}
+
+/// What a flush writes: the numbers of the keys of which one changes.
 pub(crate) fn flushes<T: Replica>(
     alloc: Global,
     keys: &[KeyState<T>],
     id: Id,
     members: &[Id],
-) -> Result<Vec<Change<T>>, Memory>
-    ensures { IfOk result (λ changes. AreMade (IsFlush id members.now) keys.now changes.items) }
+) -> Result<Changes<T>, Memory>
+    ensures { IfOk result (AreMade (IsFlush id members.now) keys.now) }
 {
-    let mut changes = Items::new(alloc);
-    for state in keys {
-        let flushed = flushed(alloc, state, id, members)?;
-        changes.push(Change::Flushed(flushed))?;
+    let mut changes = unchanged(alloc, keys);
+    for (index, state) in keys.iter().enumerate() {
+        if !is_flushed(state, id, members) {
+            let flushed = flushed(alloc, state, id, members)?;
+            changes.set(index, Change::Flushed(flushed))?;
+        }
     }
-    Ok(changes.into_vec())
+    Ok(changes)
 }

@@ -1,11 +1,13 @@
-ghost use Rattle.std.specs.Prelude.{◌≡◌, ◌≤◌, IfOk, OnErr};
-ghost use Rattle.member_node.specs.Planning.{KeepsKinds};
-ghost use Rattle.member_node.specs.Storing.{AddsSpellingOnOk, IsReadableOnOk, AreStores};
+ghost use Rattle.std.specs.Prelude.{◌≡◌, ◌≤◌, length, IfOk, OnErr};
+ghost use Rattle.member_node.specs.Planning.{changed_entry, ticked_entry as entry_after_tick, HaveTheirKinds, KeepsKinds, CanCarryOut};
+ghost use Rattle.member_node.specs.Storing.{AddsSpellingOnOk, IsReadableOnOk, AreStoresOf, AreStores};
 ghost use Rattle.member_node.specs.Steps.{TellsSame, IsKeptBy};
 
+use crate::change::{Change, Changes};
 use crate::key::KeyState;
-use crate::plan::{Plan, entry_at};
+use crate::plan::{Plan, ticked_entry};
 use crate::reply::Fate;
+use crate::ticking::KeyTick;
 use base_bytes::{Items, Memory};
 use data_codec::spell_stored;
 use data_envelope::Envelope;
@@ -32,22 +34,64 @@ fn add<T: SpelledData>(
     stores.push(Stored { key, bytes })
 }
 
-/// What a plan has to store: the stored bytes of each durable entry that it changes.
+/// What these changes have to store.
+fn stores_of_changes<T: SpelledData>(
+    alloc: Global,
+    keys: &[KeyState<T>],
+    changes: &Changes<T>,
+) -> Result<Items<Stored>, Memory>
+    requires one_each { length changes.now ≡ length keys.now }
+    requires kinds { HaveTheirKinds T.Replica keys.now (changed_entry changes.now) }
+    ensures { IfOk result (AreStoresOf T.Replica T.SpelledData.own keys.now (changed_entry changes.now)) }
+{
+    let written = changes.written();
+    let mut stores = Items::new(alloc);
+    for at in written {
+        if let Change::Entry(entry) = &at.change {
+            add(alloc, &keys[at.index], entry, &mut stores)?;
+        }
+    }
+    Ok(stores)
+}
+
+/// What a tick has to store.
+fn stores_of_ticks<T: SpelledData>(
+    alloc: Global,
+    keys: &[KeyState<T>],
+    ticks: &[KeyTick<T>],
+) -> Result<Items<Stored>, Memory>
+    requires { HaveTheirKinds T.Replica keys.now (entry_after_tick ticks.now) }
+    ensures { IfOk result (AreStoresOf T.Replica T.SpelledData.own keys.now (entry_after_tick ticks.now)) }
+{
+    let mut stores = Items::new(alloc);
+    for (index, state) in keys.iter().enumerate() {
+        if let Some(entry) = ticked_entry(ticks, index) {
+            add(alloc, state, entry, &mut stores)?;
+        }
+    }
+    Ok(stores)
+}
+
+/// What a plan has to store: the stored bytes of each durable entry that it changes, in the order of the keys.
 pub(crate) fn stores<T: SpelledData>(
     alloc: Global,
     keys: &[KeyState<T>],
     plan: &Plan<T>,
 ) -> Result<Items<Stored>, Memory>
-    requires { KeepsKinds T.Replica keys.now plan.now }
+    requires can { CanCarryOut T.Replica keys.now plan.now }
+    requires kinds { KeepsKinds T.Replica keys.now plan.now }
     ensures { IfOk result (AreStores T.Replica T.SpelledData.own keys.now plan.now) }
 {
-    let mut stores = Items::new(alloc);
-    for (index, state) in keys.iter().enumerate() {
-        if let Some(entry) = entry_at(plan, index) {
-            add(alloc, state, entry, &mut stores)?;
+    match plan {
+        Plan::Nothing => Ok(Items::new(alloc)),
+        Plan::At { index, entry, .. } => {
+            let mut stores = Items::new(alloc);
+            add(alloc, &keys[*index], entry, &mut stores)?;
+            Ok(stores)
         }
+        Plan::Each(changes) => stores_of_changes(alloc, keys, changes),
+        Plan::Ticked(ticks) => stores_of_ticks(alloc, keys, ticks),
     }
-    Ok(stores)
 }
 
 /// Gives the keeper what is to be stored, in one call, if there is anything.

@@ -1,11 +1,11 @@
-ghost use Rattle.std.specs.Prelude.{◌≡◌, ◌≤◌, false, length, vec_len, None, IfOk};
+ghost use Rattle.std.specs.Prelude.{◌≡◌, ◌≤◌, false, length, None, IfOk};
 ghost use Rattle.member_node.specs.Changes.{AreMade};
 ghost use Rattle.member_node.specs.Taking.{IsKept};
 ghost use Rattle.member_node.specs.Answers.{ComparesIfOk, BringsIfOk, TakesIfOk};
 ghost use Rattle.member_node.specs.Outputs.{is_pending};
 
 use crate::answering::{answers, named, reply};
-use crate::change::{Change, unchanged};
+use crate::change::{Changes, unchanged};
 use crate::entries::{any_changed, take_entries};
 use crate::gossip::answer;
 use crate::groups::take_groups;
@@ -17,10 +17,10 @@ use data_lattice::{Replica, SpelledData};
 use member_messages::{Digest, Keyed, Message};
 use std::alloc::Global;
 
-/// What a message makes of the keys, a change for each, and what is answered.
+/// What a message makes of the keys, and what is answered.
 #[derive(Drop)]
 pub(crate) struct MessageTaken<T: Replica> {
-    pub(crate) changes: Vec<Change<T>>,
+    pub(crate) changes: Changes<T>,
     pub(crate) output: Output<T>,
 }
 
@@ -32,14 +32,14 @@ fn compared<T: SpelledData>(
     from: Id,
     digests: &[Keyed<Digest>],
 ) -> Result<MessageTaken<T>, Memory>
-    ensures counted { IfOk result (λ taken. vec_len taken.changes ≡ length keys.now) }
+    ensures counted { IfOk result (λ taken. length taken.changes ≡ length keys.now) }
     ensures few { IfOk result (λ taken. length taken.output.posts ≤ 2) }
     ensures opens_none { IfOk result (λ taken. is_pending taken.output.reply ≡ false) }
     ensures ends_none { IfOk result (λ taken. taken.output.finished ≡ None) }
-    ensures kept { IfOk result (λ taken. AreMade (IsKept T.kind_of id) keys.now taken.changes.items) }
+    ensures kept { IfOk result (λ taken. AreMade (IsKept T.kind_of id) keys.now taken.changes) }
     ensures image { ComparesIfOk T.SpelledData.own id from keys.now digests.now result }
 {
-    let changes = unchanged(alloc, keys)?;
+    let changes = unchanged(alloc, keys);
     let posts = answer(alloc, keys, from, digests)?;
     let reply = Reply::Taken;
     let output = Output {
@@ -59,23 +59,16 @@ fn brought<T: Replica>(
     from: Id,
     message: &Message<T>,
 ) -> Result<MessageTaken<T>, Memory>
-    ensures counted { IfOk result (λ taken. vec_len taken.changes ≡ length keys.now) }
+    ensures counted { IfOk result (λ taken. length taken.changes ≡ length keys.now) }
     ensures few { IfOk result (λ taken. length taken.output.posts ≤ 2) }
     ensures opens_none { IfOk result (λ taken. is_pending taken.output.reply ≡ false) }
     ensures ends_none { IfOk result (λ taken. taken.output.finished ≡ None) }
-    ensures kept { IfOk result (λ taken. AreMade (IsKept T.kind_of id) keys.now taken.changes.items) }
+    ensures kept { IfOk result (λ taken. AreMade (IsKept T.kind_of id) keys.now taken.changes) }
     ensures image { BringsIfOk id view from keys.now message.now result }
 {
-    let mut changes = unchanged(alloc, keys)?;
-    let gaps = take_groups(alloc, keys, changes.as_mut_slice(), id, message.groups())?;
-    take_entries(
-        alloc,
-        keys,
-        changes.as_mut_slice(),
-        id,
-        view,
-        message.entries(),
-    )?;
+    let mut changes = unchanged(alloc, keys);
+    let gaps = take_groups(alloc, keys, &mut changes, id, message.groups())?;
+    take_entries(alloc, keys, &mut changes, id, view, message.entries())?;
     let entries = named(alloc, keys, &changes, message.names())?;
     let changed = any_changed(keys, &changes);
     let reply = reply(message, gaps.as_slice(), changed);
@@ -97,11 +90,11 @@ pub(crate) fn taken<T: SpelledData>(
     from: Id,
     message: &Message<T>,
 ) -> Result<MessageTaken<T>, Memory>
-    ensures counted { IfOk result (λ taken. vec_len taken.changes ≡ length keys.now) }
+    ensures counted { IfOk result (λ taken. length taken.changes ≡ length keys.now) }
     ensures few { IfOk result (λ taken. length taken.output.posts ≤ 2) }
     ensures opens_none { IfOk result (λ taken. is_pending taken.output.reply ≡ false) }
     ensures ends_none { IfOk result (λ taken. taken.output.finished ≡ None) }
-    ensures kept { IfOk result (λ taken. AreMade (IsKept T.kind_of id) keys.now taken.changes.items) }
+    ensures kept { IfOk result (λ taken. AreMade (IsKept T.kind_of id) keys.now taken.changes) }
     ensures image { TakesIfOk T.SpelledData.own id view from keys.now message.now result }
 {
     match message {

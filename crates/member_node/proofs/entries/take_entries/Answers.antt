@@ -9,6 +9,7 @@ use Rattle.member_node.proofs.entries.take_entries.Goals as goal
 
 pub loop-keyed-init : goal.loop-keyed-init
 loop-keyed-init g c = record {
+  counted = c.requires;
   kept = λ kept. kept;
   image = λ kinds logs before node sent rest exact of_kinds held kept tells work.
       let R = g.T.Replica in
@@ -16,12 +17,16 @@ loop-keyed-init g c = record {
       (sym (tells_none (StandsForKeyed R.kind_of R.IsDataOf kinds logs) (IsEntryPassedOver R c.args.keys.now) sent tells)) work;
 }
 
+pub take_envelope-requires : goal.take_envelope-requires
+take_envelope-requires g c = c.loop-keyed.invariant.counted
+
 pub loop-keyed-preserved : goal.loop-keyed-preserved
 loop-keyed-preserved g c =
     let R = g.T.Replica in
     let i = c.loop-keyed.keyed-index in
     let keyed = c.keyed-item.result in
     record {
+      counted = c.in_ok-take_envelope.ensures.counted;
       kept = λ kept. c.in_ok-take_envelope.ensures.kept (c.loop-keyed.invariant.kept kept);
       image = λ kinds logs before node sent rest exact of_kinds held kept tells work.
           let S = StandsForKeyed R.kind_of R.IsDataOf kinds logs in

@@ -1,4 +1,4 @@
-use Rattle.std.proofs.Common.{List, take}
+use Rattle.std.proofs.Common.{List, take, ◌≡◌, length}
 use Rattle.member_node.proofs.Common.{Text, History, after_entries, Shown, AreOfTheirKinds, TellsEntries, AreMade, IsKept, AreHeld, AreExactAt, IsAtWork}
 use Rattle.model_members.specs.Entry.{Entry}
 use Rattle.model_members.specs.Message as sending
@@ -8,6 +8,7 @@ use Rattle.member_node.proofs.entries.take_entries.Given as goal
 -- whatever is taken later, it is exactly pruned at the end
 abbrev pub invariant-loop-keyed : goal.invariant-loop-keyed
 invariant-loop-keyed g l = record {
+  counted : length l.changes ≡ length l.keys;
   kept : AreMade (IsKept g.T.Replica.kind_of l.id) l.keys l.initial.changes → AreMade (IsKept g.T.Replica.kind_of l.id) l.keys l.changes;
   image : (kinds : Text → g.row.T-Kind.Denot) (logs : Text → History g.row.T-Op.Denot) (before : Text → Entry g.row.T-Op.Denot) (node : Member g.row.T-Kind.Denot g.row.T-Op.Denot Shown) (sent rest : List (sending.Keyed (Entry g.row.T-Op.Denot)))
       → AreExactAt l.keys (after_entries (after_entries node sent) rest).entries → AreOfTheirKinds g.T.Replica.kind_of l.keys

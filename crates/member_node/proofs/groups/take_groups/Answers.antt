@@ -9,6 +9,7 @@ use Rattle.member_node.proofs.groups.take_groups.Goals as goal
 
 pub loop-keyed-init : goal.loop-keyed-init
 loop-keyed-init g c = record {
+  counted = c.requires;
   kept = λ kept. kept;
   image = λ kinds logs view entries node sent of_kinds held kept tells work.
       let R = g.T.Replica in
@@ -16,12 +17,16 @@ loop-keyed-init g c = record {
       (subst (λ s. IsAtWork R.kind_of R.IsDataOf kinds logs c.args.id c.args.keys.now view entries c.args.changes.now (after_groups node s).node) (sym none) work, c.new-gaps.ensures ∙ sym (ap (λ s. map gap_told (after_groups node s).gaps) none));
 }
 
+pub take_group_at-requires : goal.take_group_at-requires
+take_group_at-requires g c = c.loop-keyed.invariant.counted
+
 pub loop-keyed-preserved : goal.loop-keyed-preserved
 loop-keyed-preserved g c =
     let R = g.T.Replica in
     let i = c.loop-keyed.keyed-index in
     let keyed = c.keyed-item.result in
     record {
+      counted = c.in_ok-take_group_at.ensures.counted;
       kept = λ kept. c.in_ok-take_group_at.ensures.kept (c.loop-keyed.invariant.kept kept);
       image = λ kinds logs view entries node sent of_kinds held kept tells work.
           let At = λ (s : AfterGroups g.row.T-Kind.Denot g.row.T-Op.Denot Shown). IsAtWork R.kind_of R.IsDataOf kinds logs c.args.id c.args.keys.now view entries c.take_group_at.new.changes s.node × (c.take_group_at.new.gaps ≡ map gap_told s.gaps) in

@@ -1,42 +1,83 @@
-use Rattle.std.proofs.Common.{◌≡◌, sym, ap, ◌∙◌, subst, arith, take_all}
-use Rattle.member_node.proofs.Common.{StandsFor, parts_of, is_unchanged, is_unchanged-same, KeyState, AreSpelled, StandsAfter}
-use Rattle.member_node.specs.Planning.{entry_in}
-use Rattle.member_node.proofs.Making.{put_of, put_all_keys, spelled_more, spelled_still}
+use Rattle.std.proofs.Common.{◌+◌, ◌<◌, Some, None, length, rules, if◌then◌else◌, refl, sym, ap, ◌∙◌, subst, arith}
+use Rattle.std.proofs.lemmas.Bool.{ne_eqb, eq-eqb}
+use Rattle.std.proofs.lemmas.Result.{IfOk-weaker}
+use Rattle.member_node.proofs.Common.{StandsFor, parts_of, KeyState, StandsAfter}
+use Rattle.member_node.specs.Planning.{entry_in, changed_entry, ticked_entry, CanCarryOut, KeepsKinds, HaveTheirKinds, Lead}
+use Rattle.member_node.specs.Storing.{AreStores, AreStoresOf}
+use Rattle.member_node.proofs.Making.{spelled_more, spelled_past, spelled_all}
 use Rattle.member_node.proofs.storing.stores.Goals as goal
-use Rattle.member_node.proofs.storing.stores.Goals.{in-Some+in_ok-add, in_default}
 
-pub loop-index-init : goal.loop-index-init
-loop-index-init g c = λ kinds logs old next same same' held leads. record { these = c.new-stores.ensures; kept = λ k d none. absurd (omega arith) }
+pub returns-in-Nothing : goal.returns-in-Nothing
+returns-in-Nothing g c = λ kinds logs old next same same' held leads.
+    spelled_all g.T.Replica g.T.SpelledData logs old next c.args.keys.now (entry_in c.args.plan.now) leads.leads c.new.result 0 (omega arith)
+    (λ k past below. ap (λ plan. entry_in plan k) c.in-Nothing.is) same' (record { these = c.new.ensures; kept = λ k d none. absurd (omega arith) })
+
+pub bounds-keys-index : goal.bounds-keys-index
+bounds-keys-index g c = (subst (CanCarryOut g.T.Replica c.args.keys.now) c.in-At.is c.requires.can).within
+
+pub offset_bounds-keys-index : goal.offset_bounds-keys-index
+offset_bounds-keys-index g c =
+    let within : c.in-At.index < length c.args.keys.now = (subst (CanCarryOut g.T.Replica c.args.keys.now) c.in-At.is c.requires.can).within in
+    search rules
 
 pub add-requires : goal.add-requires
 add-requires g c =
-    c.requires c.loop-index.index c.index-keys-index.result c.in-Some.entry.now c.loop-index-test.true (sym c.in-Some.ensures)
+    let index = c.in-At.index in
+    let entry = c.in-At.entry in
+    let state = c.index-keys-index.result in
+    let within : index < length c.args.keys.now = (subst (CanCarryOut g.T.Replica c.args.keys.now) c.in-At.is c.requires.can).within in
+    c.requires.kinds index state entry within (ap (λ plan. entry_in plan index) c.in-At.is ∙ ap (λ b. if b then Some entry else None) (eq-eqb index index refl))
     ∙ ap (λ (state : KeyState g.row.T.Denot g.row.T-Kind.Denot g.row.T-Op.Denot g.row.T-Delta.Denot). state.kind) (sym c.index-keys-index.is)
 
-pub loop-index-preserved : goal.loop-index-preserved
-loop-index-preserved g c = λ kinds logs old next same same' held leads.
+pub returns-in_ok-add-in-At : goal.returns-in_ok-add-in-At
+returns-in_ok-add-in-At g c = λ kinds logs old next same same' held leads.
     let R = g.T.Replica in
+    let S = g.T.SpelledData in
     let keys = c.args.keys.now in
-    let i = c.loop-index.index in
-    let x = c.index-keys-index.result in
+    let index = c.in-At.index in
+    let entry = c.in-At.entry in
+    let state = c.index-keys-index.result in
     let is = c.index-keys-index.is in
-    let within = c.loop-index-test.true in
-    let so_far = c.loop-index.invariant kinds logs old next same same' held leads in
-    let here = subst (λ (state : KeyState g.row.T.Denot g.row.T-Kind.Denot g.row.T-Op.Denot g.row.T-Delta.Denot). StandsAfter R.IsDataOf (logs state.name) (entry_in c.args.plan.now i) (old.entries state.name) (next.entries state.name)) (sym is) (leads.leads i x within) in
-    let before = subst (λ (state : KeyState g.row.T.Denot g.row.T-Kind.Denot g.row.T-Op.Denot g.row.T-Delta.Denot). StandsFor R.IsDataOf (parts_of state.entry) (logs state.name) (old.entries state.name)) (sym is) (held i x within).held.image in
-    elim c.match-entry_at.branch [
-      | in-Some+in_ok-add w ↦
-          let after = subst (λ o. StandsAfter R.IsDataOf (logs x.name) o (old.entries x.name) (next.entries x.name)) (sym w.in-Some.ensures) here in
-          spelled_more R g.T.SpelledData logs old next keys i x within is c.loop-index.stores c.match-entry_at.stores so_far
-          (w.stores-is ∙ w.in_ok-add.ensures.spelled (logs x.name) (old.entries x.name) (next.entries x.name) before after)
-          (λ k below. w.in_ok-add.ensures.kept (logs x.name) (old.entries x.name) (next.entries x.name) k before after below)
-      | in_default w ↦
-          let still : next.entries x.name ≡ old.entries x.name = subst (λ o. StandsAfter R.IsDataOf (logs x.name) o (old.entries x.name) (next.entries x.name)) (sym w.in_default.ensures) here in
-          spelled_still R g.T.SpelledData logs old next keys i x within is c.loop-index.stores c.match-entry_at.stores so_far (ap (is_unchanged (old.entries x.name)) still ∙ is_unchanged-same (old.entries x.name)) w.stores-is
-    ]
+    let entry_of = entry_in c.args.plan.now in
+    let within : index < length keys = (subst (CanCarryOut R keys) c.in-At.is c.requires.can).within in
+    let here = ap (λ plan. entry_in plan index) c.in-At.is ∙ ap (λ b. if b then Some entry else None) (eq-eqb index index refl) in
+    let led = subst (λ (state : KeyState g.row.T.Denot g.row.T-Kind.Denot g.row.T-Op.Denot g.row.T-Delta.Denot). StandsAfter R.IsDataOf (logs state.name) (entry_of index) (old.entries state.name) (next.entries state.name)) (sym is) (leads.leads index state within) in
+    let after = subst (λ o. StandsAfter R.IsDataOf (logs state.name) o (old.entries state.name) (next.entries state.name)) here led in
+    let before = subst (λ (state : KeyState g.row.T.Denot g.row.T-Kind.Denot g.row.T-Op.Denot g.row.T-Delta.Denot). StandsFor R.IsDataOf (parts_of state.entry) (logs state.name) (old.entries state.name)) (sym is) (held index state within).held.image in
+    let mid = spelled_past R S logs old next keys entry_of leads.leads c.new-stores.result 0 index (omega arith) (omega arith)
+    (λ k past below. ap (λ plan. entry_in plan k) c.in-At.is ∙ ap (λ b. if b then Some entry else None) (ne_eqb index k (λ e. omega arith))) (record { these = c.new-stores.ensures; kept = λ k d none. absurd (omega arith) }) in
+    let more = spelled_more R S logs old next keys index state within is c.new-stores.result c.add.new.stores mid
+    (c.in_ok-add-in-At.ensures.spelled (logs state.name) (old.entries state.name) (next.entries state.name) before after)
+    (λ k below. c.in_ok-add-in-At.ensures.kept (logs state.name) (old.entries state.name) (next.entries state.name) k before after below) in
+    spelled_all R S logs old next keys entry_of leads.leads c.add.new.stores (index + 1) (omega arith)
+    (λ k past below. ap (λ plan. entry_in plan k) c.in-At.is ∙ ap (λ b. if b then Some entry else None) (ne_eqb index k (λ e. omega arith))) same' more
 
-pub returns : goal.returns
-returns g c = λ kinds logs old next same same' held leads.
-    let inv = c.loop-index.invariant kinds logs old next same same' held leads in
-    let all = take_all c.loop-index.index c.args.keys.now (omega arith) in
-    subst (AreSpelled g.T.Replica g.T.SpelledData logs c.loop-index.stores) (ap (put_of old next) all ∙ put_all_keys old next c.args.keys.now same') inv
+pub stores_of_changes-requires : goal.stores_of_changes-requires
+stores_of_changes-requires g c = record {
+  one_each = subst (CanCarryOut g.T.Replica c.args.keys.now) c.in-Each.is c.requires.can;
+  kinds = subst (KeepsKinds g.T.Replica c.args.keys.now) c.in-Each.is c.requires.kinds;
+}
+
+pub returns-in-Each : goal.returns-in-Each
+returns-in-Each g c =
+    let R = g.T.Replica in
+    let S = g.T.SpelledData in
+    let keys = c.args.keys.now in
+    IfOk-weaker c.stores_of_changes.result (AreStoresOf R S keys (changed_entry c.in-Each.changes)) (AreStores R S keys c.args.plan.now)
+    (λ items stores. λ kinds logs old next same same' held leads. stores kinds logs old next same same' held (subst (λ plan. Lead R.IsDataOf logs keys old.entries next.entries (entry_in plan)) c.in-Each.is leads.leads))
+    c.stores_of_changes.ensures
+
+pub stores_of_ticks-requires : goal.stores_of_ticks-requires
+stores_of_ticks-requires g c =
+    subst (λ items. HaveTheirKinds g.T.Replica c.args.keys.now (ticked_entry items)) (sym c.deref.ensures.value) (subst (KeepsKinds g.T.Replica c.args.keys.now) c.in-Ticked.is c.requires.kinds)
+
+pub returns-in-Ticked : goal.returns-in-Ticked
+returns-in-Ticked g c =
+    let R = g.T.Replica in
+    let S = g.T.SpelledData in
+    let keys = c.args.keys.now in
+    IfOk-weaker c.stores_of_ticks.result (AreStoresOf R S keys (ticked_entry c.deref.result.now)) (AreStores R S keys c.args.plan.now)
+    (λ items stores. λ kinds logs old next same same' held leads.
+    stores kinds logs old next same same' held
+    (subst (λ items. Lead R.IsDataOf logs keys old.entries next.entries (ticked_entry items)) (sym c.deref.ensures.value) (subst (λ plan. Lead R.IsDataOf logs keys old.entries next.entries (entry_in plan)) c.in-Ticked.is leads.leads)))
+    c.stores_of_ticks.ensures

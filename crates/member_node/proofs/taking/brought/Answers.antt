@@ -1,14 +1,13 @@
 use Rattle.std.proofs.Common.{rules, ◌≤◌, [], ◌++◌, length, ap, sym, ◌∙◌, subst}
 use Rattle.std.proofs.lemmas.List.{length-map}
 use Rattle.std.specs.List.{AllZip}
-use Rattle.std.specs.Vec.{with_items}
-use Rattle.member_node.proofs.Common.{after_groups, after_entries, named_entries, gossip_to, Shown, StandsForKeyed, StandsForPosts, delta_groups, AreMade, TellsGroups, TellsEntries, IsKept, LeadsTo, AreExactAt, IsAtWork}
+use Rattle.member_node.proofs.Common.{after_groups, after_entries, named_entries, gossip_to, Shown, StandsForKeyed, StandsForPosts, delta_groups, AreMade, TellsGroups, TellsEntries, LeadsTo, AreExactAt, IsAtWork}
 use Rattle.model_members.specs.Node.{Node as Member}
 use Rattle.model_members.specs.Step.{is_changed, nack_to}
 use Rattle.model_members.proofs.Taking.{after_entries-only}
 use Rattle.member_messages.specs.Sketches.{names_of}
 use Rattle.member_node.specs.Answers.{reply_to, only_asks, answers_of}
-use Rattle.member_node.proofs.Takings.{kept_first, leads_first, items_back}
+use Rattle.member_node.proofs.Takings.{kept_first, leads_first}
 use Rattle.member_node.proofs.Growing.{groups-only}
 use Rattle.member_node.proofs.Sendings.{brings, replies, answers_stand, not_opened, changed_is, few_answers}
 use Rattle.member_node.proofs.taking.brought.Goals as goal
@@ -16,51 +15,36 @@ use Rattle.member_node.proofs.taking.brought.Goals as goal
 pub returns : goal.returns
 returns g c =
     let keys = c.args.keys.now in
-    let first = c.in_ok-changes.changes in
-    let one = c.take_groups.new.changes in
+    let first = c.unchanged-changes.result in
     let two = c.take_entries.new.changes in
     record {
-      kept =
-          let Kept = IsKept g.T.Replica.kind_of c.args.id in
-          let k0 = kept_first g.T.Replica.kind_of c.args.id keys first.items c.in_ok-changes.ensures in
-          let k1 = c.in_ok-gaps.ensures.kept (subst (AreMade Kept keys) (sym c.as_mut_slice.ensures.value) k0) in
-          let k1' = subst (AreMade Kept keys) (sym (items_back Kept keys first one k0 k1)) k1 in
-          let k2 = c.in_ok-take_entries.ensures.kept (subst (AreMade Kept keys) (sym c.as_mut_slice-2.ensures.value) k1') in
-          subst (AreMade Kept keys) (sym (items_back Kept keys (with_items first one) two k1' k2)) k2;
+      kept = c.in_ok-take_entries.ensures.kept (c.in_ok-gaps.ensures.kept (kept_first g.T.Replica.kind_of c.args.id keys first c.unchanged-changes.ensures));
       image = λ digest kinds logs node sent held_by stands other exchange exact.
           let of_kinds = held_by.of_kinds in
           let held = held_by.held in
           let R = g.T.Replica in
           let D = delta_groups R.data_type digest in
-          let Kept = IsKept R.kind_of c.args.id in
           let message = c.args.message.now in
           let b = brings D kinds logs keys node c.args.from message sent stands other exchange in
           let groups = subst (λ gs. TellsGroups R kinds logs keys gs b.sent_groups) (sym c.groups.ensures) b.groups_stand in
           let entries = subst (λ es. TellsEntries R kinds logs keys es b.sent_entries) (sym c.entries.ensures) b.entries_stand in
           let mid = after_groups node b.sent_groups in
           let after = after_entries mid.node b.sent_entries in
-          let k0 = subst (AreMade Kept keys) (sym c.as_mut_slice.ensures.value) (kept_first R.kind_of c.args.id keys first.items c.in_ok-changes.ensures) in
+          let k0 = kept_first R.kind_of c.args.id keys first c.unchanged-changes.ensures in
           let k1 = c.in_ok-gaps.ensures.kept k0 in
-          let back1 = items_back Kept keys first one (subst (AreMade Kept keys) c.as_mut_slice.ensures.value k0) k1 in
-          let e1 = c.as_mut_slice-2.ensures.value ∙ back1 in
-          let k1' = subst (AreMade Kept keys) (sym e1) k1 in
-          let k2 = c.in_ok-take_entries.ensures.kept k1' in
-          let back2 = items_back Kept keys (with_items first one) two (subst (AreMade Kept keys) (sym back1) k1) k2 in
-          let w0 : IsAtWork R.kind_of R.IsDataOf kinds logs c.args.id keys c.args.view node.entries c.as_mut_slice.result.now node =
-          record { identity = held_by.identity; viewed = held_by.viewed; declares = held_by.declares; leads = subst (AreMade (LeadsTo R.IsDataOf logs node.entries node.entries) keys) (sym c.as_mut_slice.ensures.value) (leads_first R.IsDataOf logs node.entries keys first.items c.in_ok-changes.ensures) } in
+          let k2 = c.in_ok-take_entries.ensures.kept k1 in
+          let w0 : IsAtWork R.kind_of R.IsDataOf kinds logs c.args.id keys c.args.view node.entries first node =
+          record { identity = held_by.identity; viewed = held_by.viewed; declares = held_by.declares; leads = leads_first R.IsDataOf logs node.entries keys first c.unchanged-changes.ensures } in
           let w1 = c.in_ok-gaps.ensures.image kinds logs c.args.view node.entries node b.sent_groups of_kinds held k0 groups w0 in
           let gaps = c.in_ok-gaps.ensures.gaps kinds logs c.args.view node.entries node b.sent_groups of_kinds held k0 groups w0 in
-          let w1' = subst (λ cs. IsAtWork R.kind_of R.IsDataOf kinds logs c.args.id keys c.args.view node.entries cs mid.node) (sym e1) w1 in
-          let w2 = c.in_ok-take_entries.ensures.image kinds logs node.entries mid.node b.sent_entries (subst (λ (n : Member g.row.T-Kind.Denot g.row.T-Op.Denot Shown). AreExactAt keys n.entries) b.takes.next exact) (record { of_kinds = of_kinds; held = held; kept = k1' }) entries w1' in
-          let e2 = c.deref.ensures.value ∙ back2 in
-          let named = c.in_ok-entries.ensures digest kinds logs c.args.id c.args.view node.entries after held (subst (AreMade Kept keys) (sym e2) k2) (subst (λ cs. IsAtWork R.kind_of R.IsDataOf kinds logs c.args.id keys c.args.view node.entries cs after) (sym e2) w2) in
+          let w2 = c.in_ok-take_entries.ensures.image kinds logs node.entries mid.node b.sent_entries (subst (λ (n : Member g.row.T-Kind.Denot g.row.T-Op.Denot Shown). AreExactAt keys n.entries) b.takes.next exact) (record { of_kinds = of_kinds; held = held; kept = k1 }) entries w1 in
+          let named = c.in_ok-entries.ensures digest kinds logs c.args.id c.args.view node.entries after held k2 w2 in
           let named' = subst (λ names. AllZip (StandsForKeyed R.kind_of R.IsDataOf kinds logs) c.in_ok-entries.entries (named_entries D after names)) c.names.ensures named in
-          let test = c.any_changed-changed.ensures logs node.entries after.entries (subst (AreMade (LeadsTo R.IsDataOf logs node.entries after.entries) keys) (sym (c.deref-2.ensures.value ∙ back2)) w2.leads) ∙ sym (changed_is node after keys w2.declares) in
+          let test = c.any_changed-changed.ensures logs node.entries after.entries w2.leads ∙ sym (changed_is node after keys w2.declares) in
           let only = after_entries-only b.sent_entries mid.node ∙ (λ i. record (groups-only b.sent_groups (record { node = node; gaps = [] }) i) { entries = after.entries }) in
           record {
             only = b.takes.next ∙ only ∙ (λ i. record node { entries = (sym b.takes.next i).entries });
-            leads = subst (λ (n : Member g.row.T-Kind.Denot g.row.T-Op.Denot Shown). AreMade (LeadsTo R.IsDataOf logs node.entries n.entries) keys (with_items (with_items first one) two).items) (sym b.takes.next)
-                (subst (AreMade (LeadsTo R.IsDataOf logs node.entries after.entries) keys) (sym back2) w2.leads);
+            leads = subst (λ (n : Member g.row.T-Kind.Denot g.row.T-Op.Denot Shown). AreMade (LeadsTo R.IsDataOf logs node.entries n.entries) keys two) (sym b.takes.next) w2.leads;
             reply = c.reply-reply.ensures ∙ (λ i. reply_to (only_asks message) (c.as_slice.ensures i) (test i)) ∙ replies D (only_asks message) (is_changed node after) c.in_ok-gaps.gaps mid.gaps gaps ∙ sym b.takes.reply;
             ended = b.takes.ends;
             posts = subst (λ ps. StandsForPosts R.kind_of R.IsDataOf kinds logs c.in_ok-posts.posts ps) (sym b.takes.posts)
@@ -70,46 +54,23 @@ returns g c =
           };
       few = subst (λ posts. length posts ≤ 2) (sym c.in_ok-posts.ensures) (few_answers g.T.Replica c.args.from c.as_slice-2.result.now c.in_ok-entries.entries);
       opens_none = not_opened c.reply-reply.result (only_asks c.args.message.now) c.any_changed-changed.result c.as_slice.result.now c.reply-reply.ensures;
-      counted = c.in_ok-changes.changes.ok.0 ∙ (kept_first g.T.Replica.kind_of c.args.id c.args.keys.now c.in_ok-changes.changes.items c.in_ok-changes.ensures).one_each;
+      counted = (c.in_ok-take_entries.ensures.kept (c.in_ok-gaps.ensures.kept (kept_first g.T.Replica.kind_of c.args.id keys first c.unchanged-changes.ensures))).one_each;
       ends_none = search rules;
     }
 
--- each key has one change, at each step
+-- each key has its place, at each step
 pub any_changed-changed-requires : goal.any_changed-changed-requires
 any_changed-changed-requires g c =
-    let Kept = IsKept g.T.Replica.kind_of c.args.id in
-    let keys = c.args.keys.now in
-    let first = c.in_ok-changes.changes in
-    let one = c.take_groups.new.changes in
-    let two = c.take_entries.new.changes in
-    let k0 = kept_first g.T.Replica.kind_of c.args.id keys first.items c.in_ok-changes.ensures in
-    let k1 = c.in_ok-gaps.ensures.kept (subst (AreMade Kept keys) (sym c.as_mut_slice.ensures.value) k0) in
-    let k1' = subst (AreMade Kept keys) (sym (items_back Kept keys first one k0 k1)) k1 in
-    let k2 = c.in_ok-take_entries.ensures.kept (subst (AreMade Kept keys) (sym c.as_mut_slice-2.ensures.value) k1') in
-    ap length (c.deref-2.ensures.value ∙ items_back Kept keys (with_items first one) two k1' k2) ∙ k2.one_each
+    let kept = kept_first g.T.Replica.kind_of c.args.id c.args.keys.now c.unchanged-changes.result c.unchanged-changes.ensures in
+    (c.in_ok-take_entries.ensures.kept (c.in_ok-gaps.ensures.kept kept)).one_each
 
 pub take_groups-requires : goal.take_groups-requires
-take_groups-requires g c = ap length (c.as_mut_slice.ensures.value ∙ c.in_ok-changes.ensures) ∙ length-map c.args.keys.now _
+take_groups-requires g c = ap length c.unchanged-changes.ensures ∙ length-map c.args.keys.now _
 
 pub take_entries-requires : goal.take_entries-requires
-take_entries-requires g c =
-    let Kept = IsKept g.T.Replica.kind_of c.args.id in
-    let keys = c.args.keys.now in
-    let first = c.in_ok-changes.changes in
-    let one = c.take_groups.new.changes in
-    let k0 = kept_first g.T.Replica.kind_of c.args.id keys first.items c.in_ok-changes.ensures in
-    let k1 = c.in_ok-gaps.ensures.kept (subst (AreMade Kept keys) (sym c.as_mut_slice.ensures.value) k0) in
-    ap length (c.as_mut_slice-2.ensures.value ∙ items_back Kept keys first one k0 k1) ∙ k1.one_each
+take_entries-requires g c = (c.in_ok-gaps.ensures.kept (kept_first g.T.Replica.kind_of c.args.id c.args.keys.now c.unchanged-changes.result c.unchanged-changes.ensures)).one_each
 
 pub named-requires : goal.named-requires
 named-requires g c =
-    let Kept = IsKept g.T.Replica.kind_of c.args.id in
-    let keys = c.args.keys.now in
-    let first = c.in_ok-changes.changes in
-    let one = c.take_groups.new.changes in
-    let two = c.take_entries.new.changes in
-    let k0 = kept_first g.T.Replica.kind_of c.args.id keys first.items c.in_ok-changes.ensures in
-    let k1 = c.in_ok-gaps.ensures.kept (subst (AreMade Kept keys) (sym c.as_mut_slice.ensures.value) k0) in
-    let k1' = subst (AreMade Kept keys) (sym (items_back Kept keys first one k0 k1)) k1 in
-    let k2 = c.in_ok-take_entries.ensures.kept (subst (AreMade Kept keys) (sym c.as_mut_slice-2.ensures.value) k1') in
-    ap length (c.deref.ensures.value ∙ items_back Kept keys (with_items first one) two k1' k2) ∙ k2.one_each
+    let kept = kept_first g.T.Replica.kind_of c.args.id c.args.keys.now c.unchanged-changes.result c.unchanged-changes.ensures in
+    (c.in_ok-take_entries.ensures.kept (c.in_ok-gaps.ensures.kept kept)).one_each

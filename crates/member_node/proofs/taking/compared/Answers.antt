@@ -1,14 +1,14 @@
-use Rattle.std.proofs.Common.{refl, ◌∙◌}
+use Rattle.std.proofs.Common.{refl}
 use Rattle.member_node.proofs.Takings.{kept_first, leads_first}
 use Rattle.member_node.proofs.TakingSteps.{holds_held}
 use Rattle.member_node.specs.Replies.{spelled_groups}
 use Rattle.member_node.proofs.taking.compared.Goals as goal
 
 pub returns-clause-counted : goal.returns-clause-counted
-returns-clause-counted g c = c.in_ok-changes.changes.ok.0 ∙ (kept_first g.T.Replica.kind_of c.args.id c.args.keys.now c.in_ok-changes.changes.items c.in_ok-changes.ensures).one_each
+returns-clause-counted g c = (kept_first g.T.Replica.kind_of c.args.id c.args.keys.now c.unchanged-changes.result c.unchanged-changes.ensures).one_each
 
 pub returns-clause-kept : goal.returns-clause-kept
-returns-clause-kept g c = kept_first g.T.Replica.kind_of c.args.id c.args.keys.now c.in_ok-changes.changes.items c.in_ok-changes.ensures
+returns-clause-kept g c = kept_first g.T.Replica.kind_of c.args.id c.args.keys.now c.unchanged-changes.result c.unchanged-changes.ensures
 
 pub returns-clause-image : goal.returns-clause-image
 returns-clause-image g c = λ kinds logs node held declares.
@@ -17,7 +17,7 @@ returns-clause-image g c = λ kinds logs node held declares.
     let keys = c.args.keys.now in
     record {
       only = refl;
-      leads = leads_first R.IsDataOf logs node.entries keys c.in_ok-changes.changes.items c.in_ok-changes.ensures;
+      leads = leads_first R.IsDataOf logs node.entries keys c.unchanged-changes.result c.unchanged-changes.ensures;
       reply = refl;
       ended = refl;
       posts = c.in_ok-posts.ensures.image D kinds logs node refl (holds_held R.kind_of R.IsDataOf kinds logs c.args.id keys node held) declares;

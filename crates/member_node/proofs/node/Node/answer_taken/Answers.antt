@@ -1,4 +1,4 @@
-use Rattle.std.proofs.Common.{◌≡◌, [], None, not, length, get_or, refl, sym, ap, ◌∙◌, subst, subst₂, true, false, ◌&&◌, option_copied, bytes_eq}
+use Rattle.std.proofs.Common.{[], None, not, length, get_or, refl, sym, ap, ◌∙◌, subst, subst₂, true, false, ◌&&◌, option_copied, bytes_eq}
 use Rattle.std.specs.List.{list_any}
 use Rattle.member_node.proofs.Common.{is_unchanged, OpenOperation, one_step_later, NoStore, step_of_take, after_entries, counted, is_answered_by, entry_digest, StandsForPosts, Each, Prepared, AreMade, TellsEntries, IsPrepared, replication, IsKept, LeadsTo, AreExactAt}
 use Rattle.model_history.specs.Vector.{alone}
@@ -13,7 +13,7 @@ use Rattle.member_node.proofs.node.Node.answer_taken.Goals as goal
 
 pub any_changed-requires : goal.any_changed-requires
 any_changed-requires g c =
-    subst₂ (λ changes keys. length changes ≡ length keys) (sym c.deref-3.ensures.value) (c.deref.ensures.value ∙ sym c.deref-2.ensures.value) c.in_ok-changes.ensures.kept.one_each
+    c.in_ok-changes.ensures.kept.one_each ∙ ap length (c.deref.ensures.value ∙ sym c.deref-2.ensures.value)
 
 pub returns : goal.returns
 returns g c =
@@ -23,7 +23,7 @@ returns g c =
     record {
       sound =
           let test = is_read_of c.args.key.now in
-          let kept = subst (λ keys. AreMade (IsKept R.kind_of code.id) keys changes.items) c.deref.ensures.value c.in_ok-changes.ensures.kept in
+          let kept = subst (λ keys. AreMade (IsKept R.kind_of code.id) keys changes) c.deref.ensures.value c.in_ok-changes.ensures.kept in
           record {
             plan = sound_taken code changes kept;
             operations = counts_can code.operations c.args.from c.args.op test (λ end. Unit {0}) c.in_ok-counted.counted c.in_ok-counted.ensures.counts;
@@ -47,19 +47,17 @@ returns g c =
           let next = counted D stepped from (λ o. is_answered_by true op o && bytes_eq o.key key) in
           let same = step_taken D node from sent i.told i.is member ∙ ap (step_of_take D later from NoStore) a.is
           ∙ ap (λ es. counted D (took D later (after_entries later es) NoStore [] []) from (λ o. is_answered_by true op o && bytes_eq o.key key)) (keyed_same D key a.entry) in
-          let kept = subst (λ keys. AreMade (IsKept R.kind_of code.id) keys changes.items) keys_are c.in_ok-changes.ensures.kept in
+          let kept = subst (λ keys. AreMade (IsKept R.kind_of code.id) keys changes) keys_are c.in_ok-changes.ensures.kept in
           let exact = subst (AreExactAt code.keys.items) (ap (λ st. st.node.entries) same ∙ counted_entries D stepped from (λ o. is_answered_by true op o && bytes_eq o.key key)) (λ k d within. safe.exact (get_or code.keys.items k d).name) in
           let work = c.in_ok-changes.ensures.image kinds logs later entries (subst (λ keys. AreExactAt keys after.entries) (sym keys_are) exact)
           (held_later kinds logs code node s c.deref.result.now c.number-view.result keys_are c.number-view.ensures.number)
           (subst (λ keys. TellsEntries R kinds logs keys (keyed_envelope key envelope) entries) (sym keys_are) a.entries_stand) in
-          let leads = subst (λ keys. AreMade (LeadsTo R.IsDataOf logs node.entries after.entries) keys changes.items) keys_are work.leads in
-          let changed = c.any_changed.ensures logs node.entries after.entries (subst₂ (AreMade (LeadsTo R.IsDataOf logs node.entries after.entries)) (sym c.deref-2.ensures.value) (sym c.deref-3.ensures.value) leads)
+          let leads = subst (λ keys. AreMade (LeadsTo R.IsDataOf logs node.entries after.entries) keys changes) keys_are work.leads in
+          let changed = c.any_changed.ensures logs node.entries after.entries (subst (λ keys. AreMade (LeadsTo R.IsDataOf logs node.entries after.entries) keys changes) (sym c.deref-2.ensures.value) leads)
           ∙ ap (list_any (λ state. not (is_unchanged (node.entries state.name) (after.entries state.name)))) c.deref-2.ensures.value
           ∙ sym (changed_is later after code.keys.items (ap (λ n. n.keys) only ∙ s.keys)) in
           let asked : OpenOperation = record { op = op; key = key; reads = true; needed = 0; counted = alone from } in
-          let is = c.in_ok-counted.ensures.image (entry_digest S.history_byte S.history_spelled) kinds logs node.entries after asked (held_first R.kind_of R.IsDataOf kinds logs code node s)
-          (subst (AreMade (IsKept R.kind_of code.id) code.keys.items) (sym c.deref-4.ensures.value) kept)
-          (subst (AreMade (LeadsTo R.IsDataOf logs node.entries after.entries) code.keys.items) (sym c.deref-4.ensures.value) leads) (ap (λ n. n.keys) only ∙ s.keys) refl refl in
+          let is = c.in_ok-counted.ensures.image (entry_digest S.history_byte S.history_spelled) kinds logs node.entries after asked (held_first R.kind_of R.IsDataOf kinds logs code node s) kept leads (ap (λ n. n.keys) only ∙ s.keys) refl refl in
           let stands = operates_same code.operations node after s.operations (ap (λ n. n.open_operations) only) (ap (λ n. n.finished) only) (ap (λ n. n.next_op) only) in
           let w = read_counts D code.operations stepped stands refl from op key asked refl refl c.in_ok-counted.counted is in
           let prepared : Prepared g.row.T.Denot g.row.T-Kind.Denot g.row.T-Op.Denot g.row.T-Delta.Denot R =
@@ -73,4 +71,4 @@ returns g c =
     }
 
 pub read_counted-requires : goal.read_counted-requires
-read_counted-requires g c = ap length c.deref-4.ensures.value ∙ c.in_ok-changes.ensures.kept.one_each ∙ ap length c.deref.ensures.value
+read_counted-requires g c = c.in_ok-changes.ensures.kept.one_each ∙ ap length c.deref.ensures.value

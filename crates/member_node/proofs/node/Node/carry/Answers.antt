@@ -1,6 +1,7 @@
 use Rattle.std.proofs.Common.{refl, sym, ap, ◌∙◌, subst}
 use Rattle.std.specs.Coded.{Coded-set}
 use Rattle.member_node.proofs.Common.{changed_operations}
+use Rattle.member_node.specs.Planning.{CanCarryOut, KeepsKinds}
 use Rattle.member_node.specs.Storing.{AreStores}
 use Rattle.member_node.specs.Steps.{IsKeptBy}
 use Rattle.member_node.proofs.Standing.{on_err, unchanged_same, same_otherwise}
@@ -11,6 +12,12 @@ returns-in_err-stores-clause-unchanged g c = on_err c.from_residual.result (unch
 
 pub returns-in_err-fate-clause-unchanged : goal.returns-in_err-fate-clause-unchanged
 returns-in_err-fate-clause-unchanged g c = on_err c.from_residual-in_err-fate.result (record { same = same_otherwise (Coded-set g.row.T-Kind.coded) c.args.self.now _ refl refl refl refl refl refl; told = c.in_err-fate.ensures.refused })
+
+pub stores-requires : goal.stores-requires
+stores-requires g c = record {
+  can = subst (λ keys. CanCarryOut g.T.Replica keys c.args.plan) (sym c.deref.ensures.value) c.requires.sound.can;
+  kinds = subst (λ keys. KeepsKinds g.T.Replica keys c.args.plan) (sym c.deref.ensures.value) c.requires.sound.kinds;
+}
 
 pub returns-clause-carried : goal.returns-clause-carried
 returns-clause-carried g c =

@@ -1,5 +1,6 @@
-use Rattle.std.proofs.Common.{◌≡◌, Some, None, if◌then◌else◌, bytes_eq, ℕ, List, get_or, sym, ap, ◌∙◌, subst, true, map, find, option_map, position}
+use Rattle.std.proofs.Common.{◌≡◌, Option, Some, None, if◌then◌else◌, bytes_eq, ℕ, List, arith, get_or, sym, ap, ◌∙◌, subst, true, map, find, option_map, position}
 use Rattle.std.specs.Option.{option_and_then}
+use Rattle.std.proofs.lemmas.List.{get_or_default}
 use Rattle.std.proofs.lemmas.Result.{IfOk-weaker}
 use Rattle.member_node.proofs.Common.{Text, VersionVector, IdentitySet, History, has_records, result_of, Replication, OpenOperation, key_state, state_of, Shown, Envelope, StandsFor, parts_of, StandsForEntry, result_meant, delta_groups, KeyState, Change, declared_by, AreMade, current_of, IsKept, LeadsTo, AreHeld}
 use Rattle.model_members.specs.Entry as model
@@ -14,7 +15,7 @@ use Rattle.member_node.proofs.Takings.{made_at, stands_current, undeclared_in}
 use Rattle.member_node.proofs.node.Node.end_of_read.Goals as goal
 
 module _ {T Kind Op Delta : Type 0} (D : Replication Kind Op Shown) (kind_of : T → Kind) (IsDataOf : T → History Op → VersionVector → IdentitySet → Type 0) (kinds : Text → Kind) (logs : Text → History Op) (id : ℕ) (keys : List (KeyState T Kind Op Delta))
-    (before : Text → model.Entry Op) (held : AreHeld kind_of IsDataOf kinds logs id keys before) (changes : List (Change T Kind Op Delta)) (kept : AreMade (IsKept kind_of id) keys changes)
+    (before : Text → model.Entry Op) (held : AreHeld kind_of IsDataOf kinds logs id keys before) (changes : List (Option (Change T Kind Op Delta))) (kept : AreMade (IsKept kind_of id) keys changes)
     (node : nodes.Node Kind Op Shown) (leads : AreMade (LeadsTo IsDataOf logs before node.entries) keys changes) (declares : node.keys ≡ map declared_by keys) (key : Text) (asked : OpenOperation) (at_key : asked.key ≡ key) (reads : asked.reads ≡ true) where
   by_key : result_of D node asked ≡ read_result D (option_and_then (meaning_of D) (key_state node key))
   by_key =
@@ -26,7 +27,7 @@ module _ {T Kind Op Delta : Type 0} (D : Replication Kind Op Shown) (kind_of : T
       sym (by_key ∙ ap (λ o. read_result D (option_and_then (meaning_of D) (option_map (state_of node) o))) undeclared)
 
   -- the key at its place, after its change
-  module _ (index : ℕ) (at : KeyState T Kind Op Delta) (change : Change T Kind Op Delta) (found : IsFound (λ (state : KeyState T Kind Op Delta). bytes_eq state.name key) keys index) (is : at ≡ get_or keys index at) (is' : change ≡ get_or changes index change)
+  module _ (index : ℕ) (at : KeyState T Kind Op Delta) (change : Option (Change T Kind Op Delta)) (found : IsFound (λ (state : KeyState T Kind Op Delta). bytes_eq state.name key) keys index) (is : at ≡ get_or keys index at) (is' : change ≡ get_or changes index change)
       (mine : Envelope T Kind Op Delta) (same : mine ≡ current_of at change) where
     first : StandsForEntry kind_of IsDataOf kinds logs at.name at.entry (before at.name)
     first = subst (λ (state : KeyState T Kind Op Delta). StandsForEntry kind_of IsDataOf kinds logs state.name state.entry (before state.name)) (sym is) (held.held index at found.within)
@@ -66,12 +67,13 @@ returns g c = λ digest kinds logs before node asked held kept leads declares at
     let key = c.args.key.now in
     let index = c.in-Some.index in
     let at = c.index.result.now in
-    let change = c.index-changes-index.result in
+    let change = get_or changes index None in
     let mine = c.current-entry.result.now in
     let found = position-found (λ state. bytes_eq state.name key) keys index c.in-Some.ensures in
-    let stands = read_stands D R.kind_of R.IsDataOf kinds logs id keys before held changes kept node leads declares key asked at_key reads index at change found c.index.ensures c.index-changes-index.is mine c.current-entry.ensures in
+    let is : change ≡ get_or changes index change = get_or_default changes index None change (let inside = found.within in let counted = c.requires in omega arith) in
+    let stands = read_stands D R.kind_of R.IsDataOf kinds logs id keys before held changes kept node leads declares key asked at_key reads index at change found c.index.ensures is mine c.current-entry.ensures in
     IfOk-weaker c.read_result.result
     (λ (end : OperationResult). result_meant end ≡ read_result D (if has_records (node.entries at.name) then Some (meaning R.data_type (R.kind_of mine.value) (node.entries at.name).history) else None))
     (λ (end : OperationResult). result_meant end ≡ result_of D node asked)
-    (λ end is. read_found D R.kind_of R.IsDataOf kinds logs id keys before held changes kept node leads declares key asked at_key reads index at change found c.index.ensures c.index-changes-index.is mine c.current-entry.ensures (result_meant end) is)
+    (λ end ends. read_found D R.kind_of R.IsDataOf kinds logs id keys before held changes kept node leads declares key asked at_key reads index at change found c.index.ensures is mine c.current-entry.ensures (result_meant end) ends)
     (c.read_result.ensures digest (logs at.name) (node.entries at.name) stands)

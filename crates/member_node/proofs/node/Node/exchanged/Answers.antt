@@ -1,7 +1,6 @@
 use Rattle.std.proofs.Common.{None, get_or, refl, sym, ap, ◌∙◌, subst, map, option_map, if◌then◌else◌}
 use Rattle.member_node.proofs.Common.{Text, VersionVector, one_step_later, NoStore, step, step_of_take, answered, Each, Prepared, declared_by, AreOfTheirKinds, StandsForTaken, changed, AreMade, StandsForKey, IsPrepared, replication, IsKept, LeadsTo, AreHeld, AreExactAt}
 use Rattle.model_members.specs.Node.Reply.{NotFromMember}
-use Rattle.member_node.specs.declared.change.Change.TheVariants.{Same}
 use Rattle.member_node.specs.declared.operations.OperationChange.TheVariants.{Same as Unchanged}
 use Rattle.member_node.specs.Operations.{finished_meant}
 use Rattle.member_node.proofs.Takings.{kept_changed}
@@ -15,7 +14,7 @@ returns g c =
     let code = c.args.self.now in
     record {
       sound =
-          let made = subst (λ keys. AreMade (IsKept R.kind_of code.id) keys c.in_ok-taken.taken.changes.items) c.deref.ensures.value c.in_ok-taken.ensures.kept in
+          let made = subst (λ keys. AreMade (IsKept R.kind_of code.id) keys c.in_ok-taken.taken.changes) c.deref.ensures.value c.in_ok-taken.ensures.kept in
           sound_as code _ (sound_each R code.id code.steps code.keys.items (owned code) (IsKept R.kind_of code.id) (kept_changed R.kind_of code.id) c.in_ok-taken.taken.changes made) refl c.in_ok-taken.ensures.opens_none;
       image = λ kinds logs node sent s i safe.
           let D = replication R g.T.SpelledData in
@@ -31,8 +30,8 @@ returns g c =
           let stands = subst (λ keys. StandsForTaken kinds logs keys c.args.message.now i.told) (sym keys_are) i.message_stands in
           let t = c.in_ok-taken.ensures.image kinds logs (one_step_later node) i.told
           (record { of_kinds = of_kinds; held = held; identity = s.identity; viewed = ap (λ v. v.number) s.view ∙ sym c.number-view.ensures.number; declares = s.keys ∙ ap (map declared_by) (sym keys_are) }) stands c.requires.exchange exact in
-          let kept = subst (λ keys. AreMade (IsKept R.kind_of code.id) keys changes.items) keys_are c.in_ok-taken.ensures.kept in
-          let leads = subst (λ keys. AreMade (LeadsTo R.IsDataOf logs node.entries next.node.entries) keys changes.items) keys_are t.leads in
+          let kept = subst (λ keys. AreMade (IsKept R.kind_of code.id) keys changes) keys_are c.in_ok-taken.ensures.kept in
+          let leads = subst (λ keys. AreMade (LeadsTo R.IsDataOf logs node.entries next.node.entries) keys changes) keys_are t.leads in
           let prepared : Prepared g.row.T.Denot g.row.T-Kind.Denot g.row.T-Op.Denot g.row.T-Delta.Denot R = record { view = None; plan = Each changes; operations = Unchanged; output = c.in_ok-taken.taken.output } in
           subst (λ st. IsPrepared {ghosts = R} kinds logs code.keys.items code.operations node st prepared) (sym (ap (λ input. step D node input NoStore) i.is ∙ same)) (record {
             identity = ap (λ n. n.identity) t.only;
@@ -41,9 +40,9 @@ returns g c =
             viewed = ap (λ n. n.view) t.only;
             leads_on = leads_each R kinds logs code.keys.items node next.node s.entries changes
                 (λ k d within here.
-                subst (λ (f : Text → VersionVector). StandsForKey R.kind_of R.IsDataOf R.IsDeltaOf kinds logs (changed (get_or code.keys.items k d) (get_or changes.items k Same)) (next.node.entries (get_or code.keys.items k d).name) (f (get_or code.keys.items k d).name)) (sym (ap (λ n. n.flushed) t.only))
-                (stands_after R.kind_of R.IsDataOf R.IsDeltaOf kinds logs code.id node.entries next.node.entries node.flushed (get_or code.keys.items k d) (get_or changes.items k Same) (code.unpruned k d within) (code.logged k d within) (kept.made k d Same within) (leads.made k d Same within) here))
-                (λ k d within none. still_led R.kind_of R.IsDataOf R.IsDeltaOf kinds logs code.id node.entries next.node.entries node.flushed (get_or code.keys.items k d) (get_or changes.items k Same) (leads.made k d Same within) none);
+                subst (λ (f : Text → VersionVector). StandsForKey R.kind_of R.IsDataOf R.IsDeltaOf kinds logs (changed (get_or code.keys.items k d) (get_or changes k None)) (next.node.entries (get_or code.keys.items k d).name) (f (get_or code.keys.items k d).name)) (sym (ap (λ n. n.flushed) t.only))
+                (stands_after R.kind_of R.IsDataOf R.IsDeltaOf kinds logs code.id node.entries next.node.entries node.flushed (get_or code.keys.items k d) (get_or changes k None) (code.unpruned k d within) (code.logged k d within) (kept.made k d None within) (leads.made k d None within) here))
+                (λ k d within none. still_led R.kind_of R.IsDataOf R.IsDeltaOf kinds logs code.id node.entries next.node.entries node.flushed (get_or code.keys.items k d) (get_or changes k None) (leads.made k d None within) none);
             operates = operates_still kinds logs code node s prepared next.node refl (ap (λ n. n.open_operations) t.only) (ap (λ n. n.finished) t.only) (ap (λ n. n.next_op) t.only);
             answers = record { reply = t.reply; posts = t.posts; ended = t.ended ∙ sym (ap (option_map finished_meant) c.in_ok-taken.ensures.ends_none) };
           });

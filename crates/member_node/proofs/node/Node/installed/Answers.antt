@@ -1,9 +1,9 @@
-use Rattle.std.proofs.Common.{◌≡◌, ℕ, ◌<◌, ◌≤◌, Some, false, true, arith, get_or, refl, sym, ap, ◌∙◌, subst, nat_le, if◌then◌else◌, None}
+use Rattle.std.proofs.Common.{◌≡◌, ℕ, ◌<◌, ◌≤◌, Option, Some, false, true, arith, get_or, refl, sym, ap, ◌∙◌, subst, nat_le, if◌then◌else◌, None}
 use Rattle.member_node.proofs.Common.{Text, VersionVector, History, seen_by, one_step_later, NoStore, step, answered, number_at, Ghosts, Flushed, Each, Prepared, Output, changed, AreMade, StandsForKey, is_pending, meant, IsPrepared, replication, KeyState, Change}
 use Rattle.model_members.specs.Entry as model
 use Rattle.model_members.specs.Node.Reply.{OldView, Installed}
 use Rattle.member_node.specs.Taking.{KeepsOwn}
-use Rattle.member_node.specs.declared.change.Change.TheVariants.{Same, Entry}
+use Rattle.member_node.specs.declared.change.Change.TheVariants.{Entry}
 use Rattle.member_node.specs.declared.operations.OperationChange.TheVariants.{Same as Unchanged}
 use Rattle.member_node.specs.declared.reply.Reply.TheVariants as reply
 use Rattle.member_node.specs.Installing.{IsSeen}
@@ -12,26 +12,26 @@ use Rattle.member_node.proofs.Planned.{sound_each, leads_each, owned, sound_as, 
 use Rattle.member_node.proofs.node.Node.installed.Goals as goal
 
 module _ {T Kind Op Delta : Type 0} (ghosts : Ghosts T Kind Op Delta) (id view : ℕ) where
-  seen_keeps : (state : KeyState T Kind Op Delta) (change : Change T Kind Op Delta) → IsSeen ghosts id view state change → KeepsOwn ghosts.kind_of id state.entry (changed state change).entry
-  seen_keeps state (Entry entry) seen = record { kind = ap ghosts.kind_of seen.value; own = λ before. ap (λ v. number_at v id) seen.versions; unpruned = λ before. seen.performed id ∙ before }
+  seen_keeps : (state : KeyState T Kind Op Delta) (change : Option (Change T Kind Op Delta)) → IsSeen ghosts id view state change → KeepsOwn ghosts.kind_of id state.entry (changed state change).entry
+  seen_keeps state (Some (Entry entry)) seen = record { kind = ap ghosts.kind_of seen.value; own = λ before. ap (λ v. number_at v id) seen.versions; unpruned = λ before. seen.performed id ∙ before }
   seen_keeps state _ seen = absurd seen
 
-  seen_new : (state : KeyState T Kind Op Delta) (change : Change T Kind Op Delta) → IsSeen ghosts id view state change → new_entry change ≡ None → ⊥
-  seen_new state (Entry entry) seen none = cc none
+  seen_new : (state : KeyState T Kind Op Delta) (change : Option (Change T Kind Op Delta)) → IsSeen ghosts id view state change → new_entry change ≡ None → ⊥
+  seen_new state (Some (Entry entry)) seen none = cc none
   seen_new state _ seen none = seen
 
   module _ (kinds : Text → Kind) (logs : Text → History Op) where
     -- what is held of the key then
-    stands_seen : (state : KeyState T Kind Op Delta) (change : Change T Kind Op Delta) (entry : model.Entry Op) (flushed : VersionVector) → IsSeen ghosts id view state change
+    stands_seen : (state : KeyState T Kind Op Delta) (change : Option (Change T Kind Op Delta)) (entry : model.Entry Op) (flushed : VersionVector) → IsSeen ghosts id view state change
         → StandsForKey ghosts.kind_of ghosts.IsDataOf ghosts.IsDeltaOf kinds logs state entry flushed → StandsForKey ghosts.kind_of ghosts.IsDataOf ghosts.IsDeltaOf kinds logs (changed state change) (seen_by id view entry) flushed
-    stands_seen state Same entry flushed seen s = absurd seen
-    stands_seen state (Entry new) entry flushed seen s = record {
+    stands_seen state None entry flushed seen s = absurd seen
+    stands_seen state (Some (Entry new)) entry flushed seen s = record {
       kind = s.kind;
       held = record { kind = ap ghosts.kind_of seen.value ∙ s.held.kind; image = seen.image (logs state.name) entry s.held.image };
       logged = record { histories = s.logged.histories; taken = s.logged.taken; last = s.logged.last; count = s.logged.count; kept = s.logged.kept };
       sent = s.sent;
     }
-    stands_seen state (Flushed sent) entry flushed seen s = absurd seen
+    stands_seen state (Some (Flushed sent)) entry flushed seen s = absurd seen
 
 -- whether a view is later than the member's own
 is_later : (view number own : ℕ) → number ≡ view → own < number → nat_le view own ≡ false
@@ -62,13 +62,13 @@ returns g c =
     record {
       sound =
           let number = c.number-number.result in
-          let made = subst (λ keys. AreMade (IsSeen R code.id number) keys c.in_ok-changes.changes.items) c.deref.ensures.value c.in_ok-changes.ensures in
+          let made = subst (λ keys. AreMade (IsSeen R code.id number) keys c.in_ok-changes.changes) c.deref.ensures.value c.in_ok-changes.ensures in
           sound_as code _ (sound_each R code.id code.steps code.keys.items (owned code) (IsSeen R code.id number) (seen_keeps R code.id number) c.in_ok-changes.changes made) refl (ap (λ (o : Output g.row.T.Denot g.row.T-Kind.Denot g.row.T-Op.Denot g.row.T-Delta.Denot R). is_pending o.reply) c.told.ensures);
       image = λ kinds logs node sent s is safe.
           let D = replication R g.T.SpelledData in
           let view = c.args.view.now in
           let changes = c.in_ok-changes.changes in
-          let made = subst (λ keys. AreMade (IsSeen R code.id view.number) keys changes.items) c.deref.ensures.value (subst (λ n. AreMade (IsSeen R code.id n) c.deref.result.now changes.items) c.number-number.ensures.number c.in_ok-changes.ensures) in
+          let made = subst (λ keys. AreMade (IsSeen R code.id view.number) keys changes) c.deref.ensures.value (subst (λ n. AreMade (IsSeen R code.id n) c.deref.result.now changes) c.number-number.ensures.number c.in_ok-changes.ensures) in
           let number = ap (λ v. v.number) s.view ∙ sym c.number-own.ensures.number in
           let later : nat_le view.number node.view.number ≡ false = ap (nat_le view.number) number ∙ is_later view.number c.number-number.result c.number-own.result c.number-number.ensures.number c.if-number-own.false in
           let after = record (one_step_later node) { view = view; entries = λ key. seen_by node.identity view.number (node.entries key) } in
@@ -81,9 +81,9 @@ returns g c =
             viewed = sym c.in_ok-view.ensures;
             leads_on = leads_each R kinds logs code.keys.items node _ s.entries changes
                 (λ k d within here.
-                subst (λ id. StandsForKey R.kind_of R.IsDataOf R.IsDeltaOf kinds logs (changed (get_or code.keys.items k d) (get_or changes.items k Same)) (seen_by id view.number (node.entries (get_or code.keys.items k d).name)) (node.flushed (get_or code.keys.items k d).name)) (sym s.identity)
-                (stands_seen R code.id view.number kinds logs (get_or code.keys.items k d) (get_or changes.items k Same) _ _ (made.made k d Same within) here))
-                (λ k d within none. absurd (seen_new R code.id view.number (get_or code.keys.items k d) (get_or changes.items k Same) (made.made k d Same within) none));
+                subst (λ id. StandsForKey R.kind_of R.IsDataOf R.IsDeltaOf kinds logs (changed (get_or code.keys.items k d) (get_or changes k None)) (seen_by id view.number (node.entries (get_or code.keys.items k d).name)) (node.flushed (get_or code.keys.items k d).name)) (sym s.identity)
+                (stands_seen R code.id view.number kinds logs (get_or code.keys.items k d) (get_or changes k None) _ _ (made.made k d None within) here))
+                (λ k d within none. absurd (seen_new R code.id view.number (get_or code.keys.items k d) (get_or changes k None) (made.made k d None within) none));
             operates = operates_still kinds logs code node s prepared after refl refl refl refl;
             answers = quiet_output kinds logs _ _ (ap (λ o. o.posts) c.told.ensures) (ap (λ o. o.finished) c.told.ensures) (ap (λ (o : Output g.row.T.Denot g.row.T-Kind.Denot g.row.T-Op.Denot g.row.T-Delta.Denot R). meant o.reply) c.told.ensures) refl refl;
           });

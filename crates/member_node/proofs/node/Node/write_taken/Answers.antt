@@ -1,4 +1,4 @@
-use Rattle.std.proofs.Common.{◌≡◌, [], ◌∷◌, None, false, not, length, get_or, refl, sym, ap, ◌∙◌, subst, subst₂}
+use Rattle.std.proofs.Common.{[], ◌∷◌, None, false, not, length, get_or, refl, sym, ap, ◌∙◌, subst}
 use Rattle.std.specs.List.{list_any}
 use Rattle.member_node.proofs.Common.{is_unchanged, one_step_later, NoStore, step_of_take, after_entries, answer_to, StandsForPosts, Each, Prepared, AreMade, TellsEntries, IsPrepared, replication, IsKept, LeadsTo, AreExactAt}
 use Rattle.model_members.specs.Message.{Message as Sent}
@@ -12,7 +12,7 @@ use Rattle.member_node.proofs.node.Node.write_taken.Goals as goal
 
 pub any_changed-requires : goal.any_changed-requires
 any_changed-requires g c =
-    subst₂ (λ changes keys. length changes ≡ length keys) (sym c.deref-3.ensures.value) (c.deref.ensures.value ∙ sym c.deref-2.ensures.value) c.in_ok-changes.ensures.kept.one_each
+    c.in_ok-changes.ensures.kept.one_each ∙ ap length (c.deref.ensures.value ∙ sym c.deref-2.ensures.value)
 
 pub returns : goal.returns
 returns g c =
@@ -21,7 +21,7 @@ returns g c =
     let changes = c.in_ok-changes.changes in
     record {
       sound =
-          let kept = subst (λ keys. AreMade (IsKept R.kind_of code.id) keys changes.items) c.deref.ensures.value c.in_ok-changes.ensures.kept in
+          let kept = subst (λ keys. AreMade (IsKept R.kind_of code.id) keys changes) c.deref.ensures.value c.in_ok-changes.ensures.kept in
           record {
             plan = sound_taken code changes kept;
             operations = tt;
@@ -43,12 +43,12 @@ returns g c =
           let same = step_taken D node from sent i.told i.is member ∙ ap (step_of_take D later from NoStore) w.is
           ∙ ap (λ n. took D later n NoStore [] (answer_to D from (Sent.WriteAck op))) (written_taken R kinds logs code.keys.items later s.keys op key envelope i.told w) in
           let exact = subst (λ st. AreExactAt code.keys.items st.node.entries) same (λ k d within. safe.exact (get_or code.keys.items k d).name) in
-          let kept = subst (λ keys. AreMade (IsKept R.kind_of code.id) keys changes.items) keys_are c.in_ok-changes.ensures.kept in
+          let kept = subst (λ keys. AreMade (IsKept R.kind_of code.id) keys changes) keys_are c.in_ok-changes.ensures.kept in
           let work = c.in_ok-changes.ensures.image kinds logs later w.told_entries (subst (λ keys. AreExactAt keys after.entries) (sym keys_are) exact)
           (held_later kinds logs code node s c.deref.result.now c.number-view.result keys_are c.number-view.ensures.number)
           (subst (λ keys. TellsEntries R kinds logs keys (record { key = key; item = envelope } ∷ []) w.told_entries) (sym keys_are) w.entries_stand) in
-          let leads = subst (λ keys. AreMade (LeadsTo R.IsDataOf logs node.entries after.entries) keys changes.items) keys_are work.leads in
-          let test = c.any_changed.ensures logs node.entries after.entries (subst₂ (AreMade (LeadsTo R.IsDataOf logs node.entries after.entries)) (sym c.deref-2.ensures.value) (sym c.deref-3.ensures.value) leads)
+          let leads = subst (λ keys. AreMade (LeadsTo R.IsDataOf logs node.entries after.entries) keys changes) keys_are work.leads in
+          let test = c.any_changed.ensures logs node.entries after.entries (subst (λ keys. AreMade (LeadsTo R.IsDataOf logs node.entries after.entries) keys changes) (sym c.deref-2.ensures.value) leads)
           ∙ ap (list_any (λ state. not (is_unchanged (node.entries state.name) (after.entries state.name)))) c.deref-2.ensures.value
           ∙ sym (changed_is later after code.keys.items (ap (λ n. n.keys) only ∙ s.keys)) in
           let prepared : Prepared g.row.T.Denot g.row.T-Kind.Denot g.row.T-Op.Denot g.row.T-Delta.Denot R =
