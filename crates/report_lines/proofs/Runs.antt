@@ -33,7 +33,7 @@ use Rattle.member_node.specs.Members.{AreDistinct, declared, spelled_groups}
 use Rattle.member_node.specs.Steps.{replication}
 use Rattle.script_reading.specs.declared.clients.Clients.TheVariants.{Refused}
 use Rattle.script_reading.specs.declared.clients.RunStep.{RunStep}
-use Rattle.script_reading.specs.declared.clients.RunStep.TheVariants.{Plain, Threads}
+use Rattle.script_reading.specs.declared.clients.RunStep.TheVariants.{Plain, Threads, Subscribe, Unsubscribe}
 use Rattle.script_reading.specs.declared.script.Script.{Script}
 use Rattle.script_reading.specs.declared.script.ScriptKey.{ScriptKey}
 use Rattle.script_reading.specs.declared.script.Step.{Step}
@@ -81,7 +81,7 @@ each_in P xs all x m = subst P (get_or_from_slice_get xs m.0 x x m.1) (all m.0 x
 -- STEPS
 
 -- the steps of a script are steps of the model
-model_step : (step : Step) → script_rules.IsStep step → IsStep (step_of step)
+pub model_step : (step : Step) → script_rules.IsStep step → IsStep (step_of step)
 model_step (form.Ask at ask) ok = tt
 model_step (form.Deliver from to index) ok = tt
 model_step (form.Lose from to) ok = tt
@@ -95,20 +95,24 @@ model_step form.Settle ok = tt
 all_rest : {X : Type 0} (P : X → Type 0) (x : X) (xs : List X) → All P (x ∷ xs) → All P xs
 all_rest P x xs all k d less = all (suc k) d (omega (arith, less))
 
-model_steps : (steps : List RunStep) → All IsRunStep steps → AllByRecursion IsStep (steps_of steps)
+pub model_steps : (steps : List RunStep) → All IsRunStep steps → AllByRecursion IsStep (steps_of steps)
 model_steps [] all = tt
 model_steps (Plain step ∷ steps) all = (model_step step (all zero (Plain step) (omega arith)), model_steps steps (all_rest IsRunStep (Plain step) steps all))
 model_steps (Threads clients ∷ steps) all = model_steps steps (all_rest IsRunStep (Threads clients) steps all)
+model_steps (Subscribe at client key ∷ steps) all = model_steps steps (all_rest IsRunStep (Subscribe at client key) steps all)
+model_steps (Unsubscribe at client key ∷ steps) all = model_steps steps (all_rest IsRunStep (Unsubscribe at client key) steps all)
 
 -- SCRIPTS WITHOUT CLIENTS
 
-abbrev ArePlain : List RunStep → Type 0
+abbrev pub ArePlain : List RunStep → Type 0
 ArePlain steps = All (IsAllowed Refused) steps
 
 plain_steps : (steps : List RunStep) → ArePlain steps → map run_step_of steps ≡ map runs.RunStep.Plain (steps_of steps)
 plain_steps [] plain = refl
 plain_steps (Plain step ∷ steps) plain = ap (λ ss. runs.RunStep.Plain (step_of step) ∷ ss) (plain_steps steps (all_rest (IsAllowed Refused) (Plain step) steps plain))
 plain_steps (Threads clients ∷ steps) plain = absurd (plain zero (Threads clients) (omega arith))
+plain_steps (Subscribe at client key ∷ steps) plain = absurd (plain zero (Subscribe at client key) (omega arith))
+plain_steps (Unsubscribe at client key ∷ steps) plain = absurd (plain zero (Unsubscribe at client key) (omega arith))
 
 until_plain : (steps : List RunStep) → ArePlain steps → ArePlain (until_restart steps)
 until_plain [] plain = plain
@@ -120,7 +124,7 @@ until_plain (step ∷ steps) plain = by_test (is_restart step) (until_plain step
 
 module _ (D : Replication Kind Op Shown) (p : Playing Kind Op Shown) (steps : List RunStep) (plain : ArePlain steps) where
   -- they play one way, and end in one place
-  one_way : (lines : Lines) (last : Playing Kind Op Shown) → PlaysAll D p (map run_step_of steps) lines last → (lines ≡ map (map plain_line) (lines_of D p (steps_of steps))) × (last ≡ played_all D p (steps_of steps))
+  pub one_way : (lines : Lines) (last : Playing Kind Op Shown) → PlaysAll D p (map run_step_of steps) lines last → (lines ≡ map (map plain_line) (lines_of D p (steps_of steps))) × (last ≡ played_all D p (steps_of steps))
   one_way lines last plays = plain_plays D p last (steps_of steps) lines (subst (λ ss. PlaysAll D p ss lines last) (plain_steps steps plain) plays)
 
 -- the lines of the steps before the first restart are those of the model
@@ -362,51 +366,51 @@ module _ {T K Kind' Op' Delta : Type 0} {ghosts : Ghosts T Kind' Op' Delta} {kee
         subst (λ o. IsKept keeping there o) (same_at place (slice_get (keepers_of world.nodes.items world.spare.items) place) refl ∙ ap (λ ks. slice_get ks place) (sym is)) (record { answers = []; keeps = not_called_at keeping there })
 
 module _ {T K Delta : Type 0} {ghosts : Ghosts T Kind Op Delta} {keeping : Keeping K} (spelling : Spelling T Kind Op Delta) (script : Script) (formed : IsWellFormed script) (old : List K) (first : World T K Kind Op Delta ghosts keeping) (eight : length old ≡ 8) (opens : Opens spelling script.members script.keys old first) where
-  apart : AreDistinct (map (λ (d : KeyDecl T Kind Op Delta). d.key) opens.keys)
+  pub apart : AreDistinct (map (λ (d : KeyDecl T Kind Op Delta). d.key) opens.keys)
   apart = distinct_keys script.keys opens.keys opens.made formed.key_names
 
   module _ (new : List K) (last : World T K Kind Op Delta ghosts keeping) (back : new ≡ keepers_of last.nodes.items last.spare.items) (given : Given) (kept : (place : ℕ) → KeepsAt keeping (given place) (keeper_of first.nodes.items first.spare.items place) (keeper_of last.nodes.items last.spare.items place)) where
     -- the answers of each keeper
-    abbrev over : Given
+    abbrev pub over : Given
     over = whole_given spelling script.members script.keys opens.keys old first eight opens.made apart opens.starts (eight_of first).0 (eight_of first).1 new last (eight_of last).0 (eight_of last).1 back given kept
 
-    abbrev begin : Playing Kind Op Shown
+    abbrev pub begin : Playing Kind Op Shown
     begin = beginning (answers_by over) script
 
-    abbrev names : List (model.KeyDecl Kind)
+    abbrev pub names : List (model.KeyDecl Kind)
     names = map decl_of (in_order script.keys)
 
-    sets : SetsOut spelling (kind_among opens.keys) script.members names begin given first
+    pub sets : SetsOut spelling (kind_among opens.keys) script.members names begin given first
     sets = sets_out spelling script.members script.keys opens.keys old first eight opens.made apart opens.starts (eight_of first).0 (eight_of first).1 new last (eight_of last).0 (eight_of last).1 back given kept
 
-    each_kept : AtEachPlace (λ place. Keeps keeping (over place)) old new
+    pub each_kept : AtEachPlace (λ place. Keeps keeping (over place)) old new
     each_kept = kept_so spelling script.members script.keys opens.keys old first eight opens.made apart opens.starts (eight_of first).0 (eight_of first).1 new last (eight_of last).0 (eight_of last).1 back given kept
 
-    none_others : (place : ℕ) → length old ≤ place → over place ≡ []
+    pub none_others : (place : ℕ) → length old ≤ place → over place ≡ []
     none_others = others_so spelling script.members script.keys opens.keys old first eight opens.made apart opens.starts (eight_of first).0 (eight_of first).1 new last (eight_of last).0 (eight_of last).1 back given kept
 
-    all_cleared : (place : ℕ) → place < length old → slice_get (over place) 0 ≡ Some true
+    pub all_cleared : (place : ℕ) → place < length old → slice_get (over place) 0 ≡ Some true
     all_cleared = cleared_so spelling script.members script.keys opens.keys old first eight opens.made apart opens.starts (eight_of first).0 (eight_of first).1 new last (eight_of last).0 (eight_of last).1 back given kept
 
-    all_are_kept : AreKept keeping old new
+    pub all_are_kept : AreKept keeping old new
     all_are_kept = kept_over spelling script.members script.keys opens.keys old first eight opens.made apart opens.starts (eight_of first).0 (eight_of first).1 new last (eight_of last).0 (eight_of last).1 back given kept
 
-    unfailing : (P : KeeperAnswers → Type 0) → P (answers_by over) → NoneRose keeping old new → P none_fails
+    pub unfailing : (P : KeeperAnswers → Type 0) → P (answers_by over) → NoneRose keeping old new → P none_fails
     unfailing P h stays = subst P (none_failed keeping over old new each_kept none_others stays) h
 
-    loads_all : LoadWhatTheyTook keeping script old → LoadAll script.steps first
+    pub loads_all : LoadWhatTheyTook keeping script old → LoadAll script.steps first
     loads_all (inl all) = inl (tells_first spelling script.members script.keys opens.keys old first eight opens.made apart opens.starts (eight_of first).0 (eight_of first).1 all)
     loads_all (inr none) = inr none
 
     -- some run of the script, and what it says of a text
     module _ (says : Lines → Playing Kind Op Shown → List ℕ → Type 0) (text : List ℕ) (some : TellsSome spelling (kind_among opens.keys) script.members names begin given says script.steps last text) where
-      ends_over : EndsOver ghosts.data_type spelling.history_byte spelling.history_spelled keeping over script some.last old new
+      pub ends_over : EndsOver ghosts.data_type spelling.history_byte spelling.history_spelled keeping over script some.last old new
       ends_over = record {
         called = called_so spelling script.members script.keys opens.keys old first eight opens.made apart opens.starts (eight_of first).0 (eight_of first).1 new last (eight_of last).0 (eight_of last).1 back given kept some.last some.means some.calls;
         stored = stored_so spelling script.members script.keys opens.keys old first eight opens.made apart opens.starts (eight_of first).0 (eight_of first).1 new last (eight_of last).0 (eight_of last).1 back given kept some.last some.means some.calls;
       }
 
-      is_the_run : HasNoClients script → IsTheRun ghosts.data_type spelling.history_byte spelling.history_spelled keeping (answers_by over) script some.last
+      pub is_the_run : HasNoClients script → IsTheRun ghosts.data_type spelling.history_byte spelling.history_spelled keeping (answers_by over) script some.last
       is_the_run plain = the_run ghosts.data_type spelling.history_byte spelling.history_spelled keeping (answers_by over) script some.lines some.last some.means.run.some some.means.run.few formed.steps plain some.plays
 
     -- THE REPORT

@@ -23,7 +23,7 @@ use Rattle.theorem_sections.specs.Sections.{Line, section_lines}
 use Rattle.theorem_sections.specs.Runs as runs
 use Rattle.theorem_sections.specs.Runs.{plain_line, PlaysAll, line_text, lines_text}
 use Rattle.script_reading.specs.declared.clients.RunStep.{RunStep}
-use Rattle.script_reading.specs.declared.clients.RunStep.TheVariants.{Plain, Threads}
+use Rattle.script_reading.specs.declared.clients.RunStep.TheVariants.{Plain, Threads, Subscribe, Unsubscribe}
 use Rattle.script_reading.specs.declared.script.Step.{Step}
 use Rattle.script_reading.specs.declared.script.Step.TheVariants as form
 use Rattle.script_reading.specs.Meant.{step_of}
@@ -31,7 +31,7 @@ use Rattle.world_members.specs.declared.event.Event.{Event}
 use Rattle.world_members.specs.declared.world.World.{World}
 use Rattle.world_members.specs.Places.{keeper_of}
 use Rattle.world_members.specs.Keeping.{Given, KeepsAt, IsKept}
-use Rattle.world_members.specs.Steps.{Foretells, HaveAnswered, LoadsWhatItTook, Plays}
+use Rattle.world_members.specs.Steps.{Foretells, HaveAnswered, LoadsWhatItTook, Plays, Reaches}
 use Rattle.world_members.specs.Threads.{run_step_of, GivesBack}
 use Rattle.world_members.specs.Ways.{Means}
 use Rattle.world_members.proofs.Storing.{not_called_at}
@@ -99,7 +99,7 @@ begins_longer D p steps text block text' grown begun =
 -- WHAT A STEP LOADS
 
 module _ {T K Delta : Type 0} {ghosts : Ghosts T Kind Op Delta} {keeping : Keeping K} (spelling : Spelling T Kind Op Delta) where
-  loads_told : (step : Step) (world : World T K Kind Op Delta ghosts keeping) → AllTell world → LoadsWhatItTook spelling step world
+  pub loads_told : (step : Step) (world : World T K Kind Op Delta ghosts keeping) → AllTell world → LoadsWhatItTook spelling step world
   loads_told (form.Ask at ask) world tell = tt
   loads_told (form.Deliver from to index) world tell = tt
   loads_told (form.Lose from to) world tell = tt
@@ -110,7 +110,7 @@ module _ {T K Delta : Type 0} {ghosts : Ghosts T Kind Op Delta} {keeping : Keepi
   loads_told (form.Restart id) world tell = tell (place_of (last_view world.views) id)
   loads_told form.Settle world tell = tt
 
-  loads_nothing : (step : Step) (world : World T K Kind Op Delta ghosts keeping) → IsCalm (Plain step) → LoadsWhatItTook spelling step world
+  pub loads_nothing : (step : Step) (world : World T K Kind Op Delta ghosts keeping) → IsCalm (Plain step) → LoadsWhatItTook spelling step world
   loads_nothing (form.Ask at ask) world calm = tt
   loads_nothing (form.Deliver from to index) world calm = tt
   loads_nothing (form.Lose from to) world calm = tt
@@ -133,14 +133,14 @@ module _ {T K Delta : Type 0} {ghosts : Ghosts T Kind Op Delta} {keeping : Keepi
       is_kept_further keeping (given place) (keeper_of old.nodes.items old.spare.items place) (keeper_of mid.nodes.items mid.spare.items place) (keeper_of new.nodes.items new.spare.items place) (kept place) (further place)
 
   -- lines are no part of what a world means
-  means_silent : (kinds : Text → Kind) (members : ℕ) (decls : List (KeyDecl Kind)) (p : Playing Kind Op Shown) (world : World T K Kind Op Delta ghosts keeping) → Means spelling kinds members decls p world → Means spelling kinds members decls (record p { lines = [] }) world
+  pub means_silent : (kinds : Text → Kind) (members : ℕ) (decls : List (KeyDecl Kind)) (p : Playing Kind Op Shown) (world : World T K Kind Op Delta ghosts keeping) → Means spelling kinds members decls p world → Means spelling kinds members decls (record p { lines = [] }) world
   means_silent kinds members decls p world means = record { run = means.run; stands = λ logs all. means.stands logs (record { histories = all.histories; logged = all.logged }) }
 
   -- A STEP OF EITHER FORM
 
   abbrev LoadsAt : RunStep → World T K Kind Op Delta ghosts keeping → Type 0
   LoadsAt (Plain step) world = LoadsWhatItTook spelling step world
-  LoadsAt (Threads clients) world = Unit {0}
+  LoadsAt _ world = Unit {0}
 
   -- where a script may go on by a step
   record GoesOn (n : ℕ) (step : RunStep) (new : World T K Kind Op Delta ghosts keeping) (text text' : List ℕ) (given : Given) (kinds : Text → Kind) (members : ℕ) (decls : List (KeyDecl Kind)) (q : Playing Kind Op Shown) : Type 0 where
@@ -193,6 +193,8 @@ module _ {T K Delta : Type 0} {ghosts : Ghosts T Kind Op Delta} {keeping : Keepi
               told = tells.2 ∙ ap (λ t. text ++ t) (clients_told n tells.0 (section_lines ends.end) ends.told);
             };
       }
+  goes_of n (Subscribe at client key) mid new text text' tells = absurd tells
+  goes_of n (Unsubscribe at client key) mid new text text' tells = absurd tells
 
   -- STAGES
 
@@ -221,6 +223,8 @@ module _ {T K Delta : Type 0} {ghosts : Ghosts T Kind Op Delta} {keeping : Keepi
     loads_at (Plain s) (inl tell) = loads_told spelling s mid (λ place. tells_further keeping (stage.given place) (keeper_of old.nodes.items old.spare.items place) (keeper_of mid.nodes.items mid.spare.items place) (stage.kept place) (tell place))
     loads_at (Plain s) (inr none) = loads_nothing spelling s mid (all_last IsCalm done (Plain s) none)
     loads_at (Threads clients) load = tt
+    loads_at (Subscribe at client key) load = tt
+    loads_at (Unsubscribe at client key) load = tt
 
     module _ (kinds : Text → Kind) (members : ℕ) (decls : List (KeyDecl Kind)) (p : Playing Kind Op Shown) (sets : SetsOut spelling kinds members decls p given_then old) where
       sets_before : SetsOut spelling kinds members decls p stage.given old
@@ -334,6 +338,33 @@ module _ {T K Delta : Type 0} {ghosts : Ghosts T Kind Op Delta} {keeping : Keepi
   next_passed done step n number old mid new events passes plays =
       let text' = passes.0 ++ flat_map (event_text n) events in
       (text', next_steps done (Plain step) n number old mid new passes.0 text' passes.1 (events, plays, refl))
+
+  -- where a script stands that goes on by a step of which nothing is told
+  pub record GoesFurther (done : List RunStep) (step : Step) (old mid new : World T K Kind Op Delta ghosts keeping) (events : List Event) (passes : PassesSteps spelling done old mid) (plays : Plays spelling step mid new events) (kinds : Text → Kind) (members : ℕ) (decls : List (KeyDecl Kind)) (p : Playing Kind Op Shown) : Type 0 where
+    pub sets : SetsOut spelling kinds members decls p passes.1.given old
+    pub load : LoadAll done old
+    pub some : TellsSome spelling kinds members decls p passes.1.given IsLines done mid passes.0
+    pub silent : some.last.lines ≡ []
+    pub reaches : Reaches spelling kinds members decls some.last (played (replication ghosts spelling) some.last (step_of step)) plays.given new events
+
+  pub goes_further : (done : List RunStep) (step : Step) (n : ℕ) (number : n ≡ suc (length done)) (old mid new : World T K Kind Op Delta ghosts keeping) (events : List Event) (passes : PassesSteps spelling done old mid) (plays : Plays spelling step mid new events)
+      → LoadAll (done ++ Plain step ∷ []) old → (kinds : Text → Kind) (members : ℕ) (decls : List (KeyDecl Kind)) (p : Playing Kind Op Shown) → SetsOut spelling kinds members decls p (next_passed done step n number old mid new events passes plays).1.given old
+      → GoesFurther done step old mid new events passes plays kinds members decls p
+  unfolding next_passed next_steps one_more goes_of
+  goes_further done step n number old mid new events passes plays load kinds members decls p sets =
+      let text' = passes.0 ++ flat_map (event_text n) events in
+      let goes = goes_of n (Plain step) mid new passes.0 text' (events, plays, refl) in
+      let before = sets_before done (Plain step) n number old mid new passes.0 text' passes.1 goes kinds members decls p sets in
+      let load_before = loads_before done (Plain step) n number old mid new passes.0 text' passes.1 goes load in
+      let loads = loads_at done (Plain step) n number old mid new passes.0 text' passes.1 goes (Plain step) load in
+      let some = passes.1.whole load_before kinds members decls p before in
+      record {
+        sets = before;
+        load = load_before;
+        some = some;
+        silent = (quiet done (Plain step) n number old mid new passes.0 text' passes.1 goes kinds members decls p sets some loads).0;
+        reaches = (plays.does loads).1 kinds members decls some.last some.means (foretold_now done (Plain step) n number old mid new passes.0 text' passes.1 goes kinds members decls p sets some loads);
+      }
 
   -- WHAT CALLS TELL
 

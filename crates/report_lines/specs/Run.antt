@@ -20,7 +20,7 @@ use Rattle.theorem_settling.specs.Settling.{BlockedStays}
 use Rattle.theorem_digests.specs.Digests.{SettlesAgreeByDigests}
 use Rattle.member_node.specs.Members.{spelled_groups}
 use Rattle.script_reading.specs.declared.clients.RunStep.{RunStep}
-use Rattle.script_reading.specs.declared.clients.RunStep.TheVariants.{Plain, Threads}
+use Rattle.script_reading.specs.declared.clients.RunStep.TheVariants.{Plain, Threads, Subscribe, Unsubscribe}
 use Rattle.script_reading.specs.declared.script.Script.{Script}
 use Rattle.script_reading.specs.declared.script.ScriptKey.{ScriptKey}
 use Rattle.script_reading.specs.declared.script.Step.TheVariants.{Restart}
@@ -49,11 +49,13 @@ in_order keys = ordered (λ key. key.key) keys
 
 -- ---- steps
 
--- the steps of a script without clients, as those of the model
+-- the steps that a script makes by itself, as those of the model
 abbrev pub steps_of : List RunStep → List (ScriptStep Op)
 steps_of [] = []
 steps_of (Plain step ∷ steps) = step_of step ∷ steps_of steps
 steps_of (Threads clients ∷ steps) = steps_of steps
+steps_of (Subscribe at client key ∷ steps) = steps_of steps
+steps_of (Unsubscribe at client key ∷ steps) = steps_of steps
 
 abbrev pub is_restart : RunStep → Bool
 is_restart (Plain (Restart id)) = true

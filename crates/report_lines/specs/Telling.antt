@@ -23,7 +23,7 @@ use Rattle.member_node.specs.Members.{declared}
 use Rattle.member_node.specs.Steps.{replication}
 use Rattle.theorem_sections.specs.Runs.{PlaysAll, lines_text}
 use Rattle.script_reading.specs.declared.clients.RunStep.{RunStep}
-use Rattle.script_reading.specs.declared.clients.RunStep.TheVariants.{Plain, Threads}
+use Rattle.script_reading.specs.declared.clients.RunStep.TheVariants.{Plain, Threads, Subscribe, Unsubscribe}
 use Rattle.script_reading.specs.declared.script.ScriptKey.{ScriptKey}
 use Rattle.world_members.specs.declared.client_line.ClientLine.{ClientLine}
 use Rattle.world_members.specs.declared.event.Event.{Event}
@@ -81,10 +81,12 @@ module _ {T K Delta : Type 0} {ghosts : Ghosts T Kind Op Delta} {keeping : Keepi
     pub calls : HaveAnswered p last given
 
 module _ {T K Delta : Type 0} {ghosts : Ghosts T Kind Op Delta} {keeping : Keeping K} (spelling : Spelling T Kind Op Delta) where
-  -- a step with this number was played, and its lines were added to a text
+  -- a step with this number, by which no key is followed, was played, and its lines were added to a text
   abbrev pub TellsStep : ℕ → RunStep → (old new : World T K Kind Op Delta ghosts keeping) → (before after : List ℕ) → Type 0
   TellsStep n (Plain step) old new before after = (events : List Event) × Plays spelling step old new events × (after ≡ before ++ flat_map (event_text n) events)
   TellsStep n (Threads clients) old new before after = (lines : List ClientLine) × PlaysSection spelling clients old new lines × (after ≡ before ++ flat_map (client_line_text n) lines)
+  TellsStep n (Subscribe at client key) old new before after = ⊥
+  TellsStep n (Unsubscribe at client key) old new before after = ⊥
 
   -- The keepers gave these answers, and wherever a script sets out with them, the text begins so, and tells all where what is loaded is what was stored
   pub record TellsSteps (steps : List RunStep) (old new : World T K Kind Op Delta ghosts keeping) (text : List ℕ) : Type 0 where

@@ -30,5 +30,6 @@ mod playing;
 mod sections;
 
 pub use laws::keys_rise;
-pub use playing::{Ending, Played, report, summary};
+pub use lines::push_lines;
+pub use playing::{Ending, Played, ended, finished, first_world, report, summary};
 pub use sections::report_with_clients;

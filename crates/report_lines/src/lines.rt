@@ -259,7 +259,7 @@ fn push_event(alloc: Global, text: &mut String, number: usize, event: &Event) ->
 }
 
 /// Adds the lines of the step with this number.
-pub(crate) fn push_lines(
+pub fn push_lines(
     alloc: Global,
     text: &mut String,
     number: usize,

@@ -36,7 +36,7 @@ pub struct Played<K> {
 }
 
 /// The first world of a script over these keepers, which are cleared, or how its run ended before its first step.
-pub(crate) fn first_world<T: SpelledData<Kind = Kind, Op = Op>, K: Keeper + Drop>(
+pub fn first_world<T: SpelledData<Kind = Kind, Op = Op>, K: Keeper + Drop>(
     alloc: Global,
     members: u8,
     keys: &Items<ScriptKey>,
@@ -97,7 +97,9 @@ fn plain_steps<T: SpelledData<Kind = Kind, Op = Op>, K: Keeper + Drop>(
     for (i, step) in steps.iter().enumerate() {
         match step {
             RunStep::Plain(step) => plain_step(alloc, text, i + 1, step, world)?,
-            RunStep::Threads { .. } => unreachable!(),
+            RunStep::Threads { .. } | RunStep::Subscribe { .. } | RunStep::Unsubscribe { .. } => {
+                unreachable!()
+            }
         }
     }
     Ok(())
@@ -115,7 +117,9 @@ fn untold_steps<T: SpelledData<Kind = Kind, Op = Op>, K: Keeper + Drop>(
     for step in steps {
         match step {
             RunStep::Plain(step) => drop(world.step(step)?),
-            RunStep::Threads { .. } => unreachable!(),
+            RunStep::Threads { .. } | RunStep::Subscribe { .. } | RunStep::Unsubscribe { .. } => {
+                unreachable!()
+            }
         }
     }
     Ok(())
@@ -135,7 +139,7 @@ fn push_block<T: SpelledData<Kind = Kind, Op = Op>, K: Keeper + Drop>(
 }
 
 /// A run that ended so in this world.
-fn ended<T: SpelledData<Kind = Kind, Op = Op>, K: Keeper + Drop>(
+pub fn ended<T: SpelledData<Kind = Kind, Op = Op>, K: Keeper + Drop>(
     ending: Ending,
     world: World<T, K>,
 ) -> Played<K>
@@ -147,7 +151,7 @@ fn ended<T: SpelledData<Kind = Kind, Op = Op>, K: Keeper + Drop>(
 }
 
 /// The end of a run with these lines: what each member holds is told after them.
-pub(crate) fn finished<T: SpelledData<Kind = Kind, Op = Op>, K: Keeper + Drop>(
+pub fn finished<T: SpelledData<Kind = Kind, Op = Op>, K: Keeper + Drop>(
     alloc: Global,
     text: String,
     world: World<T, K>,

@@ -1,6 +1,7 @@
 ghost use Rattle.std.specs.Prelude.{◌≡◌, [], length, string_bytes, All, MatchResult};
 ghost use Rattle.script_reading.specs.declared.clients.RunStep.TheVariants as form;
-ghost use Rattle.script_reading.specs.WellFormed.{AreClients, IsStep, IsRunStep, IsWellFormed};
+ghost use Rattle.script_reading.specs.declared.clients.Clients.{Clients};
+ghost use Rattle.script_reading.specs.WellFormed.{AreClients, IsAllowed, IsStep, IsRunStep, IsWellFormed};
 ghost use Rattle.world_members.specs.Threads.{GivesBack};
 ghost use Rattle.report_lines.specs.Kept.{IsPlayed, IsReportOver};
 ghost use Rattle.report_lines.specs.Telling.{TellsStep, TellsSteps};
@@ -90,7 +91,8 @@ fn one_step<
 ) -> Result<World<T, K>, Vec<K>>
 where
     T::Delta: Send,
-    requires { IsRunStep step.now }
+    requires step { IsRunStep step.now }
+    requires allowed { IsAllowed Clients.Allowed step.now }
     ensures { MatchResult result (λ new. TellsStep T.SpelledData.own number step.now world new (string_bytes text.old) (string_bytes text.new)) (λ keepers. GivesBack world keepers.items) }
 {
     match step {
@@ -98,6 +100,7 @@ where
         RunStep::Threads { clients } => {
             threads_told(rt, alloc, gate, text, number, clients.as_slice(), world)
         }
+        RunStep::Subscribe { .. } | RunStep::Unsubscribe { .. } => unreachable!(),
     }
 }
 
@@ -118,6 +121,7 @@ fn steps_told<
 where
     T::Delta: Send,
     requires steps { All IsRunStep steps.now }
+    requires allowed { All (IsAllowed Clients.Allowed) steps.now }
     requires empty { string_bytes text.now ≡ [] }
     ensures { MatchResult result (λ new. TellsSteps T.SpelledData.own steps.now first new (string_bytes text.new)) (λ keepers. GivesBack first keepers.items) }
 {
@@ -131,7 +135,7 @@ where
     Ok(world)
 }
 
-/// Plays a script that may have clients as `report` plays one without them, and tells its report. The clients of a thread step
+/// Plays a script that may have thread steps as `report` plays one without them, and tells its report. The clients of a thread step
 /// are at work in threads of the runtime, and their calls pass the gate.
 pub fn report_with_clients<
     T: SpelledData<Kind = Kind, Op = Op> + Send,
@@ -142,6 +146,7 @@ pub fn report_with_clients<
 where
     T::Delta: Send,
     requires script { IsWellFormed script.now }
+    requires allowed { All (IsAllowed Clients.Allowed) script.now.steps }
     requires keepers { length keepers.items ≡ 8 }
     ensures { IsPlayed K.Keeper.own (IsReportOver T.data_type T.history_byte T.history_spelled K.Keeper.own) script.now keepers.items result.keepers.items result.ending }
 {

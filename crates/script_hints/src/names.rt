@@ -53,6 +53,10 @@ impl Names {
             "install" => Some(Names::new("an install", &["do", "at", "view"], &[])),
             "settle" => Some(Names::new("a settle", &["do"], &[])),
             "threads" => Some(Names::new("a threads step", &["do", "clients"], &[])),
+            "subscribe" => Some(Names::new("a subscribe", &["do", "at", "client", "key"], &[])),
+            "unsubscribe" => {
+                Some(Names::new("an unsubscribe", &["do", "at", "client", "key"], &[]))
+            }
             _ => None,
         }
     }

@@ -33,6 +33,11 @@ const MOMENT: Wanted = Wanted::Whole {
     high: LAST_MOMENT,
 };
 
+const CLIENT: Wanted = Wanted::Whole {
+    low: 0,
+    high: LAST_NUMBER,
+};
+
 /// The numbers of rule 7, each with the greatest that it may be, in the order in which they are read.
 const NUMBERS: [(&str, u64); 8] = [
     ("at", LAST_IDENTITY),
@@ -57,6 +62,7 @@ pub(crate) fn step_wrong<'v>(rule: u8, step: &'v Value, more: &[&str]) -> Option
         11 => length_wrong(step),
         12 => level_wrong(step),
         14 => Some(Wrong::Clients),
+        15 => Some(Wrong::under(step, "client", CLIENT)),
         _ => None,
     }
 }

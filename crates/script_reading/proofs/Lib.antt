@@ -1,3 +1,4 @@
+mod Allowances
 mod Lists
 mod Names
 mod Openings

@@ -4,7 +4,7 @@ use Rattle.std.proofs.lemmas.List.Elements.{All-nil, All-push, All-pop}
 use Rattle.serde_json.specs.Data.{Data, Items, no_items, item}
 use Rattle.script_reading.specs.declared.clients.Clients.TheVariants.{Allowed, Refused}
 use Rattle.script_reading.specs.declared.clients.RunStep.{RunStep}
-use Rattle.script_reading.specs.declared.clients.RunStep.TheVariants.{Plain, Threads}
+use Rattle.script_reading.specs.declared.clients.RunStep.TheVariants.{Plain, Threads, Subscribe, Unsubscribe}
 use Rattle.script_reading.specs.declared.fault.Rule.{Rule}
 use Rattle.script_reading.specs.declared.script.Script.{Script}
 use Rattle.script_reading.specs.declared.script.ScriptKey.{ScriptKey}
@@ -23,20 +23,24 @@ bound (Err r) f b h = absurd (cc h)
 form_refused : (x : Result RunStep Rule) (r : Rule) (s : RunStep) → (x >>= if_allowed Refused r) ≡ Ok s → ((x >>= if_allowed Allowed r) ≡ Ok s) × IsAllowed Refused s
 form_refused (Ok (Plain step)) r s h = (h, let same : Plain step ≡ s = cc h in subst (IsAllowed Refused) same tt)
 form_refused (Ok (Threads clients)) r s h = absurd (cc h)
+form_refused (Ok (Subscribe at client key)) r s h = absurd (cc h)
+form_refused (Ok (Unsubscribe at client key)) r s h = absurd (cc h)
 form_refused (Err e) r s h = absurd (cc h)
 
 form_allowed : (x : Result RunStep Rule) (r : Rule) (s : RunStep) → (x >>= if_allowed Allowed r) ≡ Ok s → IsAllowed Refused s → (x >>= if_allowed Refused r) ≡ Ok s
 form_allowed (Ok (Plain step)) r s h none = h
 form_allowed (Ok (Threads clients)) r s h none = absurd (let same : s ≡ Threads clients = sym (cc h) in subst (IsAllowed Refused) same none)
+form_allowed (Ok (Subscribe at client key)) r s h none = absurd (cc h)
+form_allowed (Ok (Unsubscribe at client key)) r s h none = absurd (cc h)
 form_allowed (Err e) r s h none = absurd (cc h)
 
 step_refused : (n : ℕ) (d : Data) (s : RunStep) → step_of Refused n d ≡ Ok s → (step_of Allowed n d ≡ Ok s) × IsAllowed Refused s
-unfolding step_of
-step_refused n d s h = form_refused (form_of n d) (rule n 14) s h
+unfolding step_of form_of
+step_refused n d s h = form_refused (form_of Refused n d) (rule n 14) s h
 
 step_allowed : (n : ℕ) (d : Data) (s : RunStep) → step_of Allowed n d ≡ Ok s → IsAllowed Refused s → step_of Refused n d ≡ Ok s
-unfolding step_of
-step_allowed n d s h none = form_allowed (form_of n d) (rule n 14) s h none
+unfolding step_of form_of
+step_allowed n d s h none = form_allowed (form_of Allowed n d) (rule n 14) s h none
 
 -- ALL STEPS
 

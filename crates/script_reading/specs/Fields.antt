@@ -123,6 +123,10 @@ has_names names optional d = (name_count (as_object d) == length names + count_b
 abbrev pub names_of : ℕ → List (List ℕ) → List (List ℕ) → Data → Result ⊤ Rule
 names_of step names optional d = guard (rule step 6) (has_names names optional d)
 
+-- the same, where of the names so many were looked up
+abbrev pub given_names : ℕ → Bool → ℕ → List (List ℕ) → Data → Result ⊤ Rule
+given_names step are_given count more d = guard (rule step 6) ((name_count (as_object d) == count + count_by (is_given d) more) && are_given)
+
 -- ---- what a reader returns
 
 -- What was returned is what reading gives.

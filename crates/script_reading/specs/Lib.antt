@@ -1,7 +1,9 @@
 pub mod Fields
 pub mod Levels
 pub mod Operations
+pub mod Followers
 pub mod Forms
+pub mod Allowances
 pub mod Clients
 pub mod Reading
 pub mod Refusals

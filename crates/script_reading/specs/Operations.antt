@@ -22,15 +22,19 @@ op_named name =
     if bytes_eq name (codes "delete") then Some Delete else
     None))))))
 
+-- the names that are an operation's own
+abbrev pub own_names : OpName → List (List ℕ)
+own_names Increment = codes "by" ∷ []
+own_names Decrement = codes "by" ∷ []
+own_names Add = codes "element" ∷ []
+own_names Remove = codes "element" ∷ []
+own_names Enable = []
+own_names Assign = codes "now" ∷ codes "text" ∷ []
+own_names Delete = []
+
 -- the names of an update with this operation
 abbrev pub update_names : OpName → List (List ℕ)
-update_names Increment = codes "at" ∷ codes "by" ∷ codes "do" ∷ codes "key" ∷ codes "op" ∷ []
-update_names Decrement = codes "at" ∷ codes "by" ∷ codes "do" ∷ codes "key" ∷ codes "op" ∷ []
-update_names Add = codes "at" ∷ codes "do" ∷ codes "element" ∷ codes "key" ∷ codes "op" ∷ []
-update_names Remove = codes "at" ∷ codes "do" ∷ codes "element" ∷ codes "key" ∷ codes "op" ∷ []
-update_names Enable = codes "at" ∷ codes "do" ∷ codes "key" ∷ codes "op" ∷ []
-update_names Assign = codes "at" ∷ codes "do" ∷ codes "key" ∷ codes "now" ∷ codes "op" ∷ codes "text" ∷ []
-update_names Delete = codes "at" ∷ codes "do" ∷ codes "key" ∷ codes "op" ∷ []
+update_names form = codes "at" ∷ codes "do" ∷ codes "key" ∷ codes "op" ∷ own_names form
 
 -- the element that an update names: a text, and then a short one
 unfoldable pub element_of : ℕ → Data → Result (List ℕ) Rule

@@ -9,34 +9,41 @@ use Rattle.model_kinds.specs.declared.kind.Kind.{Kind}
 use Rattle.model_kinds.specs.declared.kind.Kind.TheVariants.{GCounter, PnCounter, GSet, Flag, LwwRegister, OrSet}
 use Rattle.script_reading.specs.declared.fault.Rule.{Rule}
 use Rattle.script_reading.specs.declared.clients.Clients.{Clients}
-use Rattle.script_reading.specs.declared.clients.Clients.TheVariants.{Allowed, Refused}
 use Rattle.script_reading.specs.declared.clients.RunStep.{RunStep}
 use Rattle.script_reading.specs.declared.clients.RunStep.TheVariants.{Plain, Threads}
 use Rattle.script_reading.specs.declared.script.Script.{Script}
 use Rattle.script_reading.specs.declared.script.ScriptKey.{ScriptKey}
 use Rattle.script_reading.specs.Fields.{rule, ◌>>=◌, guard, required, are_objects, has_names, flag_of, whole_of, text_of, list_of, key_of}
 pub use Rattle.script_reading.specs.Forms.{update_of, get_of, flush_of, gossip_of, deliver_of, lose_of, round_of, tick_of, timeout_of, remove_of, join_of, restart_of, install_of, settle_of, plain_of}
+use Rattle.script_reading.specs.Allowances.{may_have}
 use Rattle.script_reading.specs.Clients.{threads_of}
+use Rattle.script_reading.specs.Followers.{subscribe_of, unsubscribe_of}
 
 -- ---- steps
 
+abbrev pub threads_step_of : ℕ → Data → Result RunStep Rule
+threads_step_of step d = threads_of step d >>= (λ clients. Ok (Threads clients))
+
+abbrev pub plain_step_of : ℕ → Data → Result RunStep Rule
+plain_step_of step d = plain_of [] step d >>= (λ plain. Ok (Plain plain))
+
 -- a step, with clients or without
-abbrev pub form_by : ℕ → Data → List ℕ → Result RunStep Rule
-form_by step d name =
-    if bytes_eq name (codes "threads") then threads_of step d >>= (λ clients. Ok (Threads clients)) else
-    plain_of [] step d >>= (λ plain. Ok (Plain plain))
+abbrev pub form_by : Clients → ℕ → Data → List ℕ → Result RunStep Rule
+form_by clients step d name =
+    if bytes_eq name (codes "threads") then threads_step_of step d else (
+    if bytes_eq name (codes "subscribe") then subscribe_of clients step d else (
+    if bytes_eq name (codes "unsubscribe") then unsubscribe_of clients step d else
+    plain_step_of step d))
 
-unfoldable pub form_of : ℕ → Data → Result RunStep Rule
-form_of step d = text_of (rule step 5) (get (codes "do") d) >>= form_by step d
+unfoldable pub form_of : Clients → ℕ → Data → Result RunStep Rule
+form_of clients step d = text_of (rule step 5) (get (codes "do") d) >>= form_by clients step d
 
--- a thread step stands in no script that may have no clients
+-- a step with clients stands in no script that may have none such
 abbrev pub if_allowed : Clients → Rule → RunStep → Result RunStep Rule
-if_allowed clients rule (Plain step) = Ok (Plain step)
-if_allowed Allowed rule (Threads clients) = Ok (Threads clients)
-if_allowed Refused rule (Threads clients) = Err rule
+if_allowed clients rule step = if may_have clients step then Ok step else Err rule
 
 unfoldable pub step_of : Clients → ℕ → Data → Result RunStep Rule
-step_of clients step d = form_of step d >>= if_allowed clients (rule step 14)
+step_of clients step d = form_of clients step d >>= if_allowed clients (rule step 14)
 
 -- the steps, after those before them
 unfoldable pub steps_after : Clients → List RunStep → Items → Result (List RunStep) Rule

@@ -1,17 +1,18 @@
 -- The bounds that every script keeps.
-use Rattle.std.specs.Prelude.{◌≢◌, ℕ, ◌-◌, ◌^◌, ◌<◌, ◌≤◌, List, length, All, AllPairs, ⊤}
+use Rattle.std.specs.Prelude.{◌≢◌, ℕ, ◌-◌, ◌^◌, ◌<◌, ◌≤◌, List, length, All, AllPairs, MatchBool, ⊤}
 use Rattle.model_history.specs.Table.{identity_limit}
 use Rattle.model_kinds.specs.declared.operation.Op.{Op}
 use Rattle.model_kinds.specs.declared.operation.Op.TheVariants.{Increment, Decrement, Add, Remove, Enable, Assign, Delete}
 use Rattle.member_quorum.specs.declared.level.Level.{Level}
 use Rattle.member_quorum.specs.declared.level.Level.TheVariants as level
+use Rattle.script_reading.specs.Allowances.{may_have}
 use Rattle.script_reading.specs.Clients.{count_of}
 use Rattle.script_reading.specs.declared.clients.Command.{Command}
 use Rattle.script_reading.specs.declared.clients.Repeated.{Repeated}
 use Rattle.script_reading.specs.declared.clients.Clients.{Clients}
-use Rattle.script_reading.specs.declared.clients.Clients.TheVariants.{Allowed, Refused}
+use Rattle.script_reading.specs.declared.clients.Clients.TheVariants.{Refused}
 use Rattle.script_reading.specs.declared.clients.RunStep.{RunStep}
-use Rattle.script_reading.specs.declared.clients.RunStep.TheVariants.{Plain, Threads}
+use Rattle.script_reading.specs.declared.clients.RunStep.TheVariants.{Plain, Threads, Subscribe, Unsubscribe}
 use Rattle.script_reading.specs.declared.script.Script.{Script}
 use Rattle.script_reading.specs.declared.script.ScriptKey.{ScriptKey}
 use Rattle.script_reading.specs.declared.script.Step.{Step}
@@ -96,12 +97,12 @@ pub record AreClients (clients : List (List Repeated)) : Type 0 where
 abbrev pub IsRunStep : RunStep → Type 0
 IsRunStep (Plain step) = IsStep step
 IsRunStep (Threads clients) = AreClients clients
+IsRunStep (Subscribe at client key) = IsIdentity at
+IsRunStep (Unsubscribe at client key) = IsIdentity at
 
--- it has no clients, where none are allowed
+-- it has no clients but such as are allowed
 abbrev pub IsAllowed : Clients → RunStep → Type 0
-IsAllowed clients (Plain step) = ⊤
-IsAllowed Allowed (Threads clients) = ⊤
-IsAllowed Refused (Threads clients) = ⊥
+IsAllowed clients step = MatchBool (may_have clients step) ⊤ ⊥
 
 abbrev pub HasNoClients : Script → Type 0
 HasNoClients script = All (IsAllowed Refused) script.steps

@@ -1,9 +1,9 @@
-ghost use Rattle.std.specs.Prelude.{◌≡◌, ◌<◌, ◌≤◌, ◌++◌, codes, map, Some, is_some, IfOk, length};
+ghost use Rattle.std.specs.Prelude.{◌≡◌, ◌<◌, ◌≤◌, ◌++◌, codes, map, Some, is_some, option_map, IfOk, length};
 ghost use Rattle.std.specs.List.{list_all, count_by};
 ghost use Rattle.serde_json.specs.Find.{get, as_object};
 ghost use Rattle.serde_json.specs.Events.{items_len};
 ghost use Rattle.serde_json.specs.View.{view, items_view};
-ghost use Rattle.script_reading.specs.Fields.{Finds, whole_of, identity_of, place_of, number_of, amount_of, moment_of, text_of, if_short, array_of, list_of, key_of, is_key_byte, is_key_name, are_objects, is_given, if_given, flag_of, has_names, names_of, name_count};
+ghost use Rattle.script_reading.specs.Fields.{Finds, whole_of, identity_of, place_of, number_of, amount_of, moment_of, text_of, if_short, array_of, list_of, key_of, is_key_byte, is_key_name, are_objects, is_given, if_given, flag_of, has_names, names_of, given_names, name_count};
 ghost use Rattle.script_reading.specs.WellFormed.{IsIdentity, IsPlace, IsAmount, IsMoment, IsShort};
 
 use crate::fault::Rule;
@@ -27,14 +27,42 @@ pub const LAST_PLACE: u64 = 7;
 /// The greatest number of a message on a link, of a view, and of an operation that a step names.
 pub const LAST_NUMBER: u64 = 0xffff_ffff;
 
+/// What stands under a name. To look it up is dear, so what is read twice is looked up once.
+pub fn found<'v>(value: &'v Value, name: &str) -> Option<&'v Value>
+    ensures value { option_map (λ v. view v.now) result ≡ get name.now (view value.now) }
+    ensures given { is_some result ≡ is_given (view value.now) name.now }
+{
+    value.get(name)
+}
+
+/// The whole number that stands there, if it is within the bounds.
+fn whole_in(field: Option<&Value>, low: u64, high: u64, rule: Rule) -> Result<u64, Rule>
+    ensures value { result ≡ whole_of rule low high (option_map (λ v. view v.now) field.entry) }
+    ensures bounds { IfOk result (λ n. (low ≤ n) × (n ≤ high)) }
+{
+    match field.and_then(Value::as_u64) {
+        Some(n) if low <= n && n <= high => Ok(n),
+        _ => Err(rule),
+    }
+}
+
 /// The whole number under a name, if it is within the bounds.
 pub fn whole(value: &Value, name: &str, low: u64, high: u64, rule: Rule) -> Result<u64, Rule>
     ensures value { result ≡ whole_of rule low high (get name.now (view value.now)) }
     ensures bounds { IfOk result (λ n. (low ≤ n) × (n ≤ high)) }
 {
-    match value.get(name).and_then(Value::as_u64) {
-        Some(n) if low <= n && n <= high => Ok(n),
-        _ => Err(rule),
+    whole_in(found(value, name), low, high, rule)
+}
+
+/// The identity that stands there.
+pub fn identity_in(field: Option<&Value>, step: u32) -> Result<Id, Rule>
+    ensures value { result ≡ identity_of step (option_map (λ v. view v.now) field.entry) }
+    ensures bounds { IfOk result IsIdentity }
+{
+    let rule = Rule { step, number: 7 };
+    match Id::new(whole_in(field, 0, LAST_IDENTITY, rule)? as u8) {
+        Some(id) => Ok(id),
+        None => Err(rule),
     }
 }
 
@@ -43,11 +71,7 @@ pub fn identity(value: &Value, name: &str, step: u32) -> Result<Id, Rule>
     ensures value { result ≡ identity_of step (get name.now (view value.now)) }
     ensures bounds { IfOk result IsIdentity }
 {
-    let rule = Rule { step, number: 7 };
-    match Id::new(whole(value, name, 0, LAST_IDENTITY, rule)? as u8) {
-        Some(id) => Ok(id),
-        None => Err(rule),
-    }
+    identity_in(found(value, name), step)
 }
 
 /// The place of a step.
@@ -110,14 +134,21 @@ pub fn moment(value: &Value, name: &str, step: u32) -> Result<Moment, Rule>
     }
 }
 
+/// The text that stands there.
+pub fn text_in<'v>(field: Option<&'v Value>, rule: Rule) -> Result<&'v str, Rule>
+    ensures { Finds (λ text. text.now) result (text_of rule (option_map (λ v. view v.now) field.entry)) }
+{
+    match field.and_then(Value::as_str) {
+        Some(text) => Ok(text),
+        None => Err(rule),
+    }
+}
+
 /// The text under a name.
 pub fn text<'v>(value: &'v Value, name: &str, rule: Rule) -> Result<&'v str, Rule>
     ensures { Finds (λ text. text.now) result (text_of rule (get name.now (view value.now))) }
 {
-    match value.get(name).and_then(Value::as_str) {
-        Some(text) => Ok(text),
-        None => Err(rule),
-    }
+    text_in(found(value, name), rule)
 }
 
 /// The text itself, if it is short enough for an element.
@@ -151,11 +182,11 @@ pub fn is_key_name(text: &str) -> bool
     1 <= count && count <= 32 && has_key_bytes(text)
 }
 
-/// The key's name under a name.
-pub fn key(value: &Value, name: &str, rule: Rule) -> Result<Text, Rule>
-    ensures { result ≡ key_of rule (get name.now (view value.now)) }
+/// The key's name that stands there.
+pub fn key_in(field: Option<&Value>, rule: Rule) -> Result<Text, Rule>
+    ensures { result ≡ key_of rule (option_map (λ v. view v.now) field.entry) }
 {
-    let text = text(value, name, rule)?;
+    let text = text_in(field, rule)?;
     if !is_key_name(text) {
         return Err(rule);
     }
@@ -163,6 +194,13 @@ pub fn key(value: &Value, name: &str, rule: Rule) -> Result<Text, Rule>
         Ok(key) => Ok(key),
         Err(_) => unreachable!(),
     }
+}
+
+/// The key's name under a name.
+pub fn key(value: &Value, name: &str, rule: Rule) -> Result<Text, Rule>
+    ensures { result ≡ key_of rule (get name.now (view value.now)) }
+{
+    key_in(found(value, name), rule)
 }
 
 fn are_given(value: &Value, names: &[&str]) -> bool
@@ -205,6 +243,24 @@ fn has_names_of(value: &Value, names: &[&str], optional: &[&str], more: &[&str])
 {
     let known = names.len() + (given_count(value, optional) + given_count(value, more));
     name_count(value) == known && are_given(value, names)
+}
+
+/// The names of a step, of which so many were looked up, and which may have some more.
+pub fn given_names(
+    value: &Value,
+    are_given: bool,
+    count: usize,
+    more: &[&str],
+    step: u32,
+) -> Result<(), Rule>
+    requires { count ≤ 64 }
+    ensures { result ≡ given_names step are_given count (map (λ name. name.now) more.now) (view value.now) }
+{
+    if name_count(value) == count + given_count(value, more) && are_given {
+        Ok(())
+    } else {
+        Err(Rule { step, number: 6 })
+    }
 }
 
 /// The names of a step. The optional ones are in two lists.

@@ -1,11 +1,16 @@
-ghost use Rattle.std.specs.Prelude.{◌≡◌, map, IfOk};
+ghost use Rattle.std.specs.Prelude.{◌≡◌, codes, map, true, Ok, IfOk};
+ghost use Rattle.serde_json.specs.Find.{get};
 ghost use Rattle.serde_json.specs.View.{view};
-ghost use Rattle.script_reading.specs.Forms.{update_of, get_of, flush_of, gossip_of, deliver_of, lose_of, round_of, tick_of, timeout_of, remove_of, join_of, restart_of, install_of, settle_of, plain_of};
+ghost use Rattle.script_reading.specs.Fields.{rule, text_of, is_given};
+ghost use Rattle.script_reading.specs.Forms.{update_of, get_of, flush_of, gossip_of, deliver_of, lose_of, round_of, tick_of, timeout_of, remove_of, join_of, restart_of, install_of, settle_of, step_by, plain_of};
 ghost use Rattle.script_reading.specs.WellFormed.{IsStep};
 
 use crate::ask::Ask;
 use crate::fault::Rule;
-use crate::fields::{identity, index, key, number, place, step_names, text};
+use crate::fields::{
+    found, given_names, identity, identity_in, index, key_in, number, place, step_names, text,
+    text_in,
+};
 use crate::levels::level;
 use crate::operations::{op_named, operation, update_names};
 use crate::script::Step;
@@ -13,42 +18,59 @@ use serde_json::Value;
 
 #[tactic(auto, unfolding(crate::specs::Forms::update_of))]
 fn update(step: u32, value: &Value, more: &[&str]) -> Result<Step, Rule>
+    requires { is_given (view value.now) (codes "do") ≡ true }
     ensures value { result ≡ update_of (map (λ name. name.now) more.now) step (view value.now) }
     ensures bounds { IfOk result IsStep }
 {
-    let name = text(value, "op", Rule { step, number: 5 })?;
-    let Some(form) = op_named(name) else {
-        return Err(Rule { step, number: 5 });
+    let rule = Rule { step, number: 5 };
+    let named = found(value, "op");
+    let Some(form) = op_named(text_in(named, rule)?) else {
+        return Err(rule);
     };
-    update_names(value, form, more, step)?;
-    let at = identity(value, "at", step)?;
-    let key = key(value, "key", Rule { step, number: 8 })?;
+    let (at, key, said) = (
+        found(value, "at"),
+        found(value, "key"),
+        found(value, "level"),
+    );
+    let are_given = at.is_some() && (key.is_some() && named.is_some());
+    update_names(value, form, are_given, said.is_some(), more, step)?;
+    let at = identity_in(at, step)?;
+    let key = key_in(key, Rule { step, number: 8 })?;
     let op = operation(step, form, value)?;
-    let level = level(value, step)?;
+    let level = level(said, step)?;
     let ask = Ask::Update { key, op, level };
     Ok(Step::Ask { at, ask })
 }
 
-#[tactic(auto, unfolding(crate::specs::Forms::get_of))]
+#[tactic(auto, using(crate::proofs::Names::get_names), unfolding(crate::specs::Forms::get_of))]
 fn get(step: u32, value: &Value, more: &[&str]) -> Result<Step, Rule>
+    requires { is_given (view value.now) (codes "do") ≡ true }
     ensures value { result ≡ get_of (map (λ name. name.now) more.now) step (view value.now) }
     ensures bounds { IfOk result IsStep }
 {
-    step_names(value, &["at", "do", "key"], &["level"], more, step)?;
-    let at = identity(value, "at", step)?;
-    let key = key(value, "key", Rule { step, number: 8 })?;
-    let level = level(value, step)?;
+    let (at, key, said) = (
+        found(value, "at"),
+        found(value, "key"),
+        found(value, "level"),
+    );
+    let count = if said.is_some() { 4 } else { 3 };
+    given_names(value, at.is_some() && key.is_some(), count, more, step)?;
+    let at = identity_in(at, step)?;
+    let key = key_in(key, Rule { step, number: 8 })?;
+    let level = level(said, step)?;
     let ask = Ask::Get { key, level };
     Ok(Step::Ask { at, ask })
 }
 
-#[tactic(auto, unfolding(crate::specs::Forms::flush_of))]
+#[tactic(auto, using(crate::proofs::Names::flush_names), unfolding(crate::specs::Forms::flush_of))]
 fn flush(step: u32, value: &Value, more: &[&str]) -> Result<Step, Rule>
+    requires { is_given (view value.now) (codes "do") ≡ true }
     ensures value { result ≡ flush_of (map (λ name. name.now) more.now) step (view value.now) }
     ensures bounds { IfOk result IsStep }
 {
-    step_names(value, &["at", "do"], &[], more, step)?;
-    let at = identity(value, "at", step)?;
+    let at = found(value, "at");
+    given_names(value, at.is_some(), 2, more, step)?;
+    let at = identity_in(at, step)?;
     Ok(Step::Ask {
         at,
         ask: Ask::Flush,
@@ -171,13 +193,14 @@ fn settle(step: u32, value: &Value) -> Result<Step, Rule>
     Ok(Step::Settle)
 }
 
-/// A step that a script makes by itself. One that clients may be given too may have more names.
-#[tactic(auto, unfolding(crate::specs::Forms::plain_of))]
-pub fn plain(step: u32, value: &Value, more: &[&str]) -> Result<Step, Rule>
-    ensures value { result ≡ plain_of (map (λ name. name.now) more.now) step (view value.now) }
+/// The step of a form, by what stands under `do`.
+#[tactic(auto, using(crate::proofs::Names::given_if_read))]
+pub fn named(step: u32, name: &str, value: &Value, more: &[&str]) -> Result<Step, Rule>
+    requires { text_of (rule step 5) (get (codes "do") (view value.now)) ≡ Ok name.now }
+    ensures value { result ≡ step_by (map (λ name. name.now) more.now) step (view value.now) name.now }
     ensures bounds { IfOk result IsStep }
 {
-    match text(value, "do", Rule { step, number: 5 })? {
+    match name {
         "update" => update(step, value, more),
         "get" => get(step, value, more),
         "flush" => flush(step, value, more),
@@ -194,4 +217,18 @@ pub fn plain(step: u32, value: &Value, more: &[&str]) -> Result<Step, Rule>
         "settle" => settle(step, value),
         _ => Err(Rule { step, number: 5 }),
     }
+}
+
+/// A step that a script makes by itself. One that clients may be given too may have more names.
+#[tactic(auto, unfolding(crate::specs::Forms::plain_of))]
+pub fn plain(step: u32, value: &Value, more: &[&str]) -> Result<Step, Rule>
+    ensures value { result ≡ plain_of (map (λ name. name.now) more.now) step (view value.now) }
+    ensures bounds { IfOk result IsStep }
+{
+    named(
+        step,
+        text(value, "do", Rule { step, number: 5 })?,
+        value,
+        more,
+    )
 }

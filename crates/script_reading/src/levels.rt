@@ -1,5 +1,4 @@
-ghost use Rattle.std.specs.Prelude.{◌≡◌, codes, IfOk};
-ghost use Rattle.serde_json.specs.Find.{get};
+ghost use Rattle.std.specs.Prelude.{◌≡◌, option_map, IfOk};
 ghost use Rattle.serde_json.specs.View.{view};
 ghost use Rattle.script_reading.specs.Levels.{level_named, level_in, level_of};
 ghost use Rattle.script_reading.specs.WellFormed.{IsLevel};
@@ -42,11 +41,11 @@ fn level_in(value: &Value, rule: Rule) -> Result<Level, Rule>
 
 /// The level of a step. One that is left out is local.
 #[tactic(auto, unfolding(crate::specs::Levels::level_of))]
-pub fn level(value: &Value, step: u32) -> Result<Level, Rule>
-    ensures value { result ≡ level_of step (get (codes "level") (view value.now)) }
+pub fn level(field: Option<&Value>, step: u32) -> Result<Level, Rule>
+    ensures value { result ≡ level_of step (option_map (λ v. view v.now) field.entry) }
     ensures bounds { IfOk result IsLevel }
 {
-    let Some(said) = value.get("level") else {
+    let Some(said) = field else {
         return Ok(Level::Local);
     };
     let rule = Rule { step, number: 12 };

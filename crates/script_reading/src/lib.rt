@@ -19,6 +19,7 @@ mod clients;
 mod commands;
 mod fault;
 mod fields;
+mod followers;
 mod forms;
 mod keys;
 mod laws;

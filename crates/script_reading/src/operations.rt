@@ -1,11 +1,12 @@
-ghost use Rattle.std.specs.Prelude.{◌≡◌, ◌∷◌, codes, map, IfOk};
+ghost use Rattle.std.specs.Prelude.{◌≡◌, ◌≤◌, [], ◌∷◌, codes, length, map, IfOk};
+ghost use Rattle.std.specs.List.{list_all};
 ghost use Rattle.serde_json.specs.View.{view};
-ghost use Rattle.script_reading.specs.Fields.{names_of};
-ghost use Rattle.script_reading.specs.Operations.{op_named, update_names, element_of, assign_of, op_of};
+ghost use Rattle.script_reading.specs.Fields.{is_given, names_of};
+ghost use Rattle.script_reading.specs.Operations.{op_named, own_names, update_names, element_of, assign_of, op_of};
 ghost use Rattle.script_reading.specs.WellFormed.{IsOperation, IsShort};
 
 use crate::fault::Rule;
-use crate::fields::{amount, moment, short, step_names, text};
+use crate::fields::{amount, found, given_names, moment, short, text};
 use base_bytes::Text;
 use model_kinds::Op;
 use serde_json::Value;
@@ -38,42 +39,48 @@ pub fn op_named(name: &str) -> Option<OpName>
     }
 }
 
-/// The names of an update with this operation.
-pub fn update_names(value: &Value, form: OpName, more: &[&str], step: u32) -> Result<(), Rule>
-    ensures { result ≡ names_of step (update_names form) (codes "level" ∷ map (λ name. name.now) more.now) (view value.now) }
+/// Whether the names that are the operation's own are given.
+fn own_are_given(value: &Value, form: OpName) -> bool
+    ensures { result ≡ list_all (is_given (view value.now)) (own_names form) }
+{
+    let given = |name: &str| found(value, name).is_some();
+    match form {
+        OpName::Increment | OpName::Decrement => given("by"),
+        OpName::Add | OpName::Remove => given("element"),
+        OpName::Assign => given("now") && given("text"),
+        OpName::Enable | OpName::Delete => true,
+    }
+}
+
+/// How many names are the operation's own.
+fn own_count(form: OpName) -> usize
+    ensures count { result ≡ length (own_names form) }
+    ensures few { result ≤ 2 }
 {
     match form {
-        OpName::Increment | OpName::Decrement => {
-            step_names(
-                value,
-                &["at", "by", "do", "key", "op"],
-                &["level"],
-                more,
-                step,
-            )
-        }
-        OpName::Add | OpName::Remove => {
-            step_names(
-                value,
-                &["at", "do", "element", "key", "op"],
-                &["level"],
-                more,
-                step,
-            )
-        }
-        OpName::Enable | OpName::Delete => {
-            step_names(value, &["at", "do", "key", "op"], &["level"], more, step)
-        }
-        OpName::Assign => {
-            step_names(
-                value,
-                &["at", "do", "key", "now", "op", "text"],
-                &["level"],
-                more,
-                step,
-            )
-        }
+        OpName::Increment | OpName::Decrement | OpName::Add | OpName::Remove => 1,
+        OpName::Assign => 2,
+        OpName::Enable | OpName::Delete => 0,
     }
+}
+
+/// The names of an update with this operation. Whether those of all updates are given, and a level, was looked up.
+#[tactic(auto, using(crate::proofs::Names::update_names_given))]
+pub fn update_names(
+    value: &Value,
+    form: OpName,
+    are_given: bool,
+    has_level: bool,
+    more: &[&str],
+    step: u32,
+) -> Result<(), Rule>
+    requires given { are_given ≡ list_all (is_given (view value.now)) (codes "at" ∷ codes "do" ∷ codes "key" ∷ codes "op" ∷ []) }
+    requires level { has_level ≡ is_given (view value.now) (codes "level") }
+    ensures { result ≡ names_of step (update_names form) (codes "level" ∷ map (λ name. name.now) more.now) (view value.now) }
+{
+    let are_given = are_given && own_are_given(value, form);
+    let count = if has_level { 5 } else { 4 } + own_count(form);
+    given_names(value, are_given, count, more, step)
 }
 
 /// The element of an update.

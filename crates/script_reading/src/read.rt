@@ -111,7 +111,7 @@ fn json(alloc: Global, bytes: &[u8]) -> Result<Value, ScriptError>
     }
 }
 
-/// The script that the bytes spell, with clients where these are allowed.
+/// The script that the bytes spell, with steps of clients where these are allowed.
 ///
 /// # Errors
 ///

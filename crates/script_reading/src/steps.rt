@@ -1,14 +1,17 @@
-ghost use Rattle.std.specs.Prelude.{◌≡◌, ◌+◌, ◌≤◌, [], length, All, IfOk};
+ghost use Rattle.std.specs.Prelude.{◌≡◌, ◌+◌, ◌≤◌, [], codes, length, All, Ok, IfOk};
 ghost use Rattle.serde_json.specs.View.{view, items_view};
-ghost use Rattle.script_reading.specs.Fields.{Gives};
-ghost use Rattle.script_reading.specs.Reading.{form_of, if_allowed, step_of, steps_after};
+ghost use Rattle.serde_json.specs.Find.{get};
+ghost use Rattle.script_reading.specs.Fields.{rule, text_of, Gives};
+ghost use Rattle.script_reading.specs.Reading.{threads_step_of, plain_step_of, form_of, if_allowed, step_of, steps_after};
+ghost use Rattle.script_reading.specs.Allowances.{have_threads, follow_keys, may_have};
 ghost use Rattle.script_reading.specs.WellFormed.{IsRunStep, IsAllowed};
 
 use crate::clients::{Clients, RunStep};
 use crate::commands::threads;
 use crate::fault::{Fault, Rule};
 use crate::fields::text;
-use crate::forms::plain;
+use crate::followers::{subscribe, unsubscribe};
+use crate::forms::named;
 use base_bytes::Items;
 use serde_json::Value;
 use std::alloc::Global;
@@ -16,42 +19,93 @@ use std::alloc::Global;
 /// A script has at most so many steps.
 pub const MOST_STEPS: usize = 4096;
 
-/// A step of a script, with clients or without.
-#[tactic(auto, unfolding(crate::specs::Reading::form_of))]
-fn form(alloc: Global, step: u32, value: &Value) -> Result<RunStep, Fault>
-    ensures value { Gives (λ s. s) result (form_of step (view value.now)) }
+/// A step with clients that are at work at once.
+fn threads_step(alloc: Global, step: u32, value: &Value) -> Result<RunStep, Fault>
+    ensures value { Gives (λ s. s) result (threads_step_of step (view value.now)) }
     ensures bounds { IfOk result IsRunStep }
 {
-    if text(value, "do", Rule { step, number: 5 })? == "threads" {
-        let clients = threads(alloc, step, value)?;
-        return Ok(RunStep::Threads { clients });
+    let clients = threads(alloc, step, value)?;
+    Ok(RunStep::Threads { clients })
+}
+
+/// A step that the script makes by itself, of this form.
+#[tactic(auto, unfolding(crate::specs::Forms::plain_of))]
+fn plain_step(step: u32, name: &str, value: &Value) -> Result<RunStep, Rule>
+    requires { text_of (rule step 5) (get (codes "do") (view value.now)) ≡ Ok name.now }
+    ensures value { result ≡ plain_step_of step (view value.now) }
+    ensures bounds { IfOk result IsRunStep }
+{
+    Ok(RunStep::Plain(named(step, name, value, &[])?))
+}
+
+/// A step of a script, with clients or without.
+#[tactic(auto, unfolding(crate::specs::Reading::form_of))]
+fn form(alloc: Global, clients: Clients, step: u32, value: &Value) -> Result<RunStep, Fault>
+    ensures value { Gives (λ s. s) result (form_of clients step (view value.now)) }
+    ensures bounds { IfOk result IsRunStep }
+{
+    match text(value, "do", Rule { step, number: 5 })? {
+        "threads" => threads_step(alloc, step, value),
+        "subscribe" => Ok(subscribe(clients, step, value)?),
+        "unsubscribe" => Ok(unsubscribe(clients, step, value)?),
+        name => Ok(plain_step(step, name, value)?),
     }
-    Ok(RunStep::Plain(plain(step, value, &[])?))
+}
+
+/// Whether clients may be at work at once.
+fn have_threads(clients: Clients) -> bool
+    ensures { result ≡ have_threads clients }
+{
+    match clients {
+        Clients::Allowed => true,
+        Clients::Refused | Clients::Following => false,
+    }
+}
+
+/// Whether clients may follow keys.
+fn follow_keys(clients: Clients) -> bool
+    ensures { result ≡ follow_keys clients }
+{
+    match clients {
+        Clients::Following => true,
+        Clients::Allowed | Clients::Refused => false,
+    }
+}
+
+/// Whether the script may have the step.
+fn may_have(clients: Clients, form: &RunStep) -> bool
+    ensures { result ≡ may_have clients form.now }
+{
+    match form {
+        RunStep::Plain(_) => true,
+        RunStep::Threads { .. } => have_threads(clients),
+        RunStep::Subscribe { .. } | RunStep::Unsubscribe { .. } => follow_keys(clients),
+    }
 }
 
 /// The step, if the script may have it.
+#[tactic(auto, using(crate::proofs::Allowances::is_allowed))]
 fn allowed(clients: Clients, form: RunStep, rule: Rule) -> Result<RunStep, Rule>
     ensures value { result ≡ if_allowed clients rule form }
     ensures bounds { IfOk result (λ step. step ≡ form) }
     ensures allowed { IfOk result (IsAllowed clients) }
 {
-    match (clients, form) {
-        (Clients::Refused, RunStep::Threads { clients }) => {
-            drop(clients);
-            Err(rule)
-        }
-        (_, form) => Ok(form),
+    if may_have(clients, &form) {
+        Ok(form)
+    } else {
+        drop(form);
+        Err(rule)
     }
 }
 
-/// A step of a script that may have clients or may not.
+/// A step of a script that may have these clients.
 #[tactic(auto, unfolding(crate::specs::Reading::step_of))]
 fn one_step(alloc: Global, clients: Clients, step: u32, value: &Value) -> Result<RunStep, Fault>
     ensures value { Gives (λ s. s) result (step_of clients step (view value.now)) }
     ensures bounds { IfOk result IsRunStep }
     ensures allowed { IfOk result (IsAllowed clients) }
 {
-    let form = form(alloc, step, value)?;
+    let form = form(alloc, clients, step, value)?;
     Ok(allowed(clients, form, Rule { step, number: 14 })?)
 }
 

@@ -2,7 +2,7 @@
 use Rattle.std.specs.Prelude.{◌≡◌, ℕ, ◌≤◌, List, [], ◌∷◌, map, codes, decimal, String, string_bytes, ⊤, Option, None, Some}
 use Rattle.std.specs.declared.alloc.Global.{Global}
 use Rattle.script_reading.specs.declared.clients.Clients.{Clients}
-use Rattle.script_reading.specs.declared.clients.Clients.TheVariants.{Allowed, Refused}
+use Rattle.script_reading.specs.declared.clients.Clients.TheVariants.{Allowed, Refused, Following}
 use Rattle.top_call.specs.declared.words.Asked.{Asked}
 use Rattle.top_call.specs.declared.words.Asked.TheVariants.{Report, Generate, Summarize, Behind, Upgrade, Check}
 
@@ -18,8 +18,9 @@ most_period = 64
 abbrev pub IsCount : ℕ → List ℕ → Type 0
 IsCount n word = (word ≡ decimal n) × (1 ≤ n) × (n ≤ most_steps)
 
--- its number of steps is one that a script is generated with, and its number of stores one that are handed on together
+-- its number of steps is one that a script is generated with, its number of stores one that are handed on together, and no client follows a key
 abbrev pub IsCounted : Asked → Type 0
+IsCounted (Report Following) = ⊥
 IsCounted (Report clients) = ⊤
 IsCounted (Generate n) = (1 ≤ n) × (n ≤ most_steps)
 IsCounted (Summarize n) = (1 ≤ n) × (n ≤ most_steps)
@@ -56,6 +57,8 @@ abbrev pub Ask : (served : Clients) → Asked → List (List ℕ) → Type 0
 Ask served (Report Refused) texts = texts ≡ codes "plain" ∷ []
 Ask Allowed (Report Allowed) texts = texts ≡ codes "run" ∷ []
 Ask Refused (Report Allowed) texts = ⊥
+Ask Following (Report Allowed) texts = ⊥
+Ask served (Report Following) texts = ⊥
 Ask served (Generate n) texts = (texts ≡ codes "gen" ∷ decimal n ∷ []) × (1 ≤ n) × (n ≤ most_steps)
 Ask served (Summarize n) texts = (texts ≡ codes "sum" ∷ decimal n ∷ []) × (1 ≤ n) × (n ≤ most_steps)
 Ask served (Behind n) texts = (texts ≡ codes "behind" ∷ decimal n ∷ []) × (1 ≤ n) × (n ≤ most_period)

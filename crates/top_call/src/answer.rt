@@ -193,7 +193,7 @@ fn due_for<S: Source, K: Keeper + Drop>(
 {
     match asked {
         Asked::Report(Clients::Refused) => report_due(alloc, source, keepers),
-        Asked::Report(Clients::Allowed) => unreachable!(),
+        Asked::Report(Clients::Allowed | Clients::Following) => unreachable!(),
         Asked::Generate(n) => Answer {
             due: script_due(alloc, n),
             keepers,

@@ -1,6 +1,6 @@
-ghost use Rattle.std.specs.Prelude.{◌≡◌, ◌≤◌, length, IfSome};
+ghost use Rattle.std.specs.Prelude.{◌≡◌, ◌≤◌, length, All, IfSome};
 ghost use Rattle.script_reading.specs.declared.clients.Clients.{Clients};
-ghost use Rattle.script_reading.specs.WellFormed.{IsWellFormed};
+ghost use Rattle.script_reading.specs.WellFormed.{IsAllowed, IsWellFormed};
 ghost use Rattle.report_lines.specs.Kept.{AreKept, IsPlayed};
 ghost use Rattle.top_call.specs.Answers.{IsReportOver};
 ghost use Rattle.top_call.specs.Asking.{IsCounted, ReadsNothing};
@@ -28,6 +28,7 @@ fn play_run<R: Threads + Wait + Sync, K: Keeper + Drop + Send>(
     keepers: Vec<K>,
 ) -> Played<K>
     requires script { IsWellFormed script.now }
+    requires allowed { All (IsAllowed Clients.Allowed) script.now.steps }
     requires keepers { length keepers.items ≡ 8 }
     ensures { IsPlayed K.Keeper.own (IsReportOver K.Keeper.own) script.now keepers.items result.keepers.items result.ending }
 {

@@ -2,7 +2,7 @@
 --     command_of, commands_of        the commands of a client, as those of the model
 --     run_step_of        a step of a script that may have clients, as that of the model
 --     PlaysSection        the clients' lines and the world after them are those of a section, with the answers that the keepers gave
-use Rattle.std.specs.Prelude.{ℕ, List, map, slice_get}
+use Rattle.std.specs.Prelude.{ℕ, List, [], map, slice_get}
 use Rattle.std.specs.List.{AllZip}
 use Rattle.model_history.specs.Texts.{Text}
 use Rattle.model_members.specs.Node as nodes
@@ -41,9 +41,12 @@ repeated_of c = record { command = command_of c.command; times = c.times }
 abbrev pub commands_of : List Repeated → List (sections.Command Op)
 commands_of commands = sections.commands_of (map repeated_of commands)
 
+-- where a client follows a key, or follows it no more, nobody is at work
 abbrev pub run_step_of : RunStep → runs.RunStep Op
 run_step_of (form.Plain step) = runs.RunStep.Plain (step_of step)
 run_step_of (form.Threads clients) = runs.RunStep.Threads (map commands_of clients)
+run_step_of (form.Subscribe at client key) = runs.RunStep.Threads []
+run_step_of (form.Unsubscribe at client key) = runs.RunStep.Threads []
 
 -- A THREAD STEP
 
