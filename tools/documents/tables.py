@@ -20,13 +20,18 @@ KINDS = ["gcounter", "pncounter", "gset", "flag", "lwwregister", "orset"]
 SAMPLES = {
     "at": 0, "to": 0, "from": 0, "id": 0, "place": 1, "index": 0, "view": 0, "key": "n", "op": 0,
     "level": "all", "clients": [[{"do": "flush", "at": 0}]], "by": 1, "element": "x", "text": "x",
-    "now": 0,
+    "now": 0, "client": 0,
 }
+
+
+def word_of(step):
+    """The word that plays a step."""
+    return "watch" if step.get("do") in ("subscribe", "unsubscribe") else "run"
 
 
 def rule_of(program, step):
     """The rule that a step breaks, or 0."""
-    status, said = program.report(script([step]))
+    status, said = program.report(script([step]), word_of(step))
     return int(said.split()[-1]) if status == 3 else 0
 
 
@@ -179,7 +184,7 @@ def broken_scripts(rule, cell):
 def broken_table(table, run):
     for line, (number, cell) in table.rows:
         rule = int(number)
-        word = "plain" if rule == 14 else "run"
+        word = {14: "plain", 15: "watch"}.get(rule, "run")
         for broken, step in broken_scripts(rule, cell):
             wanted = (3, f"not a script: step {step} rule {rule}\n")
             place = f"{table.page}:{line}"
@@ -188,8 +193,8 @@ def broken_table(table, run):
 
 def rules_table(table, run):
     # The next table and examples/refused break each.
-    run.check(table.place, [cells[0] for _, cells in table.rows] == [str(i) for i in range(1, 15)],
-              "fourteen rules in order")
+    run.check(table.place, [cells[0] for _, cells in table.rows] == [str(i) for i in range(1, 16)],
+              "fifteen rules in order")
 
 
 def lines_table(table, run):
@@ -223,7 +228,7 @@ def words_table(table, run):
     for line, (words, _) in table.rows:
         place = f"{table.page}:{line}"
         words = codes_of(words)[0].replace("N", "8").replace("P", "8").split()
-        if words[0] in ("run", "plain", "behind"):
+        if words[0] in ("run", "plain", "watch", "behind"):
             right = run.program.run(words, given)[:2] == (0, report)
         elif words == ["check"]:
             trace = TOP / "examples" / "words" / "check"

@@ -1,17 +1,42 @@
-ghost use Rattle.std.specs.Prelude.{◌≡◌, ◌∷◌, ◌++◌, map, flat_map, codes, string_bytes, OnOk, Some};
-ghost use Rattle.model_members.specs.Report.{words, reply_text, key_outcome_text};
+ghost use Rattle.std.specs.Prelude.{◌≡◌, ◌∷◌, ◌++◌, map, flat_map, codes, decimal, string_bytes, OnOk, Some};
+ghost use Rattle.model_members.specs.Report.{words, link_text, reply_text, key_outcome_text};
 ghost use Rattle.model_kinds.specs.ShownText.{shown_text};
 ghost use Rattle.member_node.specs.Members.{meant};
 ghost use Rattle.member_node.specs.Replies.{meant_at_key};
 ghost use Rattle.report_lines.specs.Lines.{sketch_text, delivered_words, outcome_text, ask_words, head_words, answer_text, sent_text, finished_text, tails_text, event_text, ending_text, client_tails_text, client_line_text};
 
-use base_bytes::Memory;
+use base_bytes::{Memory, Text};
 use base_vectors::Id;
+use itoa::Buffer;
 use member_node::{Finished, KeyOutcome, MessageKind, OperationResult, Outcome, Reply, Sketch};
 use report_texts::push_shown;
 use script_reading::Ask;
 use std::alloc::Global;
 use world_members::{Answer, ClientLine, Ended, Event, Head, SentTo};
+
+/// Adds a text.
+fn push(text: &mut String, part: &str) -> Result<(), Memory>
+    ensures { OnOk result (string_bytes text.new ≡ string_bytes text.old ++ part.now) }
+{
+    text.push_str(part)?;
+    Ok(())
+}
+
+/// Adds a number.
+fn push_digits(text: &mut String, number: usize) -> Result<(), Memory>
+    ensures { OnOk result (string_bytes text.new ≡ string_bytes text.old ++ decimal number) }
+{
+    let mut digits = Buffer::new();
+    push(text, digits.format(number))
+}
+
+/// Adds a text and a number behind it.
+fn push_number(text: &mut String, before: &str, number: usize) -> Result<(), Memory>
+    ensures { OnOk result (string_bytes text.new ≡ string_bytes text.old ++ (before.now ++ decimal number)) }
+{
+    text.push_str(before)?;
+    push_digits(text, number)
+}
 
 /// Adds what is printed of a message.
 fn push_sketch(text: &mut String, sketch: Sketch) -> Result<(), Memory>
@@ -20,25 +45,40 @@ fn push_sketch(text: &mut String, sketch: Sketch) -> Result<(), Memory>
     let first = sketch.first;
     let second = sketch.second;
     match sketch.kind {
-        MessageKind::Deltas => write!(text, "deltas/{first}/{second}")?,
-        MessageKind::Nack => write!(text, "nack/{first}")?,
-        MessageKind::Status => write!(text, "status/{first}")?,
-        MessageKind::Gossip => write!(text, "gossip/{first}/{second}")?,
-        MessageKind::Write => text.push_str("write")?,
-        MessageKind::WriteAck => text.push_str("write-ack")?,
-        MessageKind::WriteNack => text.push_str("write-nack")?,
-        MessageKind::Read => text.push_str("read")?,
-        MessageKind::ReadAnswer => text.push_str("read-answer")?,
+        MessageKind::Deltas => {
+            push_number(text, "deltas/", first)?;
+            push_number(text, "/", second)
+        }
+        MessageKind::Nack => push_number(text, "nack/", first),
+        MessageKind::Status => push_number(text, "status/", first),
+        MessageKind::Gossip => {
+            push_number(text, "gossip/", first)?;
+            push_number(text, "/", second)
+        }
+        MessageKind::Write => push(text, "write"),
+        MessageKind::WriteAck => push(text, "write-ack"),
+        MessageKind::WriteNack => push(text, "write-nack"),
+        MessageKind::Read => push(text, "read"),
+        MessageKind::ReadAnswer => push(text, "read-answer"),
     }
-    Ok(())
 }
 
-/// Adds a text.
-fn push(text: &mut String, part: &str) -> Result<(), Memory>
-    ensures { OnOk result (string_bytes text.new ≡ string_bytes text.old ++ part.now) }
+/// Adds the link of a message and its number there, behind a text.
+fn push_link(text: &mut String, before: &str, from: Id, to: Id, index: usize) -> Result<(), Memory>
+    ensures { OnOk result (string_bytes text.new ≡ string_bytes text.old ++ (before.now ++ link_text from to index)) }
 {
-    text.push_str(part)?;
-    Ok(())
+    push_number(text, before, usize::from(from.number()))?;
+    push_number(text, ">", usize::from(to.number()))?;
+    push_number(text, " ", index)
+}
+
+/// Adds a member's identity and a key, behind a text.
+fn push_at_key(text: &mut String, before: &str, at: Id, key: &Text) -> Result<(), Memory>
+    ensures { OnOk result (string_bytes text.new ≡ string_bytes text.old ++ (before.now ++ decimal at ++ codes " " ++ key.now)) }
+{
+    push_number(text, before, usize::from(at.number()))?;
+    text.push_str(" ")?;
+    push(text, key.as_str())
 }
 
 /// Adds what was delivered, after a space, if anything was.
@@ -56,14 +96,14 @@ fn push_delivered(text: &mut String, sketch: &Option<Sketch>) -> Result<(), Memo
 fn push_ask(text: &mut String, at: Id, ask: &Ask) -> Result<(), Memory>
     ensures { OnOk result (string_bytes text.new ≡ string_bytes text.old ++ words (ask_words at ask.now)) }
 {
-    let at = at.number();
+    let member = at.number();
     match ask {
-        Ask::Update { key, .. } => Ok(write!(text, "update {at} {}", key.as_str())?),
-        Ask::Get { key, .. } => Ok(write!(text, "get {at} {}", key.as_str())?),
-        Ask::Flush => Ok(write!(text, "flush {at}")?),
-        Ask::Gossip { to } => Ok(write!(text, "gossip {at} {}", to.number())?),
-        Ask::Tick => Ok(write!(text, "tick {at}")?),
-        Ask::Install { view } => Ok(write!(text, "install {at} view {view}")?),
+        Ask::Update { key, .. } => push_at_key(text, "update ", at, key),
+        Ask::Get { key, .. } => push_at_key(text, "get ", at, key),
+        Ask::Flush => push_number(text, "flush ", usize::from(member)),
+        Ask::Gossip { to } => Ok(write!(text, "gossip {member} {}", to.number())?),
+        Ask::Tick => Ok(write!(text, "tick {member}")?),
+        Ask::Install { view } => Ok(write!(text, "install {member} view {view}")?),
     }
 }
 
@@ -79,12 +119,10 @@ fn push_head(text: &mut String, head: &Head) -> Result<(), Memory>
             index,
             sketch,
         } => {
-            write!(text, "deliver {}>{} {index}", from.number(), to.number())?;
+            push_link(text, "deliver ", *from, *to, *index)?;
             push_delivered(text, sketch)
         }
-        Head::Lose { from, to, index } => {
-            Ok(write!(text, "lose {}>{} {index}", from.number(), to.number())?)
-        }
+        Head::Lose { from, to, index } => push_link(text, "lose ", *from, *to, *index),
         Head::Round => push(text, "round"),
         Head::Timeout { at, op } => Ok(write!(text, "timeout {} {op}", at.number())?),
         Head::Remove { id } => Ok(write!(text, "remove {}", id.number())?),
@@ -199,8 +237,8 @@ fn push_sent(text: &mut String, sent: &[SentTo]) -> Result<(), Memory>
     }
     text.push_str(" sent")?;
     for post in sent {
-        let to = post.to.number();
-        write!(text, " {to}:")?;
+        push_number(text, " ", usize::from(post.to.number()))?;
+        text.push_str(":")?;
         push_sketch(text, post.sketch)?;
     }
     Ok(())
@@ -249,7 +287,8 @@ fn push_tails(alloc: Global, text: &mut String, event: &Event) -> Result<(), Mem
 fn push_event(alloc: Global, text: &mut String, number: usize, event: &Event) -> Result<(), Memory>
     ensures { OnOk result (string_bytes text.new ≡ string_bytes text.old ++ event_text number event.now) }
 {
-    write!(text, "{number} ")?;
+    push_digits(text, number)?;
+    text.push_str(" ")?;
     push_head(text, &event.head)?;
     text.push_str(" ")?;
     push_answer(alloc, text, &event.answer)?;

@@ -6,7 +6,7 @@ use crate::place::Place;
 use crate::steps::{is_given_out_of, step_wrong};
 use crate::wanted::Wanted;
 use crate::wrong::{Part, Wrong};
-use script_reading::{MOST_CLIENTS, MOST_COMMANDS, MOST_TIMES, plain};
+use script_reading::{Clients, MOST_CLIENTS, MOST_COMMANDS, MOST_TIMES, plain};
 use serde_json::Value;
 
 const COMMAND: Wanted = Wanted::Named("update, get, flush, gossip, tick or install");
@@ -119,7 +119,7 @@ fn command_wrong(step: u32, value: &Value) -> Option<(Wrong<'_>, Rules)> {
     }
     match plain(step, value, MORE) {
         Err(rule) => {
-            let wrong = step_wrong(rule.number, value, MORE)?;
+            let wrong = step_wrong(Clients::Allowed, rule.number, value, MORE)?;
             Some((wrong, Rules::OfCommand(rule.number)))
         }
         Ok(_) if is_given_out_of(value, "times", 1, MOST_TIMES) => {

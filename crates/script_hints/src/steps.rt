@@ -4,7 +4,9 @@ use crate::fault::{Bounds, Fault};
 use crate::names::Names;
 use crate::wanted::Wanted;
 use crate::wrong::{Part, Wrong};
-use script_reading::{LAST_IDENTITY, LAST_MOMENT, LAST_NUMBER, LAST_PLACE, MOST_ADDED, MOST_NAMED};
+use script_reading::{
+    Clients, LAST_IDENTITY, LAST_MOMENT, LAST_NUMBER, LAST_PLACE, MOST_ADDED, MOST_NAMED,
+};
 use serde_json::Value;
 
 /// The most bytes of a key name.
@@ -15,6 +17,11 @@ const MOST_TEXT_BYTES: usize = 64;
 
 const STEP: Wanted = Wanted::Named(
     "update, get, flush, gossip, deliver, lose, round, tick, timeout, remove, join, restart, install, settle or threads",
+);
+
+/// A step of a script whose clients follow keys.
+const WATCHED: Wanted = Wanted::Named(
+    "update, get, flush, gossip, deliver, lose, round, tick, timeout, remove, join, restart, install, settle, subscribe or unsubscribe",
 );
 
 const OPERATION: Wanted = Wanted::Named(
@@ -51,9 +58,14 @@ const NUMBERS: [(&str, u64); 8] = [
 ];
 
 /// What is wrong with a step that breaks this rule. It may have some more names.
-pub(crate) fn step_wrong<'v>(rule: u8, step: &'v Value, more: &[&str]) -> Option<Wrong<'v>> {
+pub(crate) fn step_wrong<'v>(
+    clients: Clients,
+    rule: u8,
+    step: &'v Value,
+    more: &[&str],
+) -> Option<Wrong<'v>> {
     match rule {
-        5 => Some(form_wrong(step)),
+        5 => Some(form_wrong(clients, step)),
         6 => Names::of_step(step)?.wrong_in(step, more),
         7 => number_wrong(step),
         8 => key_name_wrong(step, Part::KeyName),
@@ -68,9 +80,11 @@ pub(crate) fn step_wrong<'v>(rule: u8, step: &'v Value, more: &[&str]) -> Option
 }
 
 /// What is wrong with the `do` of a step, or else with the `op` of an update.
-fn form_wrong(step: &Value) -> Wrong<'_> {
+fn form_wrong(clients: Clients, step: &Value) -> Wrong<'_> {
     match step.get("do").and_then(Value::as_str) {
         Some("update") => Wrong::under(step, "op", OPERATION),
+        Some("subscribe" | "unsubscribe") => Wrong::Followers,
+        _ if clients == Clients::Following => Wrong::under(step, "do", WATCHED),
         _ => Wrong::under(step, "do", STEP),
     }
 }

@@ -21,7 +21,7 @@ pub fn hint(alloc: Global, clients: Clients, bytes: &[u8]) -> Option<String>
 {
     match read_script(alloc, clients, bytes) {
         Ok(_) => None,
-        Err(error) => told(alloc, bytes, error),
+        Err(error) => told(alloc, clients, bytes, error),
     }
 }
 
@@ -36,12 +36,12 @@ pub fn slip(alloc: Global, bytes: &[u8]) -> Option<String> {
 }
 
 /// What is told of bytes that were refused so.
-fn told(alloc: Global, bytes: &[u8], error: ScriptError) -> Option<String>
+fn told(alloc: Global, clients: Clients, bytes: &[u8], error: ScriptError) -> Option<String>
     ensures { IsSome result → IsOfBytes error }
 {
     match error {
         ScriptError::NotJson => not_json(alloc, bytes),
-        ScriptError::NotAScript { step, rule } => not_a_script(alloc, bytes, step, rule),
+        ScriptError::NotAScript { step, rule } => not_a_script(alloc, clients, bytes, step, rule),
         ScriptError::Memory => None,
     }
 }
@@ -58,14 +58,20 @@ fn not_json(alloc: Global, bytes: &[u8]) -> Option<String> {
 }
 
 /// Where the JSON text breaks the rule, and by what.
-fn not_a_script(alloc: Global, bytes: &[u8], step: u32, rule: u8) -> Option<String> {
+fn not_a_script(
+    alloc: Global,
+    clients: Clients,
+    bytes: &[u8],
+    step: u32,
+    rule: u8,
+) -> Option<String> {
     let script = Value::from_slice(alloc, bytes).ok()?;
-    let broken = broken(&script, step, rule)?;
+    let broken = broken(clients, &script, step, rule)?;
     format!(in alloc; "not a script: {broken}").ok()
 }
 
 /// Where a script breaks the rule at the step, and by what.
-fn broken(script: &Value, step: u32, rule: u8) -> Option<Broken<'_>> {
+fn broken(clients: Clients, script: &Value, step: u32, rule: u8) -> Option<Broken<'_>> {
     if step == 0 {
         let (place, wrong) = script_wrong(rule, script)?;
         return Some(Broken {
@@ -81,7 +87,7 @@ fn broken(script: &Value, step: u32, rule: u8) -> Option<Broken<'_>> {
     }
     Some(Broken {
         place: Place::Step(step),
-        wrong: step_wrong(rule, value, &[])?,
+        wrong: step_wrong(clients, rule, value, &[])?,
         rules: Rules::One(rule),
     })
 }

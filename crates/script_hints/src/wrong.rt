@@ -17,8 +17,10 @@ pub(crate) enum Wrong<'v> {
     Part(Part, Fault<'v>),
     /// What stands at the place is not as it has to be.
     Itself(Fault<'v>),
-    /// The script may have no clients.
+    /// The script may have no clients at work at once.
     Clients,
+    /// The script may have no clients that follow keys.
+    Followers,
 }
 
 /// A part of an object.
@@ -80,6 +82,9 @@ impl fmt::Display for Wrong<'_> {
             Wrong::Part(part, fault) => write!(f, "{part} {fault}"),
             Wrong::Itself(fault) => write!(f, "{fault}"),
             Wrong::Clients => f.write_str(r#"only the word "run" plays a step with clients"#),
+            Wrong::Followers => {
+                f.write_str(r#"only the word "watch" plays a step by which a client follows a key"#)
+            }
         }
     }
 }

@@ -276,7 +276,7 @@ module _ {Op : Type 0} (assigned : Op → Option Assignment) (H : History Op) (h
   abbrev last_top : ℕ
   last_top = last_newest assigned H
 
-  same_top : top ≡ last_top
+  pub same_top : top ≡ last_top
   same_top =
       let up : top ≤ last_top = fold_within (map (timestamp assigned H) (all_records H)) 0 last_top (none_below last_top) (λ n m.
       let f = from_map (timestamp assigned H) (all_records H) n m in

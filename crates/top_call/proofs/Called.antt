@@ -1,5 +1,5 @@
 -- What is due, and what is written and told of it, is what a call that serves words promises.
-use Rattle.std.proofs.Common.{◌≡◌, ℕ, zero, suc, ◌+◌, ◌<◌, ◌≤◌, ◌⊎◌, inl, inr, List, [], ◌∷◌, ◌++◌, length, length-append, append-nil, String, Global, string_bytes, arith, refl, sym, ap, subst, ◌∙◌, None, Some, Ok, Err, MatchResult}
+use Rattle.std.proofs.Common.{◌≡◌, ℕ, zero, suc, ◌+◌, ◌<◌, ◌≤◌, ◌⊎◌, inl, inr, List, [], ◌∷◌, ◌++◌, length, length-append, append-nil, String, Global, string_bytes, arith, refl, sym, ap, subst, ◌∙◌, None, Some}
 use Rattle.std.specs.Prelude.{◌↔◌, codes, slice_get}
 use Rattle.std.proofs.lemmas.Option.{none-some, same_Some}
 use Rattle.std.specs.Io.KnownBytes.{Appends, Consumes}
@@ -27,7 +27,10 @@ use Rattle.top_call.specs.declared.due.Due.TheVariants.{Fulfilled, Upgraded, Not
 use Rattle.top_call.specs.declared.status.Status.{Status}
 use Rattle.top_call.specs.declared.status.Status.TheVariants as status
 use Rattle.top_call.specs.declared.words.Asked.{Asked}
-use Rattle.top_call.specs.declared.words.Asked.TheVariants.{Report, Generate, Summarize, Behind, Upgrade, Check}
+use Rattle.top_call.specs.declared.words.Asked.TheVariants.{Report, Generate, Summarize, Behind, Upgrade, Trace, Check}
+use Rattle.top_call.specs.Tracing.{TracedCallsFor}
+use Rattle.top_call.proofs.SpelledScripts.{spells_json, breaks_json, spells_breaks}
+use Rattle.top_call.proofs.TracedScripts.{traced_runs, no_traced_json, traced_called, long_traced_calls}
 use Rattle.top_call.proofs.Judgements.{trace_calls, long_trace_calls}
 use Rattle.top_call.proofs.Entries.{entry_calls, no_entry_calls, length_calls}
 
@@ -54,38 +57,23 @@ grown before text (Some all) h = ap Some h
 
 -- WHAT BYTES CALL FOR
 
-ok_err : {A B : Type 0} (x : A) (y : B) → Ok x ≡ Err y → ⊥
-ok_err x y e = subst (λ r. MatchResult r (λ _. Unit {0}) (λ _. ⊥)) e tt
-
 module _ (clients : Clients) (bytes : List ℕ) where
-  -- bytes that spell a script, break a rule or have no reading do one of these alone
-  spells_json : (script : Script) → Spells clients bytes script → HasNoReading bytes → ⊥
-  spells_json script h none = none-some h.0 (sym (none h.1.0) ∙ h.1.1)
-
-  breaks_json : (rule : Rule) → Breaks clients bytes rule → HasNoReading bytes → ⊥
-  breaks_json rule h none = none-some h.0 (sym (none h.1.0) ∙ h.1.1)
-
-  spells_breaks : (script : Script) (rule : Rule) → Spells clients bytes script → Breaks clients bytes rule → ⊥
-  spells_breaks script rule h k =
-      let same : h.0 ≡ k.0 = same_Some h.0 k.0 (sym h.1.1 ∙ k.1.1) in
-      ok_err script rule (sym h.2 ∙ rw same k.2)
-
   -- what status a script calls for
   script_runs : (script : Script) (wanted : Status) → length bytes ≤ limit → Spells clients bytes script → ScriptCallsFor clients bytes wanted → status.Done ≡ wanted
   script_runs script _ within h (calls.done other short k) = refl
-  script_runs script _ within h (calls.not_json short k) = absurd (spells_json script h k)
-  script_runs script _ within h (calls.not_a_script rule short k) = absurd (spells_breaks script rule h k)
+  script_runs script _ within h (calls.not_json short k) = absurd (spells_json clients bytes script h k)
+  script_runs script _ within h (calls.not_a_script rule short k) = absurd (spells_breaks clients bytes script rule h k)
   script_runs script _ within h (calls.too_long long) = absurd (omega arith)
 
   json_called : (wanted : Status) → length bytes ≤ limit → HasNoReading bytes → ScriptCallsFor clients bytes wanted → status.NotJson ≡ wanted
-  json_called _ within h (calls.done script short k) = absurd (spells_json script k h)
+  json_called _ within h (calls.done script short k) = absurd (spells_json clients bytes script k h)
   json_called _ within h (calls.not_json short k) = refl
-  json_called _ within h (calls.not_a_script rule short k) = absurd (breaks_json rule k h)
+  json_called _ within h (calls.not_a_script rule short k) = absurd (breaks_json clients bytes rule k h)
   json_called _ within h (calls.too_long long) = absurd (omega arith)
 
   script_called : (rule : Rule) (wanted : Status) → length bytes ≤ limit → Breaks clients bytes rule → ScriptCallsFor clients bytes wanted → status.NotAScript ≡ wanted
-  script_called rule _ within h (calls.done script short k) = absurd (spells_breaks script rule k h)
-  script_called rule _ within h (calls.not_json short k) = absurd (breaks_json rule h k)
+  script_called rule _ within h (calls.done script short k) = absurd (spells_breaks clients bytes script rule k h)
+  script_called rule _ within h (calls.not_json short k) = absurd (breaks_json clients bytes rule h k)
   script_called rule _ within h (calls.not_a_script other short k) = refl
   script_called rule _ within h (calls.too_long long) = absurd (omega arith)
 
@@ -99,11 +87,13 @@ module _ (clients : Clients) (bytes : List ℕ) where
 module _ {K : Type 0} (keeping : Keeping K) (bytes : List ℕ) where
   made_calls : (asked : Asked) (reads : Reads) (before after : List K) (text : List ℕ) (wanted : Status) → length bytes ≤ limit → IsOfBytes keeping asked reads bytes before after text → CallsFor reads bytes wanted → status.Done ≡ wanted
   made_calls asked (Reads.AScript clients) before after text wanted within h call = script_runs clients bytes h.script wanted within h.spelled call
+  made_calls asked Reads.AnUnsettledScript before after text wanted within h call = traced_runs bytes h.script wanted within h.spells call
   made_calls asked Reads.AnEntry before after text wanted within h call = entry_calls bytes h.0.parts wanted within h.0.is call
   made_calls asked Reads.ATrace before after text wanted within h call = trace_calls bytes judged.Lawful wanted within h.0 call
 
   long_calls : (reads : Reads) (wanted : Status) → limit < length bytes → CallsFor reads bytes wanted → status.TooLong ≡ wanted
   long_calls (Reads.AScript clients) wanted more call = length_called clients bytes wanted more call
+  long_calls Reads.AnUnsettledScript wanted more call = long_traced_calls bytes wanted more call
   long_calls Reads.AnEntry wanted more call = length_calls bytes wanted more call
   long_calls Reads.ATrace wanted more call = long_trace_calls bytes wanted more call
 
@@ -131,6 +121,7 @@ module _ {K : Type 0} (keeping : Keeping K) where
   fails_rise (Summarize n) place before after h = record { within = h.within; count = h.failed.count; rose = λ old new was is. (h.failed.each place old new was is refl).answered.counted }
   fails_rise (Behind n) place before after h = record { within = h.within; count = h.failed.count; rose = λ old new was is. (h.failed.each place old new was is refl).counted }
   fails_rise Upgrade place before after h = absurd h
+  fails_rise Trace place before after h = record { within = h.within; count = h.failed.count; rose = λ old new was is. (h.failed.each place old new was is refl).answered.counted }
   fails_rise Check place before after h = absurd h
 
   -- a keeper that failed to be cleared counts a fault more
@@ -176,6 +167,7 @@ module _ {K : Type 0} (keeping : Keeping K) where
     of_source (Summarize n) reads is text h = absurd (none-some reads is)
     of_source (Behind n) reads is text h = subst (λ r. IsOfSource keeping (Behind n) r read before after text) (some_same is) h
     of_source Upgrade reads is text h = subst (λ r. IsOfSource keeping Upgrade r read before after text) (some_same is) h
+    of_source Trace reads is text h = subst (λ r. IsOfSource keeping Trace r read before after text) (some_same is) h
     of_source Check reads is text h = subst (λ r. IsOfSource keeping Check r read before after text) (some_same is) h
 
     -- the bytes of a source that tells them are those that were read
@@ -197,6 +189,9 @@ module _ {K : Type 0} (keeping : Keeping K) where
       json_refused (Reads.AScript clients) h call =
           let same = told_bytes bytes h.0 told h.1 in
           json_called clients h.0 wanted h.1.within h.2 (subst (λ b. ScriptCallsFor clients b wanted) (sym same) call)
+      json_refused Reads.AnUnsettledScript h call =
+          let same = told_bytes bytes h.0 told h.1 in
+          no_traced_json h.0 wanted h.1.within h.2 (subst (λ b. TracedCallsFor b wanted) (sym same) call)
       json_refused Reads.AnEntry h call = absurd h
       json_refused Reads.ATrace h call = judged_called judged.NotJson h call
 
@@ -205,11 +200,16 @@ module _ {K : Type 0} (keeping : Keeping K) where
           let broken = h.1 in
           let same = told_bytes bytes broken.0 told broken.1 in
           script_called clients broken.0 h.0 wanted broken.1.within broken.2 (subst (λ b. ScriptCallsFor clients b wanted) (sym same) call)
+      rule_refused Reads.AnUnsettledScript text h call =
+          let broken = h.1 in
+          let same = told_bytes bytes broken.0 told broken.1 in
+          traced_called broken.0 h.0 wanted broken.1.within broken.2 (subst (λ b. TracedCallsFor b wanted) (sym same) call)
       rule_refused Reads.AnEntry text h call = absurd h
       rule_refused Reads.ATrace text h call = absurd h
 
       place_refused : (reads : Reads) (text : String Global) → IsRefusal reads read (NotAnEnvelope text) → CallsFor reads bytes wanted → status.NotAnEnvelope ≡ wanted
       place_refused (Reads.AScript clients) text h call = absurd h
+      place_refused Reads.AnUnsettledScript text h call = absurd h
       place_refused Reads.AnEntry text h call =
           let fault = h.1 in
           let same = told_bytes bytes fault.0 told fault.1 in
@@ -218,11 +218,13 @@ module _ {K : Type 0} (keeping : Keeping K) where
 
       line_refused : (reads : Reads) (text : String Global) → IsRefusal reads read (NotATrace text) → CallsFor reads bytes wanted → status.NotATrace ≡ wanted
       line_refused (Reads.AScript clients) text h call = absurd h
+      line_refused Reads.AnUnsettledScript text h call = absurd h
       line_refused Reads.AnEntry text h call = absurd h
       line_refused Reads.ATrace text h call = judged_called (judged.NotATrace h.0) h.1 call
 
       broken_refused : (reads : Reads) (text : String Global) → IsRefusal reads read (NotLawful text) → CallsFor reads bytes wanted → status.Broken ≡ wanted
       broken_refused (Reads.AScript clients) text h call = absurd h
+      broken_refused Reads.AnUnsettledScript text h call = absurd h
       broken_refused Reads.AnEntry text h call = absurd h
       broken_refused Reads.ATrace text h call = judged_called (judged.Broken h.0 h.1) h.2 call
 
@@ -322,6 +324,7 @@ module _ {K : Type 0} (keeping : Keeping K) (before after : List K) where
   come_back (Some (Summarize n)) h = untold_kept h
   come_back (Some (Behind n)) h = h
   come_back (Some Upgrade) h = untold_kept h
+  come_back (Some Trace) h = untold_kept h
   come_back (Some Check) h = untold_kept h
 
   come_back_told : (asked : Option Asked) → ((n : ℕ) → asked ≡ Some (Behind n) → ⊥) → ComeBack keeping asked before after → AreKept keeping before after
@@ -331,6 +334,7 @@ module _ {K : Type 0} (keeping : Keeping K) (before after : List K) where
   come_back_told (Some (Summarize n)) none h = h
   come_back_told (Some (Behind n)) none h = absurd (none n refl)
   come_back_told (Some Upgrade) none h = h
+  come_back_told (Some Trace) none h = h
   come_back_told (Some Check) none h = h
 
 module _ {K : Type 0} (keeping : Keeping K) (t : Traffic K) (served : Clients) (words : List (String Global)) (asked : Option Asked) (asks : (a : Asked) → (asked ≡ Some a) ↔ IsAsked served a words) where

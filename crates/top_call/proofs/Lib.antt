@@ -8,3 +8,7 @@ pub mod Judgements
 pub mod Refusals
 pub mod Settles
 pub mod Headline
+pub mod SpelledScripts
+pub mod TracedScripts
+pub mod NamedKeys
+pub mod Traceable

@@ -16,17 +16,18 @@ use Rattle.report_lines.specs.declared.playing.Ending.TheVariants as ending
 use Rattle.trace_judged.specs.Judgements.{IsJudgement}
 use Rattle.trace_judged.specs.declared.judging.Judgement.{Judgement}
 use Rattle.trace_judged.specs.declared.judging.Judgement.TheVariants as judged
-use Rattle.top_call.specs.Answers.{HasScript, IsReportOver, IsSummaryOver, IsReportBehind, IsOver, IsOfSource, Fulfils, FailsAt, AsksForRun}
+use Rattle.top_call.specs.Answers.{HasScript, IsSummaryOver, IsReportBehind, IsOver, IsOfSource, Fulfils, FailsAt, AsksForRun}
 use Rattle.top_call.specs.Asking.{Reads, reads_in}
 use Rattle.top_call.specs.Behind as behind
 use Rattle.top_call.specs.Checking.{IsJudgementDue, IsCheckDue}
 use Rattle.top_call.specs.Due.{IsUnread, IsFaultDue, IsRefusal, IsRefusedFor, IsToldBy, IsScriptDue, IsDueFor}
 use Rattle.top_call.specs.Passages.{Passage, ReadsWhole}
+use Rattle.top_call.specs.Tracing.{HasTraced, IsTraceOver}
 use Rattle.top_call.specs.Upgrading.{IsUpgradeDue}
 use Rattle.top_call.specs.declared.due.Due.{Due}
 use Rattle.top_call.specs.declared.due.Due.TheVariants.{Fulfilled, Upgraded, NotCleared, NotJson, NotAScript, NotAnEnvelope, NotATrace, NotLawful, ReadFailed, TooLong, Memory}
 use Rattle.top_call.specs.declared.words.Asked.{Asked}
-use Rattle.top_call.specs.declared.words.Asked.TheVariants.{Report, Generate, Summarize, Behind, Upgrade, Check}
+use Rattle.top_call.specs.declared.words.Asked.TheVariants.{Report, Generate, Summarize, Behind, Upgrade, Trace, Check}
 
 module _ (reads : Reads) (read : Passage) where
   pub unread_refuses : (due : Due) → IsUnread read due → IsRefusal reads read due
@@ -118,11 +119,11 @@ module _ {K : Type 0} (keeping : Keeping K) where
       record { bytes = has.bytes; is_read = has.is_read; made = record { script = script; spelled = has.spelled; allowed = has.allowed; reported = reported } }
 
   -- the report of a script that was read
-  pub played_due : (clients : Clients) (read : Passage) (script : Script) (before after : List K) (end : Ending) (due : Due) → HasScript clients read script → IsPlayed keeping (IsReportOver keeping) script before after end → IsToldBy end due → IsDueFor keeping (Report clients) read before after due
+  pub played_due : (clients : Clients) (read : Passage) (script : Script) (before after : List K) (end : Ending) (due : Due) → HasScript clients read script → IsPlayed keeping (IsOver keeping (Report clients)) script before after end → IsToldBy end due → IsDueFor keeping (Report clients) read before after due
   played_due clients read script before after end due has played told =
       ended_due (Report clients) read before after end due (script, has)
-      (λ text is. of_script (Report clients) clients read script before after (string_bytes text) has (told_so (IsReportOver keeping) script before after end played.ends text is))
-      (fails_so (IsReportOver keeping) script before after end played.ends) (λ none. absurd none) told
+      (λ text is. of_script (Report clients) clients read script before after (string_bytes text) has (told_so (IsOver keeping (Report clients)) script before after end played.ends text is))
+      (fails_so (IsOver keeping (Report clients)) script before after end played.ends) (λ none. absurd none) told
 
   -- the same where its stores were written behind
   pub played_behind : (n : ℕ) (read : Passage) (script : Script) (before after : List K) (end : Ending) (due : Due) → HasScript Refused read script → behind.IsPlayedBehind keeping (IsReportBehind keeping) script before after end → IsToldBy end due → IsDueFor keeping (Behind n) read before after due
@@ -130,6 +131,13 @@ module _ {K : Type 0} (keeping : Keeping K) where
       ended_due (Behind n) read before after end due (script, has)
       (λ text is. of_script (Behind n) Refused read script before after (string_bytes text) has (told_behind (IsReportBehind keeping) script before after end played.ends text is))
       (fails_behind (IsReportBehind keeping) script before after end played.ends) (λ none. absurd none) told
+
+  -- the trace of a script that was read
+  pub traced_due : (read : Passage) (script : Script) (before after : List K) (end : Ending) (due : Due) → HasTraced read script → IsPlayed keeping (IsTraceOver keeping) script before after end → IsToldBy end due → IsDueFor keeping Trace read before after due
+  traced_due read script before after end due has played told =
+      ended_due Trace read before after end due (script, has)
+      (λ text is. record { bytes = has.bytes; is_read = has.is_read; made = record { script = script; spells = has.spells; traced = told_so (IsTraceOver keeping) script before after end played.ends text is } })
+      (fails_so (IsTraceOver keeping) script before after end played.ends) (λ none. absurd none) told
 
   -- the end of a generated script's run
   pub summed_due : (n : ℕ) (read : Passage) (before after : List K) (end : Ending) (due : Due) → IsPlayed keeping (IsSummaryOver keeping) (generated_script n) before after end → IsToldBy end due → IsDueFor keeping (Summarize n) read before after due

@@ -9,11 +9,15 @@ use Rattle.report_lines.specs.Kept as kept
 use Rattle.report_lines.specs.Kept.{EndsSo, IsPlayed}
 use Rattle.report_lines.specs.declared.playing.Ending.{Ending}
 use Rattle.report_lines.specs.declared.playing.Ending.TheVariants.{Told, NotCleared, Memory}
-use Rattle.top_call.specs.Answers.{IsReportOver, IsSummaryOver}
+use Rattle.report_followers.specs.Followed.{IsFollowedOver}
+use Rattle.top_call.specs.Answers.{IsReportOver, IsWatchOver, IsSummaryOver}
 
 module _ {K : Type 0} (keeping : Keeping K) (script : Script) (before after : List K) where
   report_over : (text : List ℕ) → kept.IsReportOver six_kinds history_byte history_spelled keeping script before after text → IsReportOver keeping script before after text
   report_over text h = record { run = h; settles = λ plain loads. ((h.whole loads).plain plain).run.settles (λ kind owner r other entry apart. six_stay kind owner r other entry) }
+
+  watch_over : (text : List ℕ) → IsFollowedOver six_kinds history_byte history_spelled keeping script before after text → IsWatchOver keeping script before after text
+  watch_over text h = record { run = h; settles = λ loads. (h.whole loads).run.settles (λ kind owner r other entry apart. six_stay kind owner r other entry) }
 
   summary_over : (text : List ℕ) → kept.IsSummaryOver six_kinds history_byte history_spelled keeping script before after text → IsSummaryOver keeping script before after text
   summary_over text h = record { run = h; settles = λ loads. (h.whole loads).run.settles (λ kind owner r other entry apart. six_stay kind owner r other entry) }
@@ -27,6 +31,9 @@ module _ {K : Type 0} (keeping : Keeping K) (script : Script) (before after : Li
 
   pub report_played : (end : Ending) → IsPlayed keeping (kept.IsReportOver six_kinds history_byte history_spelled keeping) script before after end → IsPlayed keeping (IsReportOver keeping) script before after end
   report_played end h = record { ends = ends_so (kept.IsReportOver six_kinds history_byte history_spelled keeping) (IsReportOver keeping) report_over end h.ends; kept = h.kept }
+
+  pub watch_played : (end : Ending) → IsPlayed keeping (IsFollowedOver six_kinds history_byte history_spelled keeping) script before after end → IsPlayed keeping (IsWatchOver keeping) script before after end
+  watch_played end h = record { ends = ends_so (IsFollowedOver six_kinds history_byte history_spelled keeping) (IsWatchOver keeping) watch_over end h.ends; kept = h.kept }
 
   pub summary_played : (end : Ending) → IsPlayed keeping (kept.IsSummaryOver six_kinds history_byte history_spelled keeping) script before after end → IsPlayed keeping (IsSummaryOver keeping) script before after end
   summary_played end h = record { ends = ends_so (kept.IsSummaryOver six_kinds history_byte history_spelled keeping) (IsSummaryOver keeping) summary_over end h.ends; kept = h.kept }

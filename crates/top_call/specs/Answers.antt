@@ -6,7 +6,7 @@ use Rattle.base_outside.specs.Causes.{Rose}
 use Rattle.base_outside.specs.Transfers.{ReadsCount}
 use Rattle.member_keeper.specs.declared.keeper.Keeper.{Ghosts as Keeping}
 use Rattle.script_reading.specs.declared.clients.Clients.{Clients}
-use Rattle.script_reading.specs.declared.clients.Clients.TheVariants.{Refused}
+use Rattle.script_reading.specs.declared.clients.Clients.TheVariants.{Allowed, Refused, Following}
 use Rattle.script_reading.specs.declared.script.Script.{Script}
 use Rattle.script_reading.specs.declared.fault.Rule.{Rule}
 use Rattle.script_reading.specs.Reading.{Spells, Breaks, HasNoReading}
@@ -17,6 +17,7 @@ use Rattle.script_generated.specs.Texts.{generated_text}
 use Rattle.report_lines.specs.Kept as kept
 use Rattle.report_lines.specs.Kept.{LoadWhatTheyTook, IsNotCleared, answers_by}
 use Rattle.report_lines.specs.Run.{decl_of, in_order, steps_of}
+use Rattle.report_followers.specs.Followed.{IsFollowedOver}
 use Rattle.member_node.specs.Members.{spelled_groups}
 use Rattle.theorem_digests.specs.Digests.{SettlesAgreeByDigests}
 use Rattle.trace_judged.specs.Judgements.{IsJudgement}
@@ -25,9 +26,10 @@ use Rattle.top_call.specs.Asking.{Reads, IsAsked, AskNothing, AskToRead}
 use Rattle.top_call.specs.Behind.{IsRunBehind, IsNotClearedBehind}
 use Rattle.top_call.specs.Checking.{HasJudgement, TraceCallsFor, judgement_text}
 use Rattle.top_call.specs.Passages.{Passage, ReadsWhole, limit}
+use Rattle.top_call.specs.Tracing.{BreaksTraced, HasTraced, IsTraceOfScript, TracedCallsFor}
 use Rattle.top_call.specs.Upgrading.{EntryCallsFor, HasNoEntry, Upgrades, not_an_envelope_text}
 use Rattle.top_call.specs.declared.words.Asked.{Asked}
-use Rattle.top_call.specs.declared.words.Asked.TheVariants.{Report, Generate, Summarize, Behind, Upgrade, Check}
+use Rattle.top_call.specs.declared.words.Asked.TheVariants.{Report, Generate, Summarize, Behind, Upgrade, Trace, Check}
 use Rattle.top_call.specs.declared.status.Status.{Status}
 use Rattle.top_call.specs.declared.status.Status.TheVariants.{Done, NotJson, NotAScript, ReadFailed, WriteFailed, TooLong, Memory, ClearFailed}
 
@@ -43,12 +45,17 @@ pub record HasScript (clients : Clients) (read : Passage) (script : Script) : Ty
 -- A script or a trace was read, and the bytes are no JSON text.
 abbrev pub HasNoJson : Reads → Passage → Type 0
 HasNoJson (Reads.AScript clients) read = (bytes : List ℕ) × ReadsWhole read bytes × HasNoReading bytes
+HasNoJson Reads.AnUnsettledScript read = (bytes : List ℕ) × ReadsWhole read bytes × HasNoReading bytes
 HasNoJson Reads.AnEntry read = ⊥
 HasNoJson Reads.ATrace read = HasJudgement read judged.NotJson
 
 -- Its bytes are a JSON text that breaks this rule of scripts, and none before it.
 abbrev pub HasNoScript : Clients → Passage → Rule → Type 0
 HasNoScript clients read broken = (bytes : List ℕ) × ReadsWhole read bytes × Breaks clients bytes broken
+
+-- Its bytes are a JSON text that breaks this rule of scripts that are traced, and none before it.
+abbrev pub HasNoTraced : Passage → Rule → Type 0
+HasNoTraced read broken = (bytes : List ℕ) × ReadsWhole read bytes × BreaksTraced bytes broken
 
 -- which rule is broken, and at which step
 abbrev pub not_a_script_text : Rule → List ℕ
@@ -57,24 +64,28 @@ not_a_script_text broken = codes "not a script: step " ++ decimal broken.step ++
 -- A script was read, the bytes break a rule of scripts, and this text tells the first such rule.
 abbrev pub TellsRule : Reads → Passage → List ℕ → Type 0
 TellsRule (Reads.AScript clients) read text = (broken : Rule) × HasNoScript clients read broken × (text ≡ not_a_script_text broken)
+TellsRule Reads.AnUnsettledScript read text = (broken : Rule) × HasNoTraced read broken × (text ≡ not_a_script_text broken)
 TellsRule Reads.AnEntry read text = ⊥
 TellsRule Reads.ATrace read text = ⊥
 
 -- A stored entry was read, the bytes are none, and this text tells the place of their first fault.
 abbrev pub TellsPlace : Reads → Passage → List ℕ → Type 0
 TellsPlace (Reads.AScript clients) read text = ⊥
+TellsPlace Reads.AnUnsettledScript read text = ⊥
 TellsPlace Reads.AnEntry read text = (place : ℕ) × HasNoEntry read place × (text ≡ not_an_envelope_text place)
 TellsPlace Reads.ATrace read text = ⊥
 
 -- A trace was read, and this text tells the first line that has not its form.
 abbrev pub TellsLine : Reads → Passage → List ℕ → Type 0
 TellsLine (Reads.AScript clients) read text = ⊥
+TellsLine Reads.AnUnsettledScript read text = ⊥
 TellsLine Reads.AnEntry read text = ⊥
 TellsLine Reads.ATrace read text = (line : ℕ) × HasJudgement read (judged.NotATrace line) × (text ≡ judgement_text (judged.NotATrace line))
 
 -- A trace was read, and this text tells the first line that breaks a rule, and the least that it breaks.
 abbrev pub TellsBroken : Reads → Passage → List ℕ → Type 0
 TellsBroken (Reads.AScript clients) read text = ⊥
+TellsBroken Reads.AnUnsettledScript read text = ⊥
 TellsBroken Reads.AnEntry read text = ⊥
 TellsBroken Reads.ATrace read text = (line : ℕ) × (rule : ℕ) × HasJudgement read (judged.Broken line rule) × (text ≡ judgement_text (judged.Broken line rule))
 
@@ -95,6 +106,7 @@ AsksForRun (Generate n) read = ⊥
 AsksForRun (Summarize n) read = Unit {0}
 AsksForRun (Behind n) read = (script : Script) × HasScript Refused read script
 AsksForRun Upgrade read = ⊥
+AsksForRun Trace read = (script : Script) × HasTraced read script
 AsksForRun Check read = ⊥
 
 module _ {K : Type 0} (keeping : Keeping K) where
@@ -108,6 +120,11 @@ module _ {K : Type 0} (keeping : Keeping K) where
     pub run : kept.IsReportOver six_kinds history_byte history_spelled keeping script before after text
     pub settles : HasNoClients script → SettlesAgree script before run.given
 
+  -- The text is the report of a script's run over the keepers, with its subscriptions and notices.
+  pub record IsWatchOver (script : Script) (before after : List K) (text : List ℕ) : Type 0 where
+    pub run : IsFollowedOver six_kinds history_byte history_spelled keeping script before after text
+    pub settles : SettlesAgree script before run.given
+
   -- The text is the final block of a script's run over the keepers.
   pub record IsSummaryOver (script : Script) (before after : List K) (text : List ℕ) : Type 0 where
     pub run : kept.IsSummaryOver six_kinds history_byte history_spelled keeping script before after text
@@ -120,11 +137,14 @@ module _ {K : Type 0} (keeping : Keeping K) where
 
   -- what a text is that tells of the script's run
   abbrev pub IsOver : Asked → Script → (before after : List K) → List ℕ → Type 0
-  IsOver (Report clients) script before after text = IsReportOver script before after text
+  IsOver (Report Allowed) script before after text = IsReportOver script before after text
+  IsOver (Report Refused) script before after text = IsReportOver script before after text
+  IsOver (Report Following) script before after text = IsWatchOver script before after text
   IsOver (Generate n) script before after text = ⊥
   IsOver (Summarize n) script before after text = IsSummaryOver script before after text
   IsOver (Behind n) script before after text = IsReportBehind script before after text
   IsOver Upgrade script before after text = ⊥
+  IsOver Trace script before after text = ⊥
   IsOver Check script before after text = ⊥
 
   -- The bytes spell a script, and the text tells of the script's run over the keepers.
@@ -137,6 +157,7 @@ module _ {K : Type 0} (keeping : Keeping K) where
   -- The text is what was asked for of the bytes that were read. To upgrade an entry and to judge a trace leave the keepers as they are.
   abbrev pub IsOfBytes : Asked → Reads → (bytes : List ℕ) → (before after : List K) → List ℕ → Type 0
   IsOfBytes asked (Reads.AScript clients) bytes before after text = IsOfScript asked clients bytes before after text
+  IsOfBytes asked Reads.AnUnsettledScript bytes before after text = IsTraceOfScript keeping bytes before after text
   IsOfBytes asked Reads.AnEntry bytes before after text = Upgrades bytes text × (after ≡ before)
   IsOfBytes asked Reads.ATrace bytes before after text = IsJudgement bytes judged.Lawful × (text ≡ judgement_text judged.Lawful) × (after ≡ before)
 
@@ -160,6 +181,7 @@ module _ {K : Type 0} (keeping : Keeping K) where
   Fulfils (Summarize n) read before after text = IsSummaryOver (generated_script n) before after text
   Fulfils (Behind n) read before after text = IsOfSource (Behind n) (Reads.AScript Refused) read before after text
   Fulfils Upgrade read before after text = IsOfSource Upgrade Reads.AnEntry read before after text
+  Fulfils Trace read before after text = IsOfSource Trace Reads.AnUnsettledScript read before after text
   Fulfils Check read before after text = IsOfSource Check Reads.ATrace read before after text
 
   -- the keeper of a place failed to be cleared for the run that was asked for
@@ -169,6 +191,7 @@ module _ {K : Type 0} (keeping : Keeping K) where
   FailsAt (Summarize n) place before after = IsNotCleared keeping place before after
   FailsAt (Behind n) place before after = IsNotClearedBehind keeping place before after
   FailsAt Upgrade place before after = ⊥
+  FailsAt Trace place before after = IsNotCleared keeping place before after
   FailsAt Check place before after = ⊥
 
   -- A script's run was asked for, and the keeper of a place failed to be cleared for it; this text says so.
@@ -211,6 +234,7 @@ pub data ScriptCallsFor (clients : Clients) (bytes : List ℕ) : Status → Type
 -- by what is read
 abbrev pub CallsFor : Reads → (bytes : List ℕ) → Status → Type 0
 CallsFor (Reads.AScript clients) bytes wanted = ScriptCallsFor clients bytes wanted
+CallsFor Reads.AnUnsettledScript bytes wanted = TracedCallsFor bytes wanted
 CallsFor Reads.AnEntry bytes wanted = EntryCallsFor bytes wanted
 CallsFor Reads.ATrace bytes wanted = TraceCallsFor bytes wanted
 

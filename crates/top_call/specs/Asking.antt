@@ -4,7 +4,7 @@ use Rattle.std.specs.declared.alloc.Global.{Global}
 use Rattle.script_reading.specs.declared.clients.Clients.{Clients}
 use Rattle.script_reading.specs.declared.clients.Clients.TheVariants.{Allowed, Refused, Following}
 use Rattle.top_call.specs.declared.words.Asked.{Asked}
-use Rattle.top_call.specs.declared.words.Asked.TheVariants.{Report, Generate, Summarize, Behind, Upgrade, Check}
+use Rattle.top_call.specs.declared.words.Asked.TheVariants.{Report, Generate, Summarize, Behind, Upgrade, Trace, Check}
 
 -- the most steps that a script is generated with, its last two apart
 abbrev pub most_steps : ℕ
@@ -18,19 +18,20 @@ most_period = 64
 abbrev pub IsCount : ℕ → List ℕ → Type 0
 IsCount n word = (word ≡ decimal n) × (1 ≤ n) × (n ≤ most_steps)
 
--- its number of steps is one that a script is generated with, its number of stores one that are handed on together, and no client follows a key
+-- its number of steps is one that a script is generated with, and its number of stores one that are handed on together
 abbrev pub IsCounted : Asked → Type 0
-IsCounted (Report Following) = ⊥
 IsCounted (Report clients) = ⊤
 IsCounted (Generate n) = (1 ≤ n) × (n ≤ most_steps)
 IsCounted (Summarize n) = (1 ≤ n) × (n ≤ most_steps)
 IsCounted (Behind n) = (1 ≤ n) × (n ≤ most_period)
 IsCounted Upgrade = ⊤
+IsCounted Trace = ⊤
 IsCounted Check = ⊤
 
--- What is read from the source: a script, which may have clients or may not, a stored entry or a trace.
+-- What is read from the source: a script, which may have such clients, one without clients and settles, a stored entry or a trace.
 pub data Reads : Type 0 where
   AScript : Clients → Reads
+  AnUnsettledScript : Reads
   AnEntry : Reads
   ATrace : Reads
 
@@ -41,6 +42,7 @@ reads_in (Generate n) = None
 reads_in (Summarize n) = None
 reads_in (Behind n) = Some (Reads.AScript Refused)
 reads_in Upgrade = Some Reads.AnEntry
+reads_in Trace = Some Reads.AnUnsettledScript
 reads_in Check = Some Reads.ATrace
 
 -- No script is run for it.
@@ -50,6 +52,7 @@ RunsNothing (Generate n) = ⊤
 RunsNothing (Summarize n) = ⊥
 RunsNothing (Behind n) = ⊥
 RunsNothing Upgrade = ⊤
+RunsNothing Trace = ⊥
 RunsNothing Check = ⊤
 
 -- The texts of words ask for it. A call that serves no clients is asked for nothing by `run`.
@@ -58,11 +61,12 @@ Ask served (Report Refused) texts = texts ≡ codes "plain" ∷ []
 Ask Allowed (Report Allowed) texts = texts ≡ codes "run" ∷ []
 Ask Refused (Report Allowed) texts = ⊥
 Ask Following (Report Allowed) texts = ⊥
-Ask served (Report Following) texts = ⊥
+Ask served (Report Following) texts = texts ≡ codes "watch" ∷ []
 Ask served (Generate n) texts = (texts ≡ codes "gen" ∷ decimal n ∷ []) × (1 ≤ n) × (n ≤ most_steps)
 Ask served (Summarize n) texts = (texts ≡ codes "sum" ∷ decimal n ∷ []) × (1 ≤ n) × (n ≤ most_steps)
 Ask served (Behind n) texts = (texts ≡ codes "behind" ∷ decimal n ∷ []) × (1 ≤ n) × (n ≤ most_period)
 Ask served Upgrade texts = texts ≡ codes "upgrade" ∷ []
+Ask served Trace texts = texts ≡ codes "trace" ∷ []
 Ask served Check texts = texts ≡ codes "check" ∷ []
 
 -- what the words ask for

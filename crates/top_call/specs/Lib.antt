@@ -9,3 +9,4 @@ pub mod Serving
 pub mod Status
 pub mod Stopping
 pub mod Upgrading
+pub mod Tracing

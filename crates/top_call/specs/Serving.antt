@@ -47,8 +47,8 @@ module _ {K : Type 0} (keeping : Keeping K) (t : Traffic K) (served : Clients) (
   Cause status.ClearFailed = (asked : Asked) × (text : List ℕ) × IsAsked served asked words × CannotClear keeping asked t.read t.before t.after text × Appends t.written.old t.written.new text
 
   module _ (end : Status) where
-    -- With status `Done` what the words ask for is what the sink's new bytes are. For `plain`, `run` and `behind`, the source was read to its
-    -- end, its bytes spell a script, and they are the report of its run over the keepers; for `upgrade` they are an entry, and its format 2; for `check` a lawful trace, and `lawful`.
+    -- With status `Done` what the words ask for is what the sink's new bytes are. For `plain`, `run`, `watch` and `behind`, the source was read to its
+    -- end, its bytes spell a script, and they are the report of its run over the keepers; for `upgrade` they are an entry, and its format 2; for `check` a lawful trace, and `lawful`; for `trace` a script without clients and settles, and the trace of its run.
     pub record IsDone : Type 0 where
       pub done : (asked : Asked) → IsAsked served asked words → end ≡ status.Done → (text : List ℕ) × Fulfils keeping asked t.read t.before t.after text × Appends t.written.old t.written.new text
       -- the same of what is read, where the source tells what it has left and the sink what it took

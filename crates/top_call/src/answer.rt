@@ -11,7 +11,9 @@ ghost use Rattle.top_call.specs.declared.words.Asked.TheVariants as is_asked;
 use crate::behind::behind_due;
 use crate::checking::check_due;
 use crate::due::Due;
+use crate::tracing::trace_due;
 use crate::upgrading::upgrade_due;
+use crate::watching::watch_due;
 use crate::words::Asked;
 use base_outside::{ReadAllError, Source, read_all};
 use data_value::Data;
@@ -193,7 +195,8 @@ fn due_for<S: Source, K: Keeper + Drop>(
 {
     match asked {
         Asked::Report(Clients::Refused) => report_due(alloc, source, keepers),
-        Asked::Report(Clients::Allowed | Clients::Following) => unreachable!(),
+        Asked::Report(Clients::Allowed) => unreachable!(),
+        Asked::Report(Clients::Following) => watch_due(alloc, source, keepers),
         Asked::Generate(n) => Answer {
             due: script_due(alloc, n),
             keepers,
@@ -201,6 +204,7 @@ fn due_for<S: Source, K: Keeper + Drop>(
         Asked::Summarize(n) => summary_due(alloc, n, keepers),
         Asked::Behind(n) => behind_due(alloc, n, source, keepers),
         Asked::Upgrade => upgrade_due(alloc, source, keepers),
+        Asked::Trace => trace_due(alloc, source, keepers),
         Asked::Check => check_due(alloc, source, keepers),
     }
 }

@@ -13,6 +13,11 @@ ghost use Rattle.model_kinds.specs.declared.shown.Shown.{Shown};
 ghost use Rattle.model_members.specs.Node.{KeyDecl};
 ghost use Rattle.model_members.specs.Script.{KeeperAnswers, Playing, ScriptStep, opening};
 ghost use Rattle.theorem_sections.specs.Runs.{RunStep, IsRunStep, PlaysAll, HasReport};
+ghost use Rattle.model_kinds.specs.SixKinds.{six_kinds};
+ghost use Rattle.script_reading.specs.declared.script.Script.{Script};
+ghost use Rattle.trace_judged.specs.Judgements.{IsJudgement};
+ghost use Rattle.trace_judged.specs.declared.judging.Judgement.TheVariants as judged;
+ghost use Rattle.trace_played.specs.Traced.{IsTraceText};
 ghost use Rattle.top_call.specs.EachRun.{Lines, SettlesAreSo, TellsSettle, ReadsIncludeWrites, six};
 
 /// The headline: all that holds of each run whose report the program may write, over the six kinds and the SHA-1 of
@@ -50,4 +55,9 @@ pub fn reads_of_runs_include_writes()
         → 1 ≤ members → members ≤ identity_limit → AllByRecursion IsRunStep steps
         → (lines : Lines) (last : Playing Kind Op Shown) → PlaysAll six (opening answers members keys) steps lines last
         → ReadsIncludeWrites members keys last.events }
+{}
+
+/// What `trace` writes of a script with status 0, `check` finds lawful.
+pub fn traces_are_found_lawful()
+    ensures { (answers : KeeperAnswers) (script : Script) (text : Text) → IsTraceText six_kinds history_byte history_spelled answers script text → IsJudgement text judged.Lawful }
 {}

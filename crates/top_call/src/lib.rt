@@ -9,10 +9,14 @@ mod laws;
 mod running;
 mod status;
 mod top;
+mod tracing;
 mod upgrading;
+mod watching;
 mod words;
 
-pub use laws::{reads_of_runs_include_writes, settles_of_runs_are_so, the_headline};
+pub use laws::{
+    reads_of_runs_include_writes, settles_of_runs_are_so, the_headline, traces_are_found_lawful,
+};
 pub use status::Status;
 pub use top::{Outcome, replicate, replicate_plain};
 pub use words::Asked;

@@ -45,9 +45,11 @@ fn written<K: Sink, D>(sink: &mut K, answer: Answer<D>) -> Outcome<D>
 /// Does what the words ask for, over a keeper for each place, where no clients are run.
 ///
 /// The words are those behind the program's name. `plain` reads a script without clients from the source, runs it and writes its
-/// report to the sink; `behind N` does so too, with each keeper inside one that hands it `N` stores together. `gen N` writes a
+/// report to the sink; `watch` does so too, with clients that follow keys and are told of changes when their member flushes; and
+/// `behind N` with each keeper inside one that hands it `N` stores together. `gen N` writes a
 /// generated script of `N` steps and two, and `sum N` runs it and writes the end of its report. For these two nothing is read.
-/// `upgrade` reads a stored entry in format 1 or 2 from the source and writes it in format 2, without a newline. `check` reads a
+/// `upgrade` reads a stored entry in format 1 or 2 from the source and writes it in format 2, without a newline. `trace` reads a
+/// script without clients and settles, runs it and writes its trace. `check` reads a
 /// trace and writes that it is lawful, or the first line that breaks a rule or has not its form. Where what was asked
 /// for can't be had it writes one line that says the cause, and nothing where the source failed or memory was refused.
 pub fn replicate_plain<S: Source, K: Sink, D: Keeper + Drop>(

@@ -7,7 +7,8 @@ use script_reading::Clients;
 /// What the words of the command line ask for.
 #[derive(Clone, Copy, Debug, PartialEq, Eq)]
 pub enum Asked {
-    /// The report of the script on the source, which may have clients, by `run`, or may have none, by `plain`.
+    /// The report of the script on the source: by `run` it may have clients at work at once, by `plain` none, and by `watch` clients
+    /// that follow keys.
     Report(Clients),
     /// The generated script of so many steps, its last two apart.
     Generate(u32),
@@ -17,6 +18,8 @@ pub enum Asked {
     Behind(u8),
     /// The stored entry on the source, in format 2.
     Upgrade,
+    /// The trace of the script on the source, which may have no clients and no settles.
+    Trace,
     /// What is to be said of the trace on the source.
     Check,
 }
@@ -48,8 +51,10 @@ fn asked_alone(clients: Clients, word: &str) -> Option<Asked>
 {
     match (clients, word) {
         (_, "plain") => Some(Asked::Report(Clients::Refused)),
+        (_, "watch") => Some(Asked::Report(Clients::Following)),
         (Clients::Allowed, "run") => Some(Asked::Report(Clients::Allowed)),
         (_, "upgrade") => Some(Asked::Upgrade),
+        (_, "trace") => Some(Asked::Trace),
         (_, "check") => Some(Asked::Check),
         _ => None,
     }

@@ -27,7 +27,7 @@ pub(crate) fn outcome<R: Threads + Wait + Sync, S: Source, K: Sink, D: Keeper + 
 ) -> ExitCode
     requires { length keepers.items ≡ 8 }
     ensures serves { IfOk words (λ words. Exits D.Keeper.own (traffic S.Source.own K.Sink.own source.old source.new sink.old sink.new keepers.items) words.items (exit_status result)) }
-    // The source is read for `run`, `plain`, `behind`, `upgrade` and `check` alone.
+    // The source is read for `run`, `plain`, `watch`, `behind`, `trace`, `upgrade` and `check` alone.
     ensures unread { IfOk words (λ words. AskToReadNothing Clients.Allowed words.items → source.new ≡ source.old) }
 
     // There are no words.

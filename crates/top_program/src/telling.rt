@@ -1,13 +1,13 @@
 use data_codec::{CodecError, read_stored};
 use data_value::Data;
 use script_hints::{hint, slip};
-use script_reading::Clients;
+use script_reading::{Clients, RunStep, Step, read_script};
 use std::alloc::{AllocError, Global};
 use std::process::ExitCode;
 use top_call::Status;
 
 const USAGE: &str =
-    "bad words: usage: replicator run|plain|behind K < script.json (K: 1 to 64), replicator upgrade < entry, replicator check < trace.json, replicator gen|sum N (N: 1 to 4094)";
+    "bad words: usage: replicator run|plain|watch|behind K|trace < script.json (K: 1 to 64), replicator upgrade < entry, replicator check < trace.json, replicator gen|sum N (N: 1 to 4094)";
 
 /// The longest script, in bytes, that is looked through for a slip, since to read it again costs as much as to read it.
 const LONGEST_LOOKED_THROUGH: usize = 8_192;
@@ -25,11 +25,12 @@ const SAID: [(Status, &str); 6] = [
     ),
 ];
 
-/// Whether the words ask for a script that may have clients.
+/// Which steps with clients the script may have that the words ask for.
 pub(crate) fn clients_of(words: &Result<Vec<String>, AllocError>) -> Clients {
     match words {
         Ok(words) => match words.as_slice() {
             [word] if word.as_str() == "run" => Clients::Allowed,
+            [word] if word.as_str() == "watch" => Clients::Following,
             _ => Clients::Refused,
         },
         Err(_) => Clients::Refused,
@@ -59,7 +60,10 @@ fn of_bytes(alloc: Global, code: ExitCode, clients: Clients, bytes: &[u8]) -> Op
     if is(code, Status::Done) && bytes.len() <= LONGEST_LOOKED_THROUGH {
         slip(alloc, bytes)
     } else if is(code, Status::NotJson) || is(code, Status::NotAScript) {
-        hint(alloc, clients, bytes)
+        match hint(alloc, clients, bytes) {
+            Some(line) => Some(line),
+            None => of_settle(alloc, bytes),
+        }
     } else if is(code, Status::NotATrace) || is(code, Status::Broken) {
         trace_hints::hint(alloc, bytes)
     } else if is(code, Status::NotAnEnvelope) {
@@ -67,6 +71,19 @@ fn of_bytes(alloc: Global, code: ExitCode, clients: Clients, bytes: &[u8]) -> Op
     } else {
         None
     }
+}
+
+/// What is said of a script that was to be traced, and has a settle.
+fn of_settle(alloc: Global, bytes: &[u8]) -> Option<String> {
+    let script = read_script(alloc, Clients::Refused, bytes).ok()?;
+    let steps = script.steps.as_slice();
+    let index = steps
+        .iter()
+        .position(|step| matches!(step, RunStep::Plain(Step::Settle)))?;
+    let step = index + 1;
+    format!(in alloc;
+        "not a script: step {step}: a script that is traced has no settle (rule 16)"
+    ).ok()
 }
 
 /// What is said of bytes that are no stored entry.

@@ -1,10 +1,9 @@
 pub mod ListPlaces
-pub mod RowLaws
 pub mod Cutting
 pub mod PruneTests
 pub mod RuleTests
 pub mod Recording
 pub mod LeastRules
-pub mod Counted
+pub mod ShownTexts
 pub mod Traced
 pub mod Judging

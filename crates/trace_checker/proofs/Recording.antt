@@ -30,10 +30,12 @@ use Rattle.trace_lines.specs.declared.trace.TraceAct.TheVariants.{Hold}
 use Rattle.trace_checker.specs.declared.key_history.KeyHistory.{KeyHistory}
 use Rattle.trace_checker.specs.declared.prunes.PruneMade.{PruneMade}
 use Rattle.trace_checker.specs.Standing.{AreKept, StandsForKey, IsAdded}
-use Rattle.trace_checker.specs.Rows.{row_of, vector_of, AreRows, IsPushed, IsPut}
+use Rattle.trace_checker.specs.Rows.{vector_of, IsPut}
+use Rattle.trace_values.specs.Rows.{row_of, AreRows, IsPushed}
+use Rattle.trace_values.specs.Standing.{StandForValues}
 use Rattle.trace_checker.specs.Prunes.{IsPruneOf, ArePrunes, IsDeleteOf, AreDeletes}
 use Rattle.trace_checker.proofs.Cutting.{cut_counts}
-use Rattle.trace_checker.proofs.RowLaws.{stamped-push}
+use Rattle.trace_values.proofs.RowLaws.{stamped-push}
 
 -- a table that differs at one place
 at_one : {X : Type 0} (f g : ℕ → X) (i : ℕ) (x : X) → ((j : ℕ) → g j ≡ (if j == i then x else f j)) → g ≡ with_at f i x
@@ -239,12 +241,13 @@ vectors_held made history held old new i known are normal few put j = elim (eqb_
 
 -- BEFORE THE FIRST RECORD
 
-pub nothing_kept : (code : KeyHistory) → code.rows.items ≡ [] → code.held.items ≡ [] → code.prunes ≡ [] → code.deletes ≡ [] → StandsForKey code no_records (λ i. no_records)
-nothing_kept code rows held prunes deletes = record {
+pub nothing_kept : (code : KeyHistory) → code.rows.items ≡ [] → code.held.items ≡ [] → code.prunes ≡ [] → code.deletes ≡ [] → StandForValues code.values no_records → StandsForKey code no_records (λ i. no_records)
+nothing_kept code rows held prunes deletes values = record {
   rows = λ i. ap (λ rs. map stamped (row_of rs i)) rows;
   vectors = λ i. ap (λ vs. number_at (vector_of vs i)) held ∙ (λ k j. number_at-empty j k);
   prunes = record { only = λ n p there. absurd (none n p (ap (λ ps. slice_get ps n) (sym prunes) ∙ there)); all = λ i k r x has. absurd (none k x has) };
   deletes = record { only = λ n d there. absurd (none n d (ap (λ ds. slice_get ds n) (sym deletes) ∙ there)); all = λ i k x has. absurd (none k x has) };
+  values = values;
 }
   where
     none : {X : Type 0} (n : ℕ) (x : X) → slice_get {X = X} [] n ≡ Some x → ⊥
@@ -265,6 +268,10 @@ module _ (old new : KeyHistory) (made : History Op) (held : ℕ → History Op) 
   number_held : number ≡ at (held i) i + 1
   number_held = number_made ∙ ap (λ xs. length xs + 1) (sym own_is)
 
+  -- what is kept of the records to tell what they mean
+  values_then : (action : Action Op) → action_of code ≡ action → StandForValues new.values (recorded made i (held i) action)
+  values_then action act = subst (λ a. StandForValues new.values (recorded made i (held i) a)) act (added.values made (held i) stands.values kept.history (kept.taken i) own_is (stands.vectors i) number_made)
+
   -- an operation
   pub operation_added : (op : Op) → action_of code ≡ Operation op → (deletes : List Dot) → (AreDeletes old.deletes made → AreDeletes deletes (recorded made i (held i) (Operation op)))
       → StandsForKey (record new { deletes = deletes }) (recorded made i (held i) (Operation op)) (with_at held i (recorded (held i) i (held i) (Operation op)))
@@ -273,6 +280,7 @@ module _ (old new : KeyHistory) (made : History Op) (held : ℕ → History Op) 
     vectors = vectors_then made i (held i) own_is (Operation op) held old.held.items new.held.items number refl small stands.vectors number_held added.normal added.held;
     prunes = subst (λ ps. ArePrunes ps (recorded made i (held i) (Operation op))) (sym added.prunes) (prunes_then made i (held i) own_is (Operation op) old.prunes stands.prunes (λ q e. absurd (cc e)));
     deletes = deletes_are stands.deletes;
+    values = values_then (Operation op) act;
   }
 
   -- what is no delete
@@ -296,17 +304,19 @@ module _ (old new : KeyHistory) (made : History Op) (held : ℕ → History Op) 
         (prune_more made i (held i) own_is (Prune removed) old.prunes p stands.prunes origin (number_of ∙ number_made) (ap Prune (sym removed_is))
         (seen ∙ ap (λ (v : VersionVector). v removed) (stands.vectors i) ∙ ap (at (held i)) (sym removed_is)));
     deletes = subst (λ ds. AreDeletes ds (recorded made i (held i) (Prune removed))) (sym added.deletes) (deletes_then made i (held i) own_is (Prune removed) old.deletes stands.deletes refl);
+    values = values_then (Prune removed) act;
   }
 
 -- WHAT A MEMBER HOLDS, AS IT IS PUT
 
 pub hold_put : (old : KeyHistory) (made : History Op) (held : ℕ → History Op) (stands : StandsForKey old made held) (kept : AreKept made held) (i : ℕ) (known : Numbers) (new : KeyHistory) → IsNormal known → covers (versions made) (number_at known) ≡ true
-    → new.rows ≡ old.rows → new.prunes ≡ old.prunes → new.deletes ≡ old.deletes → IsPut old.held.items new.held.items i known → StandsForKey new made (with_at held i (cut made (number_at known)))
-hold_put old made held stands kept i known new normal few rows prunes deletes put = record {
+    → new.rows ≡ old.rows → new.prunes ≡ old.prunes → new.deletes ≡ old.deletes → new.values ≡ old.values → IsPut old.held.items new.held.items i known → StandsForKey new made (with_at held i (cut made (number_at known)))
+hold_put old made held stands kept i known new normal few rows prunes deletes values put = record {
   rows = subst (λ rs. AreRows rs made) (sym (ap (λ v. v.items) rows)) stands.rows;
   vectors = vectors_held made kept.history held old.held.items new.held.items i known stands.vectors normal few put;
   prunes = subst (λ ps. ArePrunes ps made) (sym prunes) stands.prunes;
   deletes = subst (λ ds. AreDeletes ds made) (sym deletes) stands.deletes;
+  values = subst (λ vs. StandForValues vs made) (sym values) stands.values;
 }
 
 -- RESULTS

@@ -31,8 +31,8 @@ use Rattle.model_traces.proofs.Tests.{all_pass, each_passes, covers_holds, cover
 use Rattle.theorem_latest.specs.Risen.{covers_risen_pasts}
 use Rattle.theorem_latest.proofs.Rising.{risen_pasts_are_enough}
 use Rattle.trace_checker.specs.Holds.{HoldsLast}
-use Rattle.trace_checker.specs.Rows.{row_of, AreRows}
-use Rattle.trace_checker.proofs.RowLaws.{row_length, row_has, has_row, IsAt}
+use Rattle.trace_values.specs.Rows.{row_of, AreRows}
+use Rattle.trace_values.proofs.RowLaws.{row_length, row_has, has_row, IsAt}
 
 -- RULE 3 AFTER A RECORD
 

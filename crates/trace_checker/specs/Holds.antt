@@ -3,7 +3,7 @@ use Rattle.std.specs.Prelude.{◌≡◌, ℕ, ◌-◌, List, Bool, not, if◌the
 use Rattle.model_history.specs.Vector.{Covers}
 use Rattle.base_vectors.specs.Vectors.{Numbers, number_at}
 use Rattle.data_meaning.specs.declared.record.Record.{Record}
-use Rattle.trace_checker.specs.Rows.{row_of}
+use Rattle.trace_values.specs.Rows.{row_of}
 
 -- the last record that is counted of an identity is there, and its past is counted too
 abbrev pub HoldsLast : List (List Record) → Numbers → ℕ → Type 0

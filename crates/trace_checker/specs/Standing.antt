@@ -1,5 +1,5 @@
 -- What the checker keeps of a key, and what it stands for.
-use Rattle.std.specs.Prelude.{◌≡◌, ℕ, List, length, Option, None, Some, find, slice_get}
+use Rattle.std.specs.Prelude.{◌≡◌, ℕ, ◌+◌, List, length, Option, None, Some, find, slice_get}
 use Rattle.std.specs.Str.{bytes_eq}
 use Rattle.model_history.specs.Texts.{Text}
 use Rattle.model_history.specs.Log.{IsTakenFrom}
@@ -7,11 +7,14 @@ use Rattle.model_history.specs.History.{History, versions, IsHistory, IsExactlyP
 use Rattle.model_kinds.specs.declared.operation.Op.{Op}
 use Rattle.base_vectors.specs.Vectors.{IsNormal, raised, number_at}
 use Rattle.data_meaning.specs.declared.record.Action.{Action}
+use Rattle.data_meaning.specs.Records.{action_of}
 use Rattle.script_reading.specs.declared.script.ScriptKey.{ScriptKey}
-use Rattle.model_traces.specs.Traces.{TraceState}
+use Rattle.model_traces.specs.Traces.{TraceState, recorded}
 use Rattle.model_traces.specs.Meaning.{IsConsistent}
 use Rattle.trace_checker.specs.declared.key_history.KeyHistory.{KeyHistory}
-use Rattle.trace_checker.specs.Rows.{vector_of, AreRows, IsPushed, IsPut}
+use Rattle.trace_values.specs.Rows.{AreRows, IsPushed}
+use Rattle.trace_values.specs.Standing.{StandForValues}
+use Rattle.trace_checker.specs.Rows.{vector_of, IsPut}
 use Rattle.trace_checker.specs.Prunes.{ArePrunes, AreDeletes}
 
 -- as in every state that lawful lines lead to
@@ -27,6 +30,15 @@ pub record StandsForKey (code : KeyHistory) (made : History Op) (held : ℕ → 
   pub vectors : (i : ℕ) → number_at (vector_of code.held.items i) ≡ versions (held i)
   pub prunes : ArePrunes code.prunes made
   pub deletes : AreDeletes code.deletes made
+  pub values : StandForValues code.values made
+
+-- a part of the records made, and what is kept to tell what it means
+pub record IsToldBy (code : KeyHistory) (made H : History Op) : Type 0 where
+  pub rows : AreRows code.rows.items made
+  pub deletes : AreDeletes code.deletes made
+  pub values : StandForValues code.values made
+  pub history : IsHistory made
+  pub taken : IsTakenFrom made H
 
 -- a record of a member was added, whose past is what the member held, and the member holds it
 pub record IsAdded (old new : KeyHistory) (at number : ℕ) (action : Action) : Type 0 where
@@ -35,6 +47,8 @@ pub record IsAdded (old new : KeyHistory) (at number : ℕ) (action : Action) : 
   pub held : IsPut old.held.items new.held.items at (raised (vector_of old.held.items at) at number)
   pub prunes : new.prunes ≡ old.prunes
   pub deletes : new.deletes ≡ old.deletes
+  pub values : (made H : History Op) → StandForValues old.values made → IsHistory made → IsTakenFrom made H → H at ≡ made at → number_at (vector_of old.held.items at) ≡ versions H → number ≡ length (made at) + 1
+      → StandForValues new.values (recorded made at H (action_of action))
 
 -- of each declared key what a trace came to
 pub record StandFor (keys : List ScriptKey) (codes : List KeyHistory) (state : TraceState Op) : Type 0 where

@@ -10,8 +10,9 @@ ghost use Rattle.model_traces.specs.Traces.{broken_by, may_hold, may_show};
 ghost use Rattle.model_traces.specs.Traces.Act.{Holds, Shows};
 ghost use Rattle.trace_lines.specs.Meant.{act_meant};
 ghost use Rattle.trace_lines.specs.WellFormed.{IsAct};
-ghost use Rattle.trace_checker.specs.Rows.{vector_of, AreRows};
-ghost use Rattle.trace_checker.specs.Standing.{AreKept, StandsForKey};
+ghost use Rattle.trace_checker.specs.Rows.{vector_of};
+ghost use Rattle.trace_values.specs.Rows.{AreRows};
+ghost use Rattle.trace_checker.specs.Standing.{AreKept, StandsForKey, IsToldBy};
 
 use crate::key_history::KeyHistory;
 use crate::prunes::{are_exact, has_prune};
@@ -19,7 +20,6 @@ use crate::rows::vector_of;
 use crate::rules::{
     all_three, are_made, counts_some, first_broken, holds_pasts, may_prune, may_record,
 };
-use crate::showing::shown;
 use base_bytes::Memory;
 use base_vectors::{Id, VersionVector};
 use model_kinds::Kind;
@@ -48,13 +48,11 @@ impl KeyHistory {
         mine: &VersionVector,
         text: &Bytes,
     ) -> Result<bool, Memory>
-        ensures { (made H : History operations.Op) → AreRows self.now.rows.items made → IsHistory made → IsTakenFrom made H → number_at mine.now ≡ versions H
-            → IfOk result (λ may. may ≡ may_show six_kinds shown_text kind H (Shows text.now)) }
+        ensures { (made H : History operations.Op) → IsToldBy self.now made H → number_at mine.now ≡ versions H → IfOk result (λ may. may ≡ may_show six_kinds shown_text kind H (Shows text.now)) }
     {
         let some = counts_some(mine);
         if some {
-            let rows = self.rows.as_slice();
-            let value = shown(alloc, kind, rows, mine)?;
+            let value = self.shown(alloc, kind, mine)?;
             Ok(value.as_bytes() == text.as_slice())
         } else {
             Ok(false)

@@ -2,6 +2,7 @@ use crate::prunes::PruneMade;
 use base_bytes::Items;
 use base_vectors::{Dot, VersionVector};
 use data_meaning::Record;
+use trace_values::Values;
 
 /// What the lines so far say of a key. The lists by identity end where nothing more is known.
 #[derive(Drop)]
@@ -14,4 +15,6 @@ pub(crate) struct KeyHistory {
     pub(crate) prunes: Items<PruneMade>,
     /// Which of the records delete the key.
     pub(crate) deletes: Items<Dot>,
+    /// What is kept of the records to tell what a part of them means.
+    pub(crate) values: Values,
 }

@@ -3,16 +3,16 @@ ghost use Rattle.model_history.specs.Table.{identity_limit};
 ghost use Rattle.model_history.specs.Vector.{Covers};
 ghost use Rattle.model_kinds.specs.SixKinds as kinds;
 ghost use Rattle.base_vectors.specs.Vectors.{number_at};
-ghost use Rattle.trace_checker.specs.Rows.{row_of};
+ghost use Rattle.trace_values.specs.Rows.{row_of};
 ghost use Rattle.trace_checker.specs.Prunes.{has_prune, has_delete};
 ghost use Rattle.trace_checker.specs.Holds.{HoldsLast, first_broken};
 
 use crate::prunes::{PruneMade, has_delete, has_prune};
-use crate::rows::row_of;
 use base_bytes::Items;
 use base_vectors::{Dot, Id, VersionVector};
 use data_meaning::Record;
 use model_kinds::{Kind, Op};
+use trace_values::row_of;
 
 /// Whether an operation is one of the kind, or a delete.
 pub(crate) fn fits(kind: Kind, op: &Op) -> bool

@@ -1,83 +1,44 @@
-ghost use Rattle.std.specs.Prelude.{◌≡◌, ◌++◌, take, string_bytes, IfOk, OnOk};
-ghost use Rattle.model_history.specs.History.{History, cut, IsHistory};
+ghost use Rattle.std.specs.Prelude.{◌≡◌, string_bytes, IfOk};
+ghost use Rattle.model_history.specs.History.{History, versions};
 ghost use Rattle.model_kinds.specs.SixKinds.{six_kinds};
 ghost use Rattle.model_kinds.specs.ShownText.{shown_text};
 ghost use Rattle.model_kinds.specs.declared.operation.Op as operations;
 ghost use Rattle.base_vectors.specs.Vectors.{number_at};
-ghost use Rattle.trace_checker.specs.Rows.{AreRows, counted_records};
+ghost use Rattle.trace_checker.specs.Standing.{IsToldBy};
 
-use crate::rows::row_of;
-use base_bytes::{Items, Memory};
-use base_vectors::{Id, VersionVector};
-use data_meaning::{Action, Record, meaning};
-use model_kinds::Kind;
+use crate::key_history::KeyHistory;
+use crate::prunes::has_delete;
+use base_bytes::Memory;
+use base_vectors::VersionVector;
+use model_kinds::{Kind, Shown};
 use report_texts::push_shown;
 use std::alloc::Global;
 
-/// An equal record.
-fn copied(alloc: Global, one: &Record) -> Result<Record, Memory>
-    ensures { IfOk result (λ copy. copy ≡ one.now) }
-{
-    let action = match &one.action {
-        Action::Operation(op) => Action::Operation(op.copied()),
-        Action::Prune(removed) => Action::Prune(*removed),
-    };
-    let past = one.past.copy(alloc)?;
-    Ok(Record {
-        origin: one.origin,
-        number: one.number,
-        action,
-        past,
-    })
-}
-
-/// Adds copies of the first records of a row.
-fn push_first(
-    all: &mut Vec<Record>,
-    alloc: Global,
-    row: &[Record],
-    count: u64,
-) -> Result<(), Memory>
-    ensures { OnOk result (all.new.items ≡ all.old.items ++ take count row.now) }
-{
-    for (index, record) in row.iter().enumerate() {
-        if index as u64 >= count {
-            return Ok(());
-        }
-        all.push(copied(alloc, record)?)?;
-    }
-    Ok(())
-}
-
-/// The records that a vector counts, by identity and then by number.
-fn counted(
-    alloc: Global,
-    rows: &[Items<Record>],
-    known: &VersionVector,
-) -> Result<Vec<Record>, Memory>
-    ensures { IfOk result (λ all. all.items ≡ counted_records rows.now (number_at known.now)) }
-{
-    let mut all = Vec::new(alloc);
-    for number in 0..known.limit() {
-        if let Some(id) = Id::new(number) {
-            push_first(&mut all, alloc, row_of(rows, id), known.at(id))?;
+impl KeyHistory {
+    /// What the records mean that a vector counts.
+    fn meaning(&self, alloc: Global, kind: Kind, known: &VersionVector) -> Result<Shown, Memory>
+        ensures { (made H : History operations.Op) → IsToldBy self.now made H → number_at known.now ≡ versions H → IfOk result (λ value. value ≡ six_kinds.shown kind H) }
+    {
+        let deleted = has_delete(self.deletes.as_slice(), known);
+        if deleted {
+            Ok(Shown::Deleted)
+        } else {
+            self.values.value(alloc, kind, self.rows.as_slice(), known)
         }
     }
-    Ok(all)
-}
 
-/// The text of what the records mean that a vector counts.
-pub(crate) fn shown(
-    alloc: Global,
-    kind: Kind,
-    rows: &[Items<Record>],
-    known: &VersionVector,
-) -> Result<String, Memory>
-    ensures { (made : History operations.Op) → AreRows rows.now made → IsHistory (cut made (number_at known.now)) → IfOk result (λ text. string_bytes text ≡ shown_text (six_kinds.shown kind (cut made (number_at known.now)))) }
-{
-    let records = counted(alloc, rows, known)?;
-    let value = meaning(alloc, kind, records)?;
-    let mut text = String::new(alloc);
-    push_shown(alloc, &mut text, &value)?;
-    Ok(text)
+    /// The text of what the records mean that a vector counts.
+    pub(crate) fn shown(
+        &self,
+        alloc: Global,
+        kind: Kind,
+        known: &VersionVector,
+    ) -> Result<String, Memory>
+        ensures { (made H : History operations.Op) → IsToldBy self.now made H → number_at known.now ≡ versions H → IfOk result (λ text. string_bytes text ≡ shown_text (six_kinds.shown kind H)) }
+    {
+        let value = self.meaning(alloc, kind, known)?;
+        let mut text = String::new(alloc);
+        push_shown(alloc, &mut text, &value)?;
+        Ok(text)
+    }
 }

@@ -13,13 +13,14 @@ ghost use Rattle.trace_checker.specs.Standing.{AreKept, StandsForKey, IsAdded};
 
 use crate::key_history::KeyHistory;
 use crate::prunes::PruneMade;
-use crate::rows::{push_record, put_vector, vector_of};
+use crate::rows::{put_vector, vector_of};
 use base_bytes::{Items, Memory};
 use base_vectors::{Dot, Id, Seq, VersionVector};
 use data_meaning::{Action, Record};
 use model_kinds::Op;
 use std::alloc::Global;
 use trace_lines::TraceAct;
+use trace_values::{Values, push_row};
 
 /// Whether an operation deletes its key.
 fn is_delete(op: &Op) -> bool
@@ -41,6 +42,7 @@ impl KeyHistory {
             held: Vec::new(alloc),
             prunes: Items::new(alloc),
             deletes: Items::new(alloc),
+            values: Values::new(alloc),
         }
     }
 
@@ -70,19 +72,21 @@ impl KeyHistory {
 
     /// Adds a record of a member, whose past is what the member holds, and raises the member's own number.
     fn add(&mut self, alloc: Global, at: Id, number: Seq, action: Action) -> Result<(), Memory>
-        requires { (1 ≤ number) × (number ≤ 2 ^ 62) }
+        requires member { at < identity_limit }
+        requires number { (1 ≤ number) × (number ≤ 2 ^ 62) }
         ensures { OnOk result (IsAdded self.old self.new at number action) }
     {
         let past = vector_of(alloc, self.held.as_slice(), at)?;
         let mut now = past.copy(alloc)?;
         now.raise(at, number)?;
+        self.values.keep(alloc, &past, at, number, &action)?;
         let record = Record {
             origin: at,
             number,
             action,
             past,
         };
-        push_record(&mut self.rows, alloc, record)?;
+        push_row(&mut self.rows, alloc, at, record)?;
         put_vector(&mut self.held, alloc, at, now)
     }
 

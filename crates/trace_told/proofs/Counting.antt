@@ -1,24 +1,28 @@
 -- Counts and states of lawful lines agree.
-use Rattle.std.proofs.Common.{◌≡◌, ℕ, suc, ◌<◌, List, [], ◌∷◌, ◌++◌, length, refl, sym, ap, ◌∙◌, arith, Bool, true, false, inl, inr, length-append}
-use Rattle.std.specs.Prelude.{◌&&◌}
+use Rattle.std.proofs.Common.{ap₂, zero, ◌≡◌, ℕ, suc, ◌<◌, List, [], ◌∷◌, ◌++◌, length, refl, sym, ap, ◌∙◌, arith, Bool, true, false, inl, inr, length-append}
+use Rattle.std.specs.Prelude.{◌&&◌, ◌==◌}
 use Rattle.std.specs.Str.{bytes_eq}
 use Rattle.std.proofs.lemmas.Bool.Decides.{eqb_tells}
 use Rattle.std.proofs.lemmas.List.{length-take-le}
 use Rattle.std.proofs.lemmas.Slice.Eq.{bytes_eq-Decides}
-use Rattle.model_history.specs.Table.{identity_limit, with_at}
+use Rattle.model_history.specs.Table.{identity_limit, identities, with_at}
 use Rattle.model_history.specs.Texts.{Text}
 use Rattle.model_history.specs.Vector.{VersionVector}
 use Rattle.model_history.specs.History.{Record, History, at, versions, cut}
 use Rattle.model_history.proofs.HistoryLaws.{with_at_same, with_at_other}
+use Rattle.model_history.proofs.PruneLaws.{IsIn, in_tail, in_range, at_identities}
+use Rattle.model_traces.specs.Runs.{counts_alike}
+use Rattle.std.specs.List.{list_all}
+use Rattle.std.proofs.lemmas.Bool.{eq-eqb, eqb-true}
 use Rattle.model_members.specs.DataType.{DataType}
 use Rattle.model_members.specs.Node.{KeyDecl, with_text_at}
 use Rattle.model_members.proofs.Steps.{with_text_at-same}
 use Rattle.model_traces.specs.Traces.{Act, TraceLine, TraceState, held_after, may_hold, covers, is_closed, after_line, after_lines, AreLawful}
 use Rattle.model_traces.specs.Traces.Act.{Records, Holds, Shows}
-use Rattle.model_traces.proofs.Tests.{first_true, second_true, covers_tells}
+use Rattle.model_traces.proofs.Tests.{all_pass, each_passes, first_true, second_true, covers_tells}
 use Rattle.model_traces.proofs.Lines.{other_text}
 use Rattle.model_traces.proofs.Consistency.{passes}
-use Rattle.trace_told.specs.Told.{Counts, counted_after, count_line, count_lines}
+use Rattle.trace_told.specs.Told.{Counts, are_alike, counted_after, count_line, count_lines}
 
 -- WHAT STANDS AT A MEMBER AND A KEY
 
@@ -50,6 +54,25 @@ module _ {X : Type 0} (f : ℕ → Text → X) (i : ℕ) (key : Text) (x : X) wh
     | inl is ↦
         ap (λ k. put k other) is.1 ∙ ap (λ (g : Text → X). g other) (with_at_same f i (with_text_at (f i) key x)) ∙ other_text (f i) key x other (λ same. isnt is.1 same) ∙ ap (λ k. f k other) (sym is.1)
   ]
+
+-- VECTORS
+
+all_same : {X : Type 0} (p q : X → Bool) (xs : List X) → ((x : X) → IsIn xs x → p x ≡ q x) → list_all p xs ≡ list_all q xs
+all_same p q [] same = refl
+all_same p q (x ∷ xs) same = ap₂ (λ a b. a && b) (same x (zero, refl)) (all_same p q xs (λ y m. same y (in_tail x xs y m)))
+
+-- vectors with the same numbers are alike, and those that are have them
+pub alike_of : (v w known : VersionVector) → ((x : ℕ) → x < identity_limit → v x ≡ w x) → are_alike v known ≡ are_alike w known
+unfolding are_alike
+alike_of v w known same = all_same (λ i. v i == known i) (λ i. w i == known i) identities (λ x m. ap (λ n. n == known x) (same x (let r = in_range 0 identity_limit x m in omega (arith, r.1))))
+
+pub alike_tells : (v w : VersionVector) → are_alike v w ≡ true → (x : ℕ) → x < identity_limit → v x ≡ w x
+unfolding are_alike
+alike_tells v w alike x small = eqb-true (v x) (w x) (each_passes (λ i. v i == w i) identities alike x (at_identities x small))
+
+pub alike_from : (v w : VersionVector) → ((x : ℕ) → x < identity_limit → v x ≡ w x) → are_alike v w ≡ true
+unfolding are_alike
+alike_from v w same = all_pass (λ i. v i == w i) identities (λ x m. eq-eqb (v x) (w x) (same x (let r = in_range 0 identity_limit x m in omega (arith, r.1))))
 
 -- COUNTS AND STATES
 

@@ -1,15 +1,14 @@
 -- What is told of all that is seen of a run is its trace.
-use Rattle.std.proofs.Common.{◌≡◌, ◌≢◌, ℕ, zero, suc, ◌+◌, ◌<◌, ◌≤◌, List, [], ◌∷◌, ◌++◌, map, refl, sym, ap, ap₂, subst, ◌∙◌, arith, Bool, true, false, Option, Some, None, append_assoc, inl, inr}
-use Rattle.std.specs.Prelude.{if◌then◌else◌, ◌&&◌, ◌==◌, not, is_some, flat_map}
-use Rattle.std.specs.List.{list_all, AllByRecursion}
+use Rattle.std.proofs.Common.{◌≡◌, ◌≢◌, ℕ, zero, suc, ◌+◌, ◌≤◌, List, [], ◌∷◌, ◌++◌, map, refl, sym, ap, ap₂, subst, ◌∙◌, arith, Bool, true, false, Option, Some, None, append_assoc, inl, inr}
+use Rattle.std.specs.Prelude.{if◌then◌else◌, ◌&&◌, not, is_some, flat_map}
+use Rattle.std.specs.List.{AllByRecursion}
 use Rattle.std.specs.Str.{bytes_eq}
 use Rattle.std.proofs.lemmas.Map.Keys.{IsDistinct-head, IsDistinct-tail}
 use Rattle.std.proofs.lemmas.Slice.Eq.{bytes_eq-Decides}
-use Rattle.model_history.specs.Table.{identity_limit, identities}
+use Rattle.model_history.specs.Table.{identity_limit}
 use Rattle.model_history.specs.Texts.{Text}
-use Rattle.model_history.specs.Vector.{VersionVector}
 use Rattle.model_history.specs.History.{Action, versions}
-use Rattle.model_history.proofs.PruneLaws.{IsIn, in_tail, in_append, in_flat_map, in_range}
+use Rattle.model_history.proofs.PruneLaws.{IsIn, in_tail, in_append, in_flat_map}
 use Rattle.model_members.specs.View.{Member, identities_of}
 use Rattle.model_members.specs.Entry.{has_records}
 use Rattle.model_members.specs.DataType.{Replication}
@@ -28,9 +27,9 @@ use Rattle.theorem_traces.specs.Traced.{AreApart, IsTraced}
 use Rattle.theorem_traces.proofs.Showing.{in_map}
 use Rattle.theorem_traces.proofs.TickRecords.{apart_declared}
 use Rattle.theorem_traces.proofs.LawfulRuns.{trace_is_lawful}
-use Rattle.trace_told.specs.Told.{Counts, none_told, count_lines, is_declared, told_of}
+use Rattle.trace_told.specs.Told.{Counts, are_alike, none_told, count_lines, is_declared, told_of}
 use Rattle.trace_told.specs.Seen.{held_line, records_seen, gets_seen, step_seen, steps_seen, end_seen, seen_of}
-use Rattle.trace_told.proofs.Counting.{AreAlike, lines_alike}
+use Rattle.trace_told.proofs.Counting.{AreAlike, alike_of, lines_alike}
 use Rattle.trace_told.proofs.Telling.{told_both, told_once, AreSaidOnce, apart_both, told_apart, IsPlain, plain_told}
 
 -- WORLDS OF RUNS
@@ -67,13 +66,6 @@ flat_flat g f (x ∷ xs) = both (f x) (flat_map f xs) ∙ ap (λ zs. flat_map g 
 each_same : {X Y : Type 0} (f g : X → List Y) (xs : List X) → ((x : X) → IsIn xs x → f x ≡ g x) → flat_map f xs ≡ flat_map g xs
 each_same f g [] same = refl
 each_same f g (x ∷ xs) same = ap₂ (λ (a b : List _). a ++ b) (same x (zero, refl)) (each_same f g xs (λ y m. same y (in_tail x xs y m)))
-
-all_same : {X : Type 0} (p q : X → Bool) (xs : List X) → ((x : X) → IsIn xs x → p x ≡ q x) → list_all p xs ≡ list_all q xs
-all_same p q [] same = refl
-all_same p q (x ∷ xs) same = ap₂ (λ a b. a && b) (same x (zero, refl)) (all_same p q xs (λ y m. same y (in_tail x xs y m)))
-
-alike_of : (v w known : VersionVector) → ((x : ℕ) → x < identity_limit → v x ≡ w x) → counts_alike v known ≡ counts_alike w known
-alike_of v w known same = all_same (λ i. v i == known i) (λ i. w i == known i) identities (λ x m. ap (λ n. n == known x) (same x (let r = in_range 0 identity_limit x m in omega (arith, r.1))))
 
 -- WHAT MEMBERS HOLD IS SAID ONCE
 
@@ -139,6 +131,7 @@ module _ {Kind Op Shown : Type 0} (keys : List (KeyDecl Kind)) (apart : AreApart
   -- of what members hold what is news is told
   module _ (counts : Counts) (state : TraceState Op) (alike : AreAlike counts state) where
     once_held : (i : ℕ) (node : Node Kind Op Shown) (d : KeyDecl Kind) → IsIn keys d → flat_map (told_once keys counts) (held_line i (state_of node d)) ≡ hold_line state i (state_of node d)
+    unfolding are_alike
     once_held i node d m =
         let known = versions (node.entries d.name).history in
         let line = line_of i d.name (Holds known) in
@@ -221,7 +214,7 @@ module _ {Kind Op Shown : Type 0} (D : Replication Kind Op Shown) (value_text : 
     step_told : (state : TraceState Op) (counts : Counts) (s : ScriptStep Op) (world : World Kind Op Shown) (told : List (Told Op Shown)) → IsOrdered keys world → AreAlike counts state → Lawfully state (step_lines D value_text state s world told)
         → told_of keys counts (step_seen D value_text s world told) ≡ step_lines D value_text state s world told
     step_told state counts s world told ordered alike lawful =
-        let R = records_seen D value_text s told in
+        let R = records_seen s told in
         let H = of_members held_line world in
         let G = gets_seen D value_text s told in
         let middle = after_lines state R in

@@ -14,10 +14,12 @@ use Rattle.model_traces.specs.Runs.{line_of, record_lines, of_members, get_lines
 abbrev pub held_line : {Kind Op : Type 0} → ℕ → KeyState Kind Op → List (TraceLine Op)
 held_line i k = line_of i k.name (Holds (versions k.entry.history)) ∷ []
 
-module _ {Kind Op Shown : Type 0} (D : Replication Kind Op Shown) (value_text : Shown → Text) where
-  abbrev pub records_seen : ScriptStep Op → List (Told Op Shown) → List (TraceLine Op)
-  records_seen s told = flat_map (λ t. record_lines s t.answer) told
+-- the records that a step made
+abbrev pub records_seen : {Op Shown : Type 0} → ScriptStep Op → List (Told Op Shown) → List (TraceLine Op)
+records_seen s told = flat_map (λ t. record_lines s t.answer) told
 
+module _ {Kind Op Shown : Type 0} (D : Replication Kind Op Shown) (value_text : Shown → Text) where
+  -- what it showed
   abbrev pub gets_seen : ScriptStep Op → List (Told Op Shown) → List (TraceLine Op)
   gets_seen s told = flat_map (λ t. get_lines D value_text s t.answer) told
 

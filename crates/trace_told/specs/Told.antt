@@ -17,6 +17,10 @@ Counts = ℕ → Text → VersionVector
 abbrev pub none_told : Counts
 none_told i key = none_counted
 
+-- the same number at each identity
+unfoldable pub are_alike : VersionVector → VersionVector → Bool
+are_alike held known = counts_alike held known
+
 abbrev pub is_declared : {Kind : Type 0} → List (KeyDecl Kind) → Text → Bool
 is_declared keys name = is_some (find (λ decl. bytes_eq decl.name name) keys)
 
@@ -36,7 +40,7 @@ module _ {Op : Type 0} where
 
   -- what is held is news where the lines so far tell something else
   abbrev pub is_news : VersionVector → Act Op → Bool
-  is_news held (Holds known) = not (counts_alike held known)
+  is_news held (Holds known) = not (are_alike held known)
   is_news held _ = true
 
   module _ {Kind : Type 0} (keys : List (KeyDecl Kind)) where

@@ -4,6 +4,8 @@
 #[cfg(test)]
 mod clients_tests;
 #[cfg(test)]
+mod followers_tests;
+#[cfg(test)]
 mod mutant_tests;
 #[cfg(test)]
 mod rows;

@@ -1,6 +1,6 @@
 //! Trials of the top call, from the words to what is written: scripts and their reports by the word `plain`, scripts with
-//! clients by `run`, in the runtime's threads, stores that are written behind, stored entries in both formats, generated scripts, and what
-//! fails.
+//! clients by `run`, in the runtime's threads, clients that follow keys by `watch`, stores that are written behind, stored
+//! entries in both formats, generated scripts, and what fails.
 #![tactic(auto)]
 
 #[cfg(test)]
@@ -53,6 +53,8 @@ mod running;
 mod settle_tests;
 #[cfg(test)]
 mod upgrade_tests;
+#[cfg(test)]
+mod watching_tests;
 #[cfg(test)]
 mod words_tests;
 #[cfg(test)]

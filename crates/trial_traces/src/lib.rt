@@ -1,4 +1,4 @@
-//! Trials of the checker of traces: each rule, each refusal of the form, logs by hand, and the word `check`.
+//! Trials of the checker of traces: each rule, each refusal of the form, logs by hand, and the words `check` and `trace`.
 #![tactic(auto)]
 
 #[cfg(test)]
@@ -13,5 +13,7 @@ mod rows;
 mod rule_tests;
 #[cfg(test)]
 mod shown_tests;
+#[cfg(test)]
+mod traced_tests;
 #[cfg(test)]
 mod word_tests;

@@ -1,4 +1,4 @@
-use Rattle.std.proofs.Common.{◌≡◌, ◌∙◌, refl, inl, inr}
+use Rattle.std.proofs.Common.{◌≡◌, refl, inl, inr}
 use Rattle.top_call.specs.Due.{text_due}
 use Rattle.top_call.proofs.top.written.Goals as goal
 

@@ -46,5 +46,5 @@ returns c = λ made held stands kept.
     let mine_is = ap number_at (c.in_ok-mine.ensures ∙ ap (λ hs. vector_of hs c.args.at) c.as_slice.ensures.value) ∙ stands.vectors c.args.at in
     c.first_broken-in-Show.ensures
     ∙ show_breaks c.args.self.now.prunes c.args.self.now.deletes made (held c.args.at) stands.prunes stands.deletes kept.history (kept.taken c.args.at).part (kept.exact c.args.at) c.args.kind c.args.at c.requires.member (number_at c.in_ok-mine.mine) mine_is
-    c.in-Show.text c.in_ok-may-in-Show.may (c.in_ok-may-in-Show.ensures made (held c.args.at) stands.rows kept.history (kept.taken c.args.at) mine_is)
+    c.in-Show.text c.in_ok-may-in-Show.may (c.in_ok-may-in-Show.ensures made (held c.args.at) (record { rows = stands.rows; deletes = stands.deletes; values = stands.values; history = kept.history; taken = kept.taken c.args.at }) mine_is)
     ∙ ap (λ a. broken_by six_kinds shown_text c.args.kind made c.args.at (held c.args.at) (act_meant a)) (sym c.in-Show.is)

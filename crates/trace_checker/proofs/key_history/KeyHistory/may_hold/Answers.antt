@@ -1,6 +1,6 @@
 use Rattle.std.proofs.Common.{◌∙◌, sym, subst}
 use Rattle.base_vectors.proofs.Laws.{number_at_above}
-use Rattle.trace_checker.specs.Rows.{AreRows}
+use Rattle.trace_values.specs.Rows.{AreRows}
 use Rattle.trace_checker.proofs.RuleTests.{hold_test}
 use Rattle.trace_checker.proofs.key_history.KeyHistory.may_hold.Goals as goal
 

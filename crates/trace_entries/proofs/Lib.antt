@@ -1,0 +1,2 @@
+pub mod SeenLines
+pub mod Looked

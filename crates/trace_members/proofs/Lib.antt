@@ -1,0 +1,3 @@
+pub mod SeenMembers
+pub mod SeenSteps
+pub mod SeenWorlds

@@ -1,0 +1,7 @@
+pub mod RowLaws
+pub mod Counted
+mod Firsts
+mod SumLaws
+mod Searches
+mod WriteLaws
+mod Keeping

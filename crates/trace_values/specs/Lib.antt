@@ -1,0 +1,5 @@
+pub mod Rows
+pub mod Sums
+pub mod Writes
+pub mod Walking
+pub mod Standing

@@ -1,0 +1,4 @@
+pub mod FlushesTold
+pub mod Following
+pub mod Notified
+pub mod Placed
