@@ -77,7 +77,11 @@ class Grammar:
 
     def is_line(self, line):
         """Whether a line of a report is by the tables."""
-        return self.is_of_final_block(line) or self.is_of_a_step(line)
+        return self.is_of_final_block(line) or self.is_of_a_step(line) or self.is_a_notice(line)
+
+    def is_a_notice(self, line):
+        """Whether a line tells a client of a key that it follows."""
+        return re.fullmatch(rf"\d+ notice \d+ \d+ {KEY} (deleted|{VALUE})", line) is not None
 
     def is_of_a_step(self, line):
         """Whether a line tells of a step, or of a client's command."""

@@ -184,7 +184,7 @@ def broken_scripts(rule, cell):
 def broken_table(table, run):
     for line, (number, cell) in table.rows:
         rule = int(number)
-        word = {14: "plain", 15: "watch"}.get(rule, "run")
+        word = {14: "plain", 15: "watch", 16: "trace"}.get(rule, "run")
         for broken, step in broken_scripts(rule, cell):
             wanted = (3, f"not a script: step {step} rule {rule}\n")
             place = f"{table.page}:{line}"
@@ -193,8 +193,8 @@ def broken_table(table, run):
 
 def rules_table(table, run):
     # The next table and examples/refused break each.
-    run.check(table.place, [cells[0] for _, cells in table.rows] == [str(i) for i in range(1, 16)],
-              "fifteen rules in order")
+    run.check(table.place, [cells[0] for _, cells in table.rows] == [str(i) for i in range(1, 17)],
+              "sixteen rules in order")
 
 
 def lines_table(table, run):
@@ -233,6 +233,10 @@ def words_table(table, run):
         elif words == ["check"]:
             trace = TOP / "examples" / "words" / "check"
             right = run.program.run(words, trace.read_bytes())[:2] == (0, trace.with_suffix(".stdout").read_bytes())
+        elif words == ["trace"]:
+            played = TOP / "examples" / "words" / "trace.json"
+            told = run.program.run(words, played.read_bytes())
+            right = told[:2] == (0, Path(f"{played}.stdout").read_bytes()) and run.program.run(["check"], told[1])[0] == 0
         elif words == ["upgrade"]:
             entry = TOP / "examples" / "words" / "upgrade"
             upgraded = entry.with_suffix(".stdout").read_bytes()
@@ -319,7 +323,7 @@ def parts_tables(table, run):
 
 # The parts of a step's line, and of the final block.
 PARTS = [
-    {"N", "client C", "ASKED", "ANSWER", " sent", " finished OP RESULT", "RESULT", "ENDED"},
+    {"N", "client C", "ASKED", "ANSWER", " sent", " finished OP RESULT", "RESULT", "ENDED", "MEMBER", "CLIENT", "KEY", "VALUE"},
     {"final view N", "member I place P view N", "known", "marks"},
 ]
 
