@@ -21,11 +21,12 @@
 //!   member is then as before, but for its keeper, which tells what it told (`Node::step`, clauses
 //!   `full`, `refusal`, `unchanged`).
 //! - A new member has no record. One that is loaded stands for the model's, over the store that its
-//!   keeper's table holds; it has its own identity, view and no steps. Its keeper's table is refused
-//!   exactly at the first entry that is, in either format, no envelope of a declared durable key's
-//!   kind, or names an identity that was not given or is the new one's; a table that holds a
-//!   store of a run is never refused. After a refusal the old member comes back, but for its keeper
-//!   (`Node::new`, `Node::loaded`).
+//!   keeper's table holds; it has its own identity, view and no steps. What the keeper gives, whether
+//!   it tells its table or not, is refused exactly at the first entry that is, in either format, no
+//!   envelope of a declared durable key's kind, or names an identity that was not given or is the
+//!   new one's; what holds a store of a run is never refused. Else each key holds what was given for
+//!   it, and no more. After a refusal the old member comes back, but for its keeper (`Node::new`,
+//!   `Node::loaded` (`HoldsGiven`, `IsDamaged`)).
 #![tactic(auto)]
 
 mod answering;
