@@ -25,7 +25,8 @@
 //!   exactly at the first entry that is, in either format, no envelope of a declared durable key's
 //!   kind, or names an identity that was not given or is the new one's; a table that holds a
 //!   store of a run is never refused. After a refusal the old member comes back, but for its keeper
-//!   (`Node::new`, `Node::loaded`).
+//!   (`Node::new`, `Node::loaded`). The same is promised of a member that is made from a keeper alone,
+//!   as in a process that starts again; after a refusal the keeper comes back (`Node::from_keeper`).
 #![tactic(auto)]
 
 mod answering;
@@ -33,6 +34,7 @@ mod change;
 mod closing;
 mod counting;
 mod entries;
+mod from_keeper;
 mod gossip;
 mod groups;
 mod held;
@@ -58,6 +60,7 @@ mod storing;
 mod taking;
 mod ticking;
 
+pub use from_keeper::FromKeeperError;
 pub use input::Input;
 pub use key::{KeyDecl, KeyState};
 pub use loading::LoadError;
