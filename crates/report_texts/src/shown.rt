@@ -31,6 +31,19 @@ fn push_escaped(alloc: Global, text: &mut String, written: &str) -> Result<(), M
     Ok(())
 }
 
+/// Adds the quote that opens an element of a list, behind a comma unless it is the first.
+#[inline(always)]
+fn push_opening(text: &mut String, is_first: bool) -> Result<(), Memory>
+    ensures { OnOk result (string_bytes text.new ≡ string_bytes text.old ++ ((if is_first then [] else codes ",") ++ codes "\"")) }
+{
+    if is_first {
+        text.push_str("\"")?;
+    } else {
+        text.push_str(",\"")?;
+    }
+    Ok(())
+}
+
 /// Adds a text as a JSON string, behind others of a list or as the first. Where no byte has an escape it is the text itself
 /// between quotes.
 #[inline(always)]
@@ -47,7 +60,7 @@ fn push_element(
         text.push_str(if is_first { "" } else { "," })?;
         return push_escaped(alloc, text, written);
     }
-    text.push_str(if is_first { "\"" } else { ",\"" })?;
+    push_opening(text, is_first)?;
     text.push_str(written)?;
     text.push_str("\"")?;
     Ok(())
