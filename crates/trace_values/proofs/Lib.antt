@@ -4,4 +4,7 @@ mod Firsts
 mod SumLaws
 mod Searches
 mod WriteLaws
+mod TouchLaws
+mod Unnamed
+mod Seeing
 mod Keeping

@@ -8,6 +8,7 @@
 //!   each identity it has (`Values::value`).
 #![tactic(auto)]
 
+mod elements;
 mod rows;
 mod sums;
 mod values;
