@@ -270,7 +270,7 @@ module _ (old new : KeyHistory) (made : History Op) (held : ℕ → History Op) 
 
   -- what is kept of the records to tell what they mean
   values_then : (action : Action Op) → action_of code ≡ action → StandForValues new.values (recorded made i (held i) action)
-  values_then action act = subst (λ a. StandForValues new.values (recorded made i (held i) a)) act (added.values made (held i) stands.values kept.history (kept.taken i) own_is (stands.vectors i) number_made)
+  values_then action act = subst (λ a. StandForValues new.values (recorded made i (held i) a)) act (added.values made (held i) stands.values stands.rows kept.history (kept.taken i) own_is (stands.vectors i) number_made)
 
   -- an operation
   pub operation_added : (op : Op) → action_of code ≡ Operation op → (deletes : List Dot) → (AreDeletes old.deletes made → AreDeletes deletes (recorded made i (held i) (Operation op)))

@@ -1,5 +1,4 @@
 pub mod RowLaws
-pub mod Counted
 mod Firsts
 mod SumLaws
 mod Searches
@@ -7,4 +6,6 @@ mod WriteLaws
 mod TouchLaws
 mod Unnamed
 mod Seeing
+mod ElementLaws
+mod ShownElements
 mod Keeping

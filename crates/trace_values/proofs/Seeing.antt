@@ -3,6 +3,7 @@ use Rattle.std.proofs.Common.{◌≡◌, ℕ, ◌<◌, ◌≤◌, List, [], ◌�
 use Rattle.std.specs.Prelude.{◌&&◌, not, ◌==◌, nat_le, if◌then◌else◌, fold}
 use Rattle.std.specs.List.{list_any}
 use Rattle.std.proofs.lemmas.Bool.{cases_lt, leb-true}
+use Rattle.std.proofs.lemmas.Bool.Decides.{eqb_tells}
 use Rattle.model_history.specs.Table.{identity_limit, identities}
 use Rattle.model_history.specs.Texts.{Text}
 use Rattle.model_history.specs.Vector.{VersionVector}
@@ -10,7 +11,7 @@ use Rattle.model_history.proofs.PruneLaws.{IsIn, in_tail, in_range, at_identitie
 use Rattle.theorem_latest.proofs.Touching.{any_holds}
 use Rattle.data_meaning.specs.declared.record.Record.{Record}
 use Rattle.trace_values.specs.Rows.{row_of}
-use Rattle.trace_values.specs.Touches.{last_counted, last_at, past_at, sees, is_seen, adds_at, is_last_live, is_live}
+use Rattle.trace_values.specs.Touches.{last_counted, last_at, past_at, sees, is_seen, adds_at, is_last_live, is_live, is_added}
 
 none_pass : {X : Type 0} (p : X → Bool) (xs : List X) → ((x : X) → IsIn xs x → p x ≡ false) → list_any p xs ≡ false
 none_pass p [] none = refl
@@ -55,3 +56,22 @@ module _ (rows : List (List Record)) (touches : List (List ℕ)) (known : Versio
       | inl near ↦ before j near
       | inr far ↦ ap (λ m. (not (m == 0) && adds_at rows j m e) && not (is_seen rows touches known j m)) (last_none j (beyond j far))
     ])
+
+pub is_some : (n : ℕ) → (n ≡ 0 → ⊥) → not (n == 0) ≡ true
+is_some n h = elim (eqb_tells n 0) [
+  | inl none ↦ absurd (h none.1)
+  | inr some ↦ ap not some.0
+]
+
+-- rows of the numbers of adding records, of which one is counted
+module _ (adds : List (List ℕ)) (known : VersionVector) where
+  pub added_found : (j : ℕ) → j < identity_limit → not (last_at adds known j == 0) ≡ true → is_added adds known ≡ true
+  unfolding is_added
+  added_found j small it = any_holds (λ i. not (last_at adds known i == 0)) identities j (at_identities j small) it
+
+  pub none_added : (n : ℕ) → ((j : ℕ) → j < n → not (last_at adds known j == 0) ≡ false) → ((j : ℕ) → n ≤ j → known j ≡ 0) → is_added adds known ≡ false
+  unfolding is_added
+  none_added n before beyond = none_pass (λ i. not (last_at adds known i == 0)) identities (λ j m. elim (cases_lt j n) [
+    | inl near ↦ before j near
+    | inr far ↦ ap (λ m. not (m == 0)) (last_none [] adds known j (beyond j far))
+  ])

@@ -16,6 +16,7 @@ use Rattle.model_history.proofs.Bridge.{record_at_is, has_record_at, record_at_p
 use Rattle.model_history.proofs.HistoryLaws.{with_at_same, with_at_other}
 use Rattle.model_history.proofs.PartLaws.{part-le, in_whole}
 use Rattle.model_history.proofs.PruneLaws.{IsIn, in_range}
+use Rattle.model_meanings.specs.Growing.{is_operation}
 use Rattle.model_meanings.specs.ObservedRemove.{is_adding_by, is_live_by, touches_by, touches, is_live}
 use Rattle.model_meanings.proofs.EquationsOfMeanings.{touches_equation, list_any-same}
 use Rattle.model_traces.proofs.Tests.{stamped}
@@ -28,7 +29,8 @@ use Rattle.theorem_latest.proofs.Touching.{last_touches_of_identities}
 use Rattle.base_vectors.specs.Vectors.{number_at}
 use Rattle.data_meaning.specs.declared.record.Record.{Record}
 use Rattle.data_meaning.specs.Records.{action_of}
-use Rattle.trace_values.specs.Rows.{row_of, AreRows}
+use Rattle.trace_values.specs.Rows.{row_of, IsPushedIf, AreRows}
+use Rattle.trace_values.specs.Elements.{adds_at as add_at, AreAdds}
 use Rattle.trace_values.specs.Touches.{passing, last_counted, last_at, past_at, sees, is_seen, is_adding, adds_at, is_last_live, is_live as code_live, AreTouches}
 use Rattle.trace_values.proofs.Firsts.{positive}
 use Rattle.trace_values.proofs.RowLaws.{has_row, IsAt}
@@ -36,7 +38,7 @@ use Rattle.trace_values.proofs.WriteLaws.{then_history, made_taken, held_taken, 
 
 -- THE LAST THAT PASSES A TEST
 
-abbrev last_passing : (ℕ → Bool) → ℕ → ℕ
+abbrev pub last_passing : (ℕ → Bool) → ℕ → ℕ
 last_passing test zero = 0
 last_passing test (suc k) = if test k then suc k else last_passing test k
 
@@ -52,7 +54,7 @@ counted_all test (suc m) n h = go (test m) (counted_all test m n (omega (arith, 
     go true later = fold_push (λ last k. if nat_le k n then k else last) 0 (passing test m) (suc m) ∙ ap (λ b. if b then suc m else last_counted (passing test m) n) (le-leb (suc m) n h)
     go false later = later
 
-counted_last : (test : ℕ → Bool) (m n : ℕ) → n ≤ m → last_counted (passing test m) n ≡ last_passing test n
+pub counted_last : (test : ℕ → Bool) (m n : ℕ) → n ≤ m → last_counted (passing test m) n ≡ last_passing test n
 counted_last test zero n h = let none : n ≡ 0 = omega (arith, h) in ap (last_passing test) (sym none)
 counted_last test (suc m) n h = elim (cases_lt m n) [
   | inl whole ↦ let all : n ≡ suc m = omega (arith, whole, h) in counted_all test (suc m) n (omega (arith, all)) ∙ ap (last_passing test) (sym all)
@@ -189,35 +191,36 @@ module _ (e : Text) (made H : History Op) (history : IsHistory made) (taken : Is
   length_push [] = refl
   length_push (y ∷ xs) = ap suc (length_push xs)
 
-  pub touches_then : (old new : List (List ℕ)) (b : Bool) → AreTouches e old made → touches_at set_operations e J i (at made i) ≡ b
-      → ((j : ℕ) → row_of new j ≡ (if b then (if j == i then row_of old j ++ suc (at made i) ∷ [] else row_of old j) else row_of old j)) → AreTouches e new J
-  touches_then old new b are is rows j = elim (cases_lt j identity_limit) [
-    | inl near ↦ elim (eqb_tells j i) [
-      | inl same ↦
-          (let at_j : at J j ≡ suc (at made j) = ap (at J) same.1 ∙ ap length (with_at_same made i (made i ++ next ∷ [])) ∙ length_push (made i) ∙ ap (λ k. suc (at made k)) (sym same.1) in
-          rows j ∙ ap (λ c. if b then (if c then row_of old j ++ suc (at made i) ∷ [] else row_of old j) else row_of old j) same.0
-          ∙ ap₂ (λ (ns : List ℕ) (n : ℕ). if b then ns ++ suc n ∷ [] else ns) (before j near) (ap (at made) (sym same.1))
-          ∙ ap (λ c. if c then passing (touches_at set_operations e J j) (at made j) ++ suc (at made j) ∷ [] else passing (touches_at set_operations e J j) (at made j)) (sym is ∙ ap (λ k. touches_at set_operations e J k (at made k)) (sym same.1))
-          ∙ ap (passing (touches_at set_operations e J j)) (sym at_j))
-      | inr other ↦
-          rows j ∙ ap (λ c. if b then (if c then row_of old j ++ suc (at made i) ∷ [] else row_of old j) else row_of old j) other.0 ∙ either b (row_of old j) ∙ before j near
-          ∙ ap (passing (touches_at set_operations e J j)) (sym (ap length (with_at_other made i (made i ++ next ∷ []) j other.1)))
-    ]
-    | inr far ↦
-        (let other : (j == i) ≡ false = differs j i (omega (arith, far, small)) in
-        let none : made j ≡ [] = history.within j far in
-        let now : J j ≡ [] = with_at_other made i (made i ++ next ∷ []) j (λ f. absurd (omega (arith, far, small, f))) ∙ none in
-        rows j ∙ ap (λ c. if b then (if c then row_of old j ++ suc (at made i) ∷ [] else row_of old j) else row_of old j) other ∙ either b (row_of old j) ∙ are j
-        ∙ ap (λ xs. passing (touches_at set_operations e made j) (length xs)) none ∙ sym (ap (λ xs. passing (touches_at set_operations e J j) (length xs)) now))
+  -- the numbers of those that pass a test, where it says the same of the records before
+  passing_then : (p q : ℕ → ℕ → Bool) (old new : List (List ℕ)) (b : Bool) → ((j k : ℕ) → j < identity_limit → k < at made j → p j k ≡ q j k) → q i (at made i) ≡ b
+      → ((j : ℕ) → row_of old j ≡ passing (p j) (at made j)) → IsPushedIf b old new i (suc (at made i)) → (j : ℕ) → row_of new j ≡ passing (q j) (at J j)
+  passing_then p q old new b same is are rows j = elim (eqb_tells j i) [
+    | inl here ↦
+        (let at_j : at J j ≡ suc (at made j) = ap (at J) here.1 ∙ ap length (with_at_same made i (made i ++ next ∷ [])) ∙ length_push (made i) ∙ ap (λ k. suc (at made k)) (sym here.1) in
+        rows j ∙ ap (λ c. if b then (if c then row_of old j ++ suc (at made i) ∷ [] else row_of old j) else row_of old j) here.0
+        ∙ ap₂ (λ (ns : List ℕ) (n : ℕ). if b then ns ++ suc n ∷ [] else ns) (before j) (ap (at made) (sym here.1))
+        ∙ ap (λ c. if c then passing (q j) (at made j) ++ suc (at made j) ∷ [] else passing (q j) (at made j)) (sym is ∙ ap (λ k. q k (at made k)) (sym here.1))
+        ∙ ap (passing (q j)) (sym at_j))
+    | inr other ↦
+        rows j ∙ ap (λ c. if b then (if c then row_of old j ++ suc (at made i) ∷ [] else row_of old j) else row_of old j) other.0 ∙ either b (row_of old j) ∙ before j
+        ∙ ap (passing (q j)) (sym (ap length (with_at_other made i (made i ++ next ∷ []) j other.1)))
   ]
     where
-      differs : (j k : ℕ) → k < j → (j == k) ≡ false
-      differs j k h = grind (arith, nat_tests)
-
       either : (c : Bool) (ns : List ℕ) → (if c then ns else ns) ≡ ns
       either true ns = refl
       either false ns = refl
 
-      before : (j : ℕ) → j < identity_limit → row_of old j ≡ passing (touches_at set_operations e J j) (at made j)
-      before j near = are j ∙ passing_same (touches_at set_operations e made j) (touches_at set_operations e J j) (at made j)
-          (λ k h. touch_same e J made (then_history made H history taken i small own action) (made_taken made H history taken i small own action) j k near h)
+      before : (j : ℕ) → row_of old j ≡ passing (q j) (at made j)
+      before j = are j ∙ passing_same (p j) (q j) (at made j) (λ k h. elim (cases_lt j identity_limit) [
+        | inl near ↦ same j k near h
+        | inr far ↦ absurd (let none = ap length (history.within j far) in omega (arith, h, none))
+      ])
+
+  pub touches_then : (old new : List (List ℕ)) (b : Bool) → AreTouches e old made → touches_at set_operations e J i (at made i) ≡ b → IsPushedIf b old new i (suc (at made i)) → AreTouches e new J
+  touches_then old new b are is = passing_then (touches_at set_operations e made) (touches_at set_operations e J) old new b
+      (λ j k near h. touch_same e J made (then_history made H history taken i small own action) (made_taken made H history taken i small own action) j k near h) is are
+
+  pub adds_then : (old new : List (List ℕ)) (b : Bool) → AreAdds e old made → is_operation (λ op. adds op e) action ≡ b → IsPushedIf b old new i (suc (at made i)) → AreAdds e new J
+  adds_then old new b are is = passing_then (add_at e made) (add_at e J) old new b
+      (λ j k near h. ap (λ (r : Meant Op). is_operation (λ op. adds op e) r.action) (record_at_is made j k (record_at J j k) (record_at_part J made (made_taken made H history taken i small own action).part j k h)))
+      (ap (λ (r : Meant Op). is_operation (λ op. adds op e) r.action) (next_at made H history taken i small own action) ∙ is) are

@@ -58,3 +58,7 @@ is_last_live rows touches e known i =
 
 unfoldable pub is_live : List (List Record) → List (List ℕ) → Text → VersionVector → Bool
 is_live rows touches e known = list_any (is_last_live rows touches e known) identities
+
+-- a record that is counted adds the element
+unfoldable pub is_added : List (List ℕ) → VersionVector → Bool
+is_added adds known = list_any (λ i. not (last_at adds known i == 0)) identities

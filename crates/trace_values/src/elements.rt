@@ -2,7 +2,7 @@ ghost use Rattle.std.specs.Prelude.{◌≡◌};
 ghost use Rattle.base_vectors.specs.Vectors.{number_at};
 ghost use Rattle.model_kinds.specs.SixKinds as kinds;
 ghost use Rattle.data_meaning.specs.Records.{action_of};
-ghost use Rattle.trace_values.specs.Touches.{last_counted, last_at, past_at, sees, is_seen, is_adding, adds_at, is_last_live, is_live};
+ghost use Rattle.trace_values.specs.Touches.{last_counted, last_at, past_at, sees, is_seen, is_adding, adds_at, is_last_live, is_live, is_added};
 
 use crate::rows::row_of;
 use base_bytes::{Items, Text};
@@ -131,6 +131,20 @@ pub(crate) fn is_live(
     for place in 0..known.limit() {
         if let Some(id) = Id::new(place) {
             if is_last_live(rows, touches, element, known, id) {
+                return true;
+            }
+        }
+    }
+    false
+}
+
+/// Whether a vector counts a record that adds the element.
+pub(crate) fn is_added(adds: &[Items<Seq>], known: &VersionVector) -> bool
+    ensures { result ≡ is_added adds.now (number_at known.now) }
+{
+    for place in 0..known.limit() {
+        if let Some(id) = Id::new(place) {
+            if last_at(adds, known, id) != 0 {
                 return true;
             }
         }

@@ -10,9 +10,9 @@
 
 mod elements;
 mod rows;
+mod sets;
 mod sums;
 mod values;
-mod walked;
 mod writes;
 
 pub use rows::{push_row, row_of};
