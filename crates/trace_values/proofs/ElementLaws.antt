@@ -31,9 +31,10 @@ use Rattle.data_growing.specs.TextSetLaws.{rising_set, contains_both}
 use Rattle.data_growing.proofs.Searching.{rising_at, contains_at}
 use Rattle.data_meaning.specs.declared.record.Record.{Record}
 use Rattle.trace_values.specs.declared.sets.Element.{Element}
-use Rattle.trace_values.specs.Rows.{row_of, IsPushedIf, AreRows}
-use Rattle.trace_values.specs.Touches.{passing, AreTouches}
+use Rattle.trace_values.specs.Rows.{row_of, AreRows}
+use Rattle.trace_values.specs.Touches.{IsPushedIf, passing, AreTouches}
 use Rattle.trace_values.specs.Elements.{names, names_it, NoneNames, adds_at, AreAdds, IsElement, StandForElements, IsMarked, AreMarked, IsPlaced, IsNamed, IsKept, is_pruned}
+use Rattle.trace_values.proofs.Firsts.{set_here, set_there}
 use Rattle.trace_values.proofs.TouchLaws.{touches_then, adds_then, touch_next, prune_next, live_is}
 use Rattle.trace_values.proofs.Unnamed.{NoneAdds, untouched}
 
@@ -149,18 +150,6 @@ pub names_marked : (touching adding : Element → Bool) (id number : ℕ) (old n
 names_marked touching adding id number old new marked =
     names_same old new marked.count (λ k x here. let there = marked.first k x (get_below old k x here) here in (there.0, there.1, there.2.name))
 
-set_here : {X : Type 0} (xs : List X) (k : ℕ) (x : X) → k < length xs → slice_get (set xs k x) k ≡ Some x
-set_here [] k x h = absurd (omega (arith, h))
-set_here (y ∷ xs) zero x h = refl
-set_here (y ∷ xs) (suc k) x h = set_here xs k x (omega (arith, h))
-
-set_there : {X : Type 0} (xs : List X) (k m : ℕ) (x : X) → (m ≡ k → ⊥) → slice_get (set xs k x) m ≡ slice_get xs m
-set_there [] k m x isnt = refl
-set_there (y ∷ xs) zero zero x isnt = absurd (isnt refl)
-set_there (y ∷ xs) zero (suc m) x isnt = refl
-set_there (y ∷ xs) (suc k) zero x isnt = refl
-set_there (y ∷ xs) (suc k) (suc m) x isnt = set_there xs k m x (λ e. isnt (ap suc e))
-
 -- what stands at one place of a rising list stands at no other
 apart : (xs : List Text) → IsRising xs → (j k : ℕ) → j < length xs → k < length xs → get_or xs j [] ≡ get_or xs k [] → j ≡ k
 apart xs rising j k near far same = elim (cases_lt j k) [
@@ -208,7 +197,7 @@ named_one old placed place name adding id number x y is at marked made stands =
         and_all false = refl
 
         unmarked : IsMarked false false id number z z
-        unmarked = record { name = refl; touches = λ i. refl; adds = λ i. refl }
+        unmarked = record { name = refl; touches = λ rise i. refl; adds = λ rise i. refl }
 
         differs : (k ≡ place → ⊥) → bytes_eq name z.name ≡ false
         differs other = go (bytes_eq name z.name) refl
@@ -302,7 +291,7 @@ module _ (made H : History Op) (history : IsHistory made) (taken : IsTakenFrom m
       let next : number ≡ suc (at made i) = omega (arith, number_is) in
       subst (λ (xs : List Element). StandForElements xs (with_record made i (record { action = Operation op; past = versions H }))) (sym same)
       (marked_stand made H history taken i small own (Operation op) (λ x. false) (λ x. false) number old old stands next
-      (record { count = refl; first = λ k x h here. (x, here, record { name = refl; touches = λ j. refl; adds = λ j. refl }); rest = λ k h. refl })
+      (record { count = refl; first = λ k x h here. (x, here, record { name = refl; touches = λ rise j. refl; adds = λ rise j. refl }); rest = λ k h. refl })
       (λ k x here. touch_next x.name made H history taken i small own (Operation op) ∙ free x.name) (λ k x here. or_none (adds op x.name) (removes op x.name) (free x.name)) (λ e absent. free e))
 
   pub operation_stand : (op : Op) (number : ℕ) → number ≡ length (made i) + 1 → (old new : List Element) → StandForElements old made → IsKept op i number old new → StandForElements new (with_record made i (record { action = Operation op; past = versions H }))

@@ -3,6 +3,7 @@ mod Firsts
 mod SumLaws
 mod Searches
 mod WriteLaws
+mod RisingLaws
 mod TouchLaws
 mod Unnamed
 mod Seeing

@@ -29,10 +29,11 @@ use Rattle.theorem_latest.proofs.Touching.{last_touches_of_identities}
 use Rattle.base_vectors.specs.Vectors.{number_at}
 use Rattle.data_meaning.specs.declared.record.Record.{Record}
 use Rattle.data_meaning.specs.Records.{action_of}
-use Rattle.trace_values.specs.Rows.{row_of, IsPushedIf, AreRows}
+use Rattle.trace_values.specs.Rows.{row_of, AreRows}
 use Rattle.trace_values.specs.Elements.{adds_at as add_at, AreAdds}
-use Rattle.trace_values.specs.Touches.{passing, last_counted, last_at, past_at, sees, is_seen, is_adding, adds_at, is_last_live, is_live as code_live, AreTouches}
+use Rattle.trace_values.specs.Touches.{AreRising, IsPushedIf, passing, last_counted, last_at, past_at, sees, is_seen, is_adding, adds_at, is_last_live, is_live as code_live, AreTouches}
 use Rattle.trace_values.proofs.Firsts.{positive}
+use Rattle.trace_values.proofs.RisingLaws.{passing_rises}
 use Rattle.trace_values.proofs.RowLaws.{has_row, IsAt}
 use Rattle.trace_values.proofs.WriteLaws.{then_history, made_taken, held_taken, next_at, stamp, in_all, past_is}
 
@@ -194,7 +195,7 @@ module _ (e : Text) (made H : History Op) (history : IsHistory made) (taken : Is
   -- the numbers of those that pass a test, where it says the same of the records before
   passing_then : (p q : ℕ → ℕ → Bool) (old new : List (List ℕ)) (b : Bool) → ((j k : ℕ) → j < identity_limit → k < at made j → p j k ≡ q j k) → q i (at made i) ≡ b
       → ((j : ℕ) → row_of old j ≡ passing (p j) (at made j)) → IsPushedIf b old new i (suc (at made i)) → (j : ℕ) → row_of new j ≡ passing (q j) (at J j)
-  passing_then p q old new b same is are rows j = elim (eqb_tells j i) [
+  passing_then p q old new b same is are push j = elim (eqb_tells j i) [
     | inl here ↦
         (let at_j : at J j ≡ suc (at made j) = ap (at J) here.1 ∙ ap length (with_at_same made i (made i ++ next ∷ [])) ∙ length_push (made i) ∙ ap (λ k. suc (at made k)) (sym here.1) in
         rows j ∙ ap (λ c. if b then (if c then row_of old j ++ suc (at made i) ∷ [] else row_of old j) else row_of old j) here.0
@@ -206,6 +207,9 @@ module _ (e : Text) (made H : History Op) (history : IsHistory made) (taken : Is
         ∙ ap (passing (q j)) (sym (ap length (with_at_other made i (made i ++ next ∷ []) j other.1)))
   ]
     where
+      rows : (k : ℕ) → row_of new k ≡ (if b then (if k == i then row_of old k ++ suc (at made i) ∷ [] else row_of old k) else row_of old k)
+      rows = push (subst (λ (ns : List ℕ). AreRising (ns ++ suc (at made i) ∷ [])) (sym (are i)) (passing_rises (p i) (at made i)))
+
       either : (c : Bool) (ns : List ℕ) → (if c then ns else ns) ≡ ns
       either true ns = refl
       either false ns = refl

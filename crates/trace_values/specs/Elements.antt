@@ -12,8 +12,8 @@ use Rattle.model_kinds.specs.declared.operation.Op.TheVariants.{Add, Remove}
 use Rattle.base_bytes.specs.TextOrder.{IsRising}
 use Rattle.data_meaning.specs.declared.record.Record.{Record}
 use Rattle.trace_values.specs.declared.sets.Element.{Element}
-use Rattle.trace_values.specs.Rows.{row_of, IsPushedIf}
-use Rattle.trace_values.specs.Touches.{passing, is_last_live, is_live, is_added, AreTouches}
+use Rattle.trace_values.specs.Rows.{row_of}
+use Rattle.trace_values.specs.Touches.{IsPushedIf, passing, is_last_live, is_live, is_added, AreTouches}
 
 abbrev pub names : List Element → List Text
 names elements = map (λ (x : Element). x.name) elements

@@ -1,5 +1,5 @@
 -- Lists by identity, which end where nothing more is kept.
-use Rattle.std.specs.Prelude.{◌≡◌, ℕ, ◌-◌, ◌≤◌, ◌==◌, List, [], ◌∷◌, ◌++◌, length, map, Bool, if◌then◌else◌, unwrap_or, slice_get}
+use Rattle.std.specs.Prelude.{◌≡◌, ℕ, ◌-◌, ◌≤◌, ◌==◌, List, [], ◌∷◌, ◌++◌, length, map, if◌then◌else◌, unwrap_or, slice_get}
 use Rattle.model_history.specs.History.{History, at, stamped_from}
 use Rattle.model_kinds.specs.declared.operation.Op.{Op}
 use Rattle.data_meaning.specs.declared.record.Record.{Record}
@@ -12,10 +12,6 @@ row_of rows i = unwrap_or (slice_get rows i) []
 -- one more at an identity, and nothing else
 abbrev pub IsPushed : {X : Type 0} → List (List X) → List (List X) → ℕ → X → Type 0
 IsPushed old new id one = (i : ℕ) → row_of new i ≡ (if i == id then row_of old i ++ one ∷ [] else row_of old i)
-
--- so if a test holds, and else nothing at all
-abbrev pub IsPushedIf : {X : Type 0} → Bool → List (List X) → List (List X) → ℕ → X → Type 0
-IsPushedIf b old new id one = (i : ℕ) → row_of new i ≡ (if b then (if i == id then row_of old i ++ one ∷ [] else row_of old i) else row_of old i)
 
 -- the records of each identity are those of the history, with their numbers
 abbrev pub AreRows : List (List Record) → History Op → Type 0

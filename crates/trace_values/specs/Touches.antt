@@ -1,5 +1,5 @@
 -- Which records touch an element, by identity, and whether it is shown.
-use Rattle.std.specs.Prelude.{◌≡◌, ℕ, zero, suc, ◌-◌, ◌==◌, ◌&&◌, not, nat_le, if◌then◌else◌, List, [], ◌∷◌, ◌++◌, fold, Bool, true, false, Option, None, Some, slice_get}
+use Rattle.std.specs.Prelude.{◌≡◌, ℕ, zero, suc, ◌-◌, ◌<◌, ◌≤◌, ◌==◌, ◌&&◌, not, nat_le, if◌then◌else◌, List, [], ◌∷◌, ◌++◌, length, get_or, fold, Bool, true, false, Option, None, Some, slice_get}
 use Rattle.std.specs.List.{list_any}
 use Rattle.model_history.specs.Table.{identities}
 use Rattle.model_history.specs.Texts.{Text}
@@ -18,6 +18,14 @@ use Rattle.trace_values.specs.Rows.{row_of}
 abbrev pub passing : (ℕ → Bool) → ℕ → List ℕ
 passing test zero = []
 passing test (suc k) = if test k then passing test k ++ suc k ∷ [] else passing test k
+
+-- none is less than one before it
+abbrev pub AreRising : List ℕ → Type 0
+AreRising ns = (i j : ℕ) → i ≤ j → j < length ns → get_or ns i 0 ≤ get_or ns j 0
+
+-- another number is at the end of an identity's, if a test holds, and they rise with it; and else nothing else is there
+abbrev pub IsPushedIf : Bool → List (List ℕ) → List (List ℕ) → ℕ → ℕ → Type 0
+IsPushedIf b old new id n = AreRising (row_of old id ++ n ∷ []) → (i : ℕ) → row_of new i ≡ (if b then (if i == id then row_of old i ++ n ∷ [] else row_of old i) else row_of old i)
 
 -- the last of rising numbers that is no greater; 0 where there is none
 abbrev pub last_counted : List ℕ → ℕ → ℕ

@@ -2,33 +2,23 @@ ghost use Rattle.std.specs.Prelude.{◌≡◌};
 ghost use Rattle.base_vectors.specs.Vectors.{number_at};
 ghost use Rattle.model_kinds.specs.SixKinds as kinds;
 ghost use Rattle.data_meaning.specs.Records.{action_of};
-ghost use Rattle.trace_values.specs.Touches.{last_counted, last_at, past_at, sees, is_seen, is_adding, adds_at, is_last_live, is_live, is_added};
+ghost use Rattle.trace_values.specs.Touches.{last_at, past_at, sees, is_seen, is_adding, adds_at, is_last_live, is_live, is_added};
 
+use crate::rising::Rising;
 use crate::rows::row_of;
 use base_bytes::{Items, Text};
 use base_vectors::{Id, Seq, VersionVector};
 use data_meaning::{Action, Record};
 use model_kinds::Op;
 
-/// The last of rising numbers that is no greater than a number; 0 where there is none.
-fn last_counted(numbers: &[Seq], count: Seq) -> Seq
-    ensures { result ≡ last_counted numbers.now count }
-{
-    let mut index = numbers.len();
-    while index > 0 {
-        index -= 1;
-        if numbers[index] <= count {
-            return numbers[index];
-        }
-    }
-    0
-}
-
 /// The last counted record of an identity that touches the element.
-fn last_at(touches: &[Items<Seq>], known: &VersionVector, id: Id) -> Seq
+fn last_at(touches: &[Rising], known: &VersionVector, id: Id) -> Seq
     ensures { result ≡ last_at touches.now (number_at known.now) id }
 {
-    last_counted(row_of(touches, id), known.at(id))
+    match touches.get(usize::from(id.number())) {
+        Some(numbers) => numbers.last_counted(known.at(id)),
+        None => 0,
+    }
 }
 
 fn adds(op: &Op, element: &Text) -> bool
@@ -73,7 +63,7 @@ fn adds_at(rows: &[Items<Record>], id: Id, number: Seq, element: &Text) -> bool
 /// Whether the last counted record of another identity that touches the element has a record of this one in its past.
 fn sees(
     rows: &[Items<Record>],
-    touches: &[Items<Seq>],
+    touches: &[Rising],
     known: &VersionVector,
     id: Id,
     number: Seq,
@@ -88,7 +78,7 @@ fn sees(
 /// Whether one of the last counted records that touch the element has this record in its past.
 fn is_seen(
     rows: &[Items<Record>],
-    touches: &[Items<Seq>],
+    touches: &[Rising],
     known: &VersionVector,
     id: Id,
     number: Seq,
@@ -108,7 +98,7 @@ fn is_seen(
 /// Whether the last counted record of an identity that touches the element adds it, and no last one has it in its past.
 pub(crate) fn is_last_live(
     rows: &[Items<Record>],
-    touches: &[Items<Seq>],
+    touches: &[Rising],
     element: &Text,
     known: &VersionVector,
     id: Id,
@@ -122,7 +112,7 @@ pub(crate) fn is_last_live(
 /// Whether one of the last counted records that touch the element adds it, and none of them has it in its past.
 pub(crate) fn is_live(
     rows: &[Items<Record>],
-    touches: &[Items<Seq>],
+    touches: &[Rising],
     element: &Text,
     known: &VersionVector,
 ) -> bool
@@ -139,7 +129,7 @@ pub(crate) fn is_live(
 }
 
 /// Whether a vector counts a record that adds the element.
-pub(crate) fn is_added(adds: &[Items<Seq>], known: &VersionVector) -> bool
+pub(crate) fn is_added(adds: &[Rising], known: &VersionVector) -> bool
     ensures { result ≡ is_added adds.now (number_at known.now) }
 {
     for place in 0..known.limit() {

@@ -9,6 +9,7 @@
 #![tactic(auto)]
 
 mod elements;
+mod rising;
 mod rows;
 mod sets;
 mod sums;

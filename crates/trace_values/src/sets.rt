@@ -8,11 +8,11 @@ ghost use Rattle.base_bytes.specs.TextOrder.{text_order, IsRising};
 ghost use Rattle.base_vectors.specs.Vectors.{number_at};
 ghost use Rattle.data_growing.specs.Texts.{IsFound};
 ghost use Rattle.data_meaning.specs.Records.{action_of};
-ghost use Rattle.trace_values.specs.Rows.{AreRows, IsPushedIf};
+ghost use Rattle.trace_values.specs.Rows.{AreRows};
 ghost use Rattle.trace_values.specs.Elements.{names, is_pruned, counts_add, counts_live, IsMarked, AreMarked, IsPlaced, IsNamed, IsKept, StandForElements};
 
 use crate::elements::{is_added, is_last_live, is_live};
-use crate::rows::push_row;
+use crate::rising::{Rising, push_if};
 use base_bytes::{Items, Memory, Text};
 use base_vectors::{Id, Seq, VersionVector};
 use data_meaning::{Action, Record};
@@ -24,8 +24,8 @@ use std::cmp::Ordering;
 #[derive(Drop)]
 pub(crate) struct Element {
     pub(crate) name: Text,
-    pub(crate) touches: Vec<Items<Seq>>,
-    pub(crate) adds: Vec<Items<Seq>>,
+    pub(crate) touches: Vec<Rising>,
+    pub(crate) adds: Vec<Rising>,
 }
 
 fn order(text: &Text, other: &Text) -> Ordering
@@ -74,23 +74,6 @@ fn place_of(elements: &mut Vec<Element>, alloc: Global, name: &Text) -> Result<u
             elements.insert(place, unnamed(alloc, name))?;
             Ok(place)
         }
-    }
-}
-
-/// Adds a number to those of an identity, if so.
-fn push_if(
-    rows: &mut Vec<Items<Seq>>,
-    alloc: Global,
-    id: Id,
-    number: Seq,
-    counts: bool,
-) -> Result<(), Memory>
-    ensures { OnOk result (IsPushedIf counts rows.old.items rows.new.items id number) }
-{
-    if counts {
-        push_row(rows, alloc, id, number)
-    } else {
-        Ok(())
     }
 }
 
