@@ -35,6 +35,7 @@ use Rattle.trace_values.specs.Rows.{row_of, AreRows}
 use Rattle.trace_values.specs.Touches.{IsPushedIf, passing, AreTouches}
 use Rattle.trace_values.specs.Elements.{names, names_it, NoneNames, adds_at, AreAdds, IsElement, StandForElements, IsMarked, AreMarked, IsPlaced, IsNamed, IsKept, is_pruned}
 use Rattle.trace_values.proofs.Firsts.{set_here, set_there}
+use Rattle.trace_values.proofs.RowLaws.{get_some, get_below}
 use Rattle.trace_values.proofs.TouchLaws.{touches_then, adds_then, touch_next, prune_next, live_is}
 use Rattle.trace_values.proofs.Unnamed.{NoneAdds, untouched}
 
@@ -136,16 +137,6 @@ put_placed old kept new k x e kept_is few belongs name touching adding new_is = 
 
 -- ONE RECORD MORE
 
-get_some : {X : Type 0} (xs : List X) (k : ℕ) → k < length xs → (x : X) × (slice_get xs k ≡ Some x)
-get_some [] k h = absurd (omega (arith, h))
-get_some (x ∷ xs) zero h = (x, refl)
-get_some (x ∷ xs) (suc k) h = get_some xs k (omega (arith, h))
-
-get_below : {X : Type 0} (xs : List X) (k : ℕ) (x : X) → slice_get xs k ≡ Some x → k < length xs
-get_below [] k x e = absurd (cc e)
-get_below (y ∷ xs) zero x e = omega arith
-get_below (y ∷ xs) (suc k) x e = let h = get_below xs k x e in omega (arith, h)
-
 pub names_marked : (touching adding : Element → Bool) (id number : ℕ) (old new : List Element) → AreMarked (length old) touching adding id number old new → names new ≡ names old
 names_marked touching adding id number old new marked =
     names_same old new marked.count (λ k x here. let there = marked.first k x (get_below old k x here) here in (there.0, there.1, there.2.name))
@@ -160,7 +151,7 @@ apart xs rising j k near far same = elim (cases_lt j k) [
   ]
 ]
 
-and_none : (a : Bool) → (a && false) ≡ false
+pub and_none : (a : Bool) → (a && false) ≡ false
 and_none true = refl
 and_none false = refl
 

@@ -8,7 +8,7 @@ use Rattle.std.proofs.lemmas.List.{get_or_default}
 use Rattle.std.proofs.lemmas.Option.{unwrap_or-slice_get}
 use Rattle.trace_values.specs.Rows.{row_of}
 use Rattle.trace_values.specs.Touches.{AreRising, IsPushedIf, passing, last_counted}
-use Rattle.trace_values.proofs.Firsts.{set_here, set_there}
+use Rattle.trace_values.proofs.Firsts.{length_push, set_here, set_there}
 
 front : (ns : List ℕ) (n i : ℕ) → i < length ns → get_or (ns ++ n ∷ []) i 0 ≡ get_or ns i 0
 front [] n i h = absurd (omega (arith, h))
@@ -19,15 +19,11 @@ last_pushed : (ns : List ℕ) (n : ℕ) → get_or (ns ++ n ∷ []) (length ns) 
 last_pushed [] n = refl
 last_pushed (m ∷ ns) n = last_pushed ns n
 
-long_pushed : (ns : List ℕ) (n : ℕ) → length (ns ++ n ∷ []) ≡ length ns + 1
-long_pushed [] n = refl
-long_pushed (m ∷ ns) n = let later = long_pushed ns n in omega (arith, later)
-
 pub rising_push : (ns : List ℕ) (n : ℕ) → AreRising ns → ((i : ℕ) → i < length ns → get_or ns i 0 ≤ n) → AreRising (ns ++ n ∷ [])
 rising_push ns n rise above i j order within = elim (cases_lt j (length ns)) [
   | inl before ↦ (let a = front ns n i (omega (arith, order, before)) in let b = front ns n j before in let r = rise i j order before in omega (arith, a, b, r))
   | inr past ↦
-      (let long = long_pushed ns n in
+      (let long = length_push ns n in
       let last : j ≡ length ns = omega (arith, within, past, long) in
       let b = ap (λ k. get_or (ns ++ n ∷ []) k 0) last ∙ last_pushed ns n in
       elim (cases_lt i (length ns)) [
@@ -35,19 +31,6 @@ rising_push ns n rise above i j order within = elim (cases_lt j (length ns)) [
         | inr far ↦ (let same : i ≡ length ns = omega (arith, far, order, last) in let a = ap (λ k. get_or (ns ++ n ∷ []) k 0) same ∙ last_pushed ns n in omega (arith, a, b))
       ])
 ]
-
--- where the last is no greater
-pub rising_more : (ns : List ℕ) (n : ℕ) → AreRising ns → (0 < length ns → get_or ns (length ns - 1) 0 ≤ n) → AreRising (ns ++ n ∷ [])
-rising_more ns n rise above = rising_push ns n rise (λ i h. let r = rise i (length ns - 1) (omega (arith, h)) (omega (arith, h)) in let l = above (omega (arith, h)) in omega (arith, r, l))
-
--- they don't rise with a number that the last is greater than
-pub rising_no_more : (ns : List ℕ) (n : ℕ) → 0 < length ns → n < get_or ns (length ns - 1) 0 → AreRising (ns ++ n ∷ []) → ⊥
-rising_no_more ns n some less rise =
-    let long = long_pushed ns n in
-    let r = rise (length ns - 1) (length ns) (omega arith) (omega (arith, long)) in
-    let a = front ns n (length ns - 1) (omega (arith, some)) in
-    let b = last_pushed ns n in
-    omega (arith, less, r, a, b)
 
 -- NUMBERS THAT PASS A TEST
 
@@ -62,7 +45,7 @@ passing_both test (suc m) = go (test m) (passing_both test m)
       (λ i h. elim (cases_lt i (length (passing test m))) [
         | inl near ↦ (let a = front (passing test m) (suc m) i near in let r = both.1 i near in omega (arith, a, r))
         | inr far ↦
-            (let long = long_pushed (passing test m) (suc m) in
+            (let long = length_push (passing test m) (suc m) in
             let same : i ≡ length (passing test m) = omega (arith, far, h, long) in
             let a = ap (λ k. get_or (passing test m ++ suc m ∷ []) k 0) same ∙ last_pushed (passing test m) (suc m) in omega (arith, a))
       ]),

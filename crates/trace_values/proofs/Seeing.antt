@@ -9,13 +9,10 @@ use Rattle.model_history.specs.Texts.{Text}
 use Rattle.model_history.specs.Vector.{VersionVector}
 use Rattle.model_history.proofs.PruneLaws.{IsIn, in_tail, in_range, at_identities}
 use Rattle.theorem_latest.proofs.Touching.{any_holds}
+use Rattle.trace_values.proofs.Unnamed.{none_pass}
 use Rattle.data_meaning.specs.declared.record.Record.{Record}
 use Rattle.trace_values.specs.Rows.{row_of}
 use Rattle.trace_values.specs.Touches.{last_counted, last_at, past_at, sees, is_seen, adds_at, is_last_live, is_live, is_added}
-
-none_pass : {X : Type 0} (p : X → Bool) (xs : List X) → ((x : X) → IsIn xs x → p x ≡ false) → list_any p xs ≡ false
-none_pass p [] none = refl
-none_pass p (x ∷ xs) none = ap (λ b. b || list_any p xs) (none x (0, refl)) ∙ none_pass p xs (λ y m. none y (in_tail x xs y m))
 
 small_of : (i : ℕ) → IsIn identities i → i < identity_limit
 small_of i h = let r = in_range 0 identity_limit i h in omega (arith, r.1)

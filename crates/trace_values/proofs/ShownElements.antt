@@ -33,7 +33,7 @@ use Rattle.trace_values.specs.Rows.{row_of, AreRows}
 use Rattle.trace_values.specs.Touches.{passing, last_counted, last_at, is_added}
 use Rattle.trace_values.specs.Elements.{names, adds_at, AreAdds, counts_add, counts_live, names_it, NoneNames, StandForElements}
 use Rattle.trace_values.proofs.TouchLaws.{last_passing, counted_last, live_any}
-use Rattle.trace_values.proofs.ElementLaws.{none_adds}
+use Rattle.trace_values.proofs.ElementLaws.{and_none, none_adds}
 use Rattle.trace_values.proofs.Unnamed.{NoneAdds, live_none}
 
 -- SOME OF THE TEXTS
@@ -76,11 +76,7 @@ same_filter p xs ys rising too here there =
   where
     go : (e : Text) (b : Bool) → p e ≡ b → (contains_text xs e && p e) ≡ (contains_text ys e && p e)
     go e true is = ap (λ c. c && p e) (here e is ∙ sym (there e is))
-    go e false is = ap (λ c. contains_text xs e && c) is ∙ none (contains_text xs e) ∙ sym (none (contains_text ys e)) ∙ ap (λ c. contains_text ys e && c) (sym is)
-      where
-        none : (a : Bool) → (a && false) ≡ false
-        none true = refl
-        none false = refl
+    go e false is = ap (λ c. contains_text xs e && c) is ∙ and_none (contains_text xs e) ∙ sym (and_none (contains_text ys e)) ∙ ap (λ c. contains_text ys e && c) (sym is)
 
 names_filter : (test : Element → Bool) (p : Text → Bool) (xs : List Element) → ((k : ℕ) (x : Element) → slice_get xs k ≡ Some x → test x ≡ p x.name) → names (filter test xs) ≡ filter p (names xs)
 names_filter test p [] same = refl
@@ -217,11 +213,7 @@ module _ (made H : History Op) (history : IsHistory made) (taken : IsTakenFrom m
       where
         both : (e : Text) (b : Bool) → adds_some e ≡ b → (contains_text (names elements) e && adds_some e) ≡ adds_some e
         both e true is = ap (λ c. c && adds_some e) (there_if adds_some (names elements) (λ f absent. none_added f (none_in f absent)) e is)
-        both e false is = ap (λ c. contains_text (names elements) e && c) is ∙ none (contains_text (names elements) e) ∙ sym is
-          where
-            none : (a : Bool) → (a && false) ≡ false
-            none true = refl
-            none false = refl
+        both e false is = ap (λ c. contains_text (names elements) e && c) is ∙ and_none (contains_text (names elements) e) ∙ sym is
 
     pub live_shown : (rows : List (List Record)) → AreRows rows made → names (filter (counts_live rows known) elements) ≡ live_elements set_operations H
     live_shown rows rows_are =

@@ -14,7 +14,7 @@ use Rattle.model_traces.proofs.Tests.{is_stamped}
 use Rattle.model_kinds.specs.SixKinds.{set_operations, adds, removes}
 use Rattle.model_kinds.specs.declared.operation.Op.{Op}
 
-none_pass : {X : Type 0} (p : X → Bool) (xs : List X) → ((x : X) → IsIn xs x → p x ≡ false) → list_any p xs ≡ false
+pub none_pass : {X : Type 0} (p : X → Bool) (xs : List X) → ((x : X) → IsIn xs x → p x ≡ false) → list_any p xs ≡ false
 none_pass p [] none = refl
 none_pass p (x ∷ xs) none = ap (λ b. b || list_any p xs) (none x (0, refl)) ∙ none_pass p xs (λ y m. none y (in_tail x xs y m))
 
