@@ -1,5 +1,5 @@
 -- What is kept of elements, when another is put in its place, and after one record more.
-use Rattle.std.proofs.Common.{◌≡◌, ℕ, zero, suc, ◌+◌, ◌-◌, ◌<◌, ◌≤◌, List, [], ◌∷◌, ◌++◌, length, take, drop, map, set, get_or, length-set, refl, sym, ap, ap₂, subst, ◌∙◌, arith, Bool, true, false, ◌||◌, ◌⊎◌, Option, Some, None, inl, inr}
+use Rattle.std.proofs.Common.{◌≡◌, ℕ, zero, suc, ◌+◌, ◌<◌, ◌≤◌, List, [], ◌∷◌, ◌++◌, length, take, drop, set, get_or, length-set, refl, sym, ap, ap₂, subst, ◌∙◌, arith, Bool, true, false, ◌||◌, ◌⊎◌, Some, inl, inr}
 use Rattle.std.specs.Prelude.{◌&&◌, if◌then◌else◌, slice_get}
 use Rattle.std.specs.List.{insert}
 use Rattle.std.specs.Str.{bytes_eq}
@@ -14,7 +14,7 @@ use Rattle.model_history.specs.Texts.{Text, text_lt, text_set, contains_text}
 use Rattle.model_history.specs.Vector.{VersionVector}
 use Rattle.model_history.specs.Cuts.{record_at}
 use Rattle.model_history.specs.Log.{IsTakenFrom}
-use Rattle.model_history.specs.History.{Action, Record as Meant, History, at, versions, with_record, HasRecord, IsHistory}
+use Rattle.model_history.specs.History.{Action, Record as Meant, History, at, versions, with_record, IsHistory}
 use Rattle.model_history.specs.History.Action.{Operation, Prune}
 use Rattle.model_history.proofs.Bridge.{has_record_at}
 use Rattle.model_history.proofs.HistoryLaws.{has_with_record, slice_get-take}
@@ -177,9 +177,11 @@ named_one old placed place name adding id number x y is at marked made stands =
     first k z h there = elim (eqb_tells k place) [
       | inl same ↦
           (let one : z ≡ x = (let e = sym there ∙ ap (slice_get placed) same.1 ∙ slice_get-get_or placed place x within ∙ ap Some (sym at) in cc e) in
-          let named : bytes_eq name z.name ≡ true = ap (bytes_eq name) (ap (λ (w : Element). w.name) one ∙ ap (λ (w : Element). w.name) at ∙ name_read placed place x [] within ∙ here) ∙ texts_eq name in
-          (y, ap (slice_get (set placed place y)) same.1 ∙ set_here placed place y within,
-          subst (λ b. IsMarked b (adding && b) id number z y) (sym named) (subst (λ (w : Element). IsMarked true (adding && true) id number w y) (sym one) (subst (λ b. IsMarked true b id number x y) (sym (and_all adding)) marked))))
+          let named : bytes_eq name z.name ≡ true = ap (bytes_eq name) (ap (λ (w : Element). w.name) one ∙ ap (λ (w : Element). w.name) at ∙ name_read placed place x [] within ∙ here) ∙ texts_eq name in (
+            y,
+            ap (slice_get (set placed place y)) same.1 ∙ set_here placed place y within,
+            subst (λ b. IsMarked b (adding && b) id number z y) (sym named) (subst (λ (w : Element). IsMarked true (adding && true) id number w y) (sym one) (subst (λ b. IsMarked true b id number x y) (sym (and_all adding)) marked)),
+          ))
       | inr other ↦ (z, set_there placed place k y other.1 ∙ there, subst (λ b. IsMarked b (adding && b) id number z z) (sym (differs other.1)) (subst (λ b. IsMarked false b id number z z) (sym (and_none adding)) unmarked))
     ]
       where

@@ -1,24 +1,22 @@
 -- What is kept, at first and after a record; and what it tells.
-use Rattle.std.proofs.Common.{◌≡◌, ℕ, zero, suc, ◌+◌, ◌-◌, ◌<◌, ◌≤◌, List, [], length, refl, sym, ap, subst, ◌∙◌, arith, Bool, false}
+use Rattle.std.proofs.Common.{◌≡◌, ℕ, ◌+◌, ◌-◌, ◌<◌, List, [], length, refl, sym, ap, subst, ◌∙◌, arith, false}
 use Rattle.std.specs.Prelude.{if◌then◌else◌, Result, Ok, Err, OnOk, IfOk}
 use Rattle.model_history.specs.Table.{identity_limit, identities}
 use Rattle.model_history.specs.Vector.{VersionVector}
 use Rattle.model_history.specs.Log.{IsTakenFrom}
-use Rattle.model_history.specs.History.{History, at, versions, cut, no_records, IsHistory}
-use Rattle.model_history.proofs.Bridge.{cut_of_part, taken_is_history}
+use Rattle.model_history.specs.History.{History, versions, no_records, IsHistory}
 use Rattle.model_meanings.specs.Growing.{has_operation}
 use Rattle.model_kinds.specs.SixKinds.{six_kinds, shown, is_delete}
 use Rattle.model_kinds.specs.declared.kind.Kind.{Kind}
 use Rattle.model_kinds.specs.declared.operation.Op.{Op}
-use Rattle.model_kinds.specs.declared.shown.Shown.{Shown}
 use Rattle.model_kinds.specs.declared.shown.Shown.TheVariants.{Deleted}
 use Rattle.model_traces.specs.Traces.{recorded}
 use Rattle.data_meaning.specs.declared.record.Action.{Action as CodeAction}
 use Rattle.data_meaning.specs.Records.{action_of}
 use Rattle.trace_values.specs.declared.values.Values.{Values}
-use Rattle.trace_values.specs.Rows.{IsPushed, last_in, last_of, row_of, AreFirst}
-use Rattle.trace_values.specs.Sums.{no_sums, with_action, AreSums}
-use Rattle.trace_values.specs.Writes.{no_write, write_after, newest_of, AreWrites}
+use Rattle.trace_values.specs.Rows.{IsPushed, last_of, AreFirst}
+use Rattle.trace_values.specs.Sums.{no_sums, with_action}
+use Rattle.trace_values.specs.Writes.{no_write, write_after, newest_of}
 use Rattle.trace_values.specs.Elements.{StandForElements}
 use Rattle.trace_values.specs.Standing.{StandForValues}
 use Rattle.trace_values.proofs.SumLaws.{sums_then}

@@ -1,13 +1,12 @@
 -- What loops over identities find: which last touches see a record, and which are live.
-use Rattle.std.proofs.Common.{◌≡◌, ℕ, ◌<◌, ◌≤◌, List, [], ◌∷◌, refl, sym, ap, ◌∙◌, arith, Bool, true, false, ◌||◌, inl, inr}
+use Rattle.std.proofs.Common.{◌≡◌, ℕ, ◌<◌, ◌≤◌, List, [], ◌∷◌, refl, ap, ◌∙◌, arith, Bool, true, false, inl, inr}
 use Rattle.std.specs.Prelude.{◌&&◌, not, ◌==◌, nat_le, if◌then◌else◌, fold}
-use Rattle.std.specs.List.{list_any}
 use Rattle.std.proofs.lemmas.Bool.{cases_lt, leb-true}
 use Rattle.std.proofs.lemmas.Bool.Decides.{eqb_tells}
 use Rattle.model_history.specs.Table.{identity_limit, identities}
 use Rattle.model_history.specs.Texts.{Text}
 use Rattle.model_history.specs.Vector.{VersionVector}
-use Rattle.model_history.proofs.PruneLaws.{IsIn, in_tail, in_range, at_identities}
+use Rattle.model_history.proofs.PruneLaws.{IsIn, in_range, at_identities}
 use Rattle.theorem_latest.proofs.Touching.{any_holds}
 use Rattle.trace_values.proofs.Unnamed.{none_pass}
 use Rattle.data_meaning.specs.declared.record.Record.{Record}

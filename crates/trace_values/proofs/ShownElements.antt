@@ -1,25 +1,25 @@
 -- The elements that are kept and pass a test are those that a history shows.
-use Rattle.std.proofs.Common.{◌≡◌, ℕ, zero, suc, ◌+◌, ◌-◌, ◌<◌, ◌≤◌, List, [], ◌∷◌, ◌++◌, length, map, filter, refl, sym, ap, subst, ◌∙◌, arith, Bool, true, false, ◌||◌, Option, Some, None, inl, inr}
+use Rattle.std.proofs.Common.{◌≡◌, ℕ, zero, suc, ◌<◌, List, [], ◌∷◌, filter, refl, sym, ap, ◌∙◌, arith, Bool, true, false, ◌||◌, Option, Some, None, inl, inr}
 use Rattle.std.specs.Prelude.{◌&&◌, not, ◌==◌, if◌then◌else◌, slice_get, filter_map}
 use Rattle.std.specs.List.{list_any}
 use Rattle.std.specs.Str.{bytes_eq}
 use Rattle.std.proofs.lemmas.Bool.{cases_lt}
 use Rattle.model_history.specs.Table.{identity_limit, identities}
-use Rattle.model_history.specs.Texts.{Text, text_set, contains_text}
+use Rattle.model_history.specs.Texts.{Text, contains_text}
 use Rattle.model_history.specs.Vector.{VersionVector}
 use Rattle.model_history.specs.Cuts.{record_at}
 use Rattle.model_history.specs.Log.{IsTakenFrom}
-use Rattle.model_history.specs.History.{Action, Record as Meant, Stamped, History, at, versions, all_records, HasRecord, IsHistory}
+use Rattle.model_history.specs.History.{Action, Record as Meant, Stamped, History, at, versions, all_records, IsHistory}
 use Rattle.model_history.specs.History.Action.{Operation, Prune}
 use Rattle.model_history.proofs.Bridge.{record_at_is, record_at_part, taken_is_history}
 use Rattle.model_history.proofs.PastLaws.{identity_of_record}
 use Rattle.model_history.proofs.HistoryLaws.{slice_get-below}
 use Rattle.model_history.proofs.PartLaws.{part-le, in_whole}
-use Rattle.model_history.proofs.PruneLaws.{IsIn, in_range, at_identities}
+use Rattle.model_history.proofs.PruneLaws.{in_range, at_identities}
 use Rattle.model_meanings.specs.Growing.{found, is_operation, has_operation, added_elements}
 use Rattle.model_meanings.specs.ObservedRemove.{is_live, live_elements}
 use Rattle.model_traces.proofs.Tests.{is_stamped, stamped}
-use Rattle.model_kinds.specs.SixKinds.{set_operations, adds, removes, added}
+use Rattle.model_kinds.specs.SixKinds.{set_operations, adds, added}
 use Rattle.model_kinds.specs.declared.operation.Op.{Op}
 use Rattle.model_kinds.specs.declared.operation.Op.TheVariants.{Add}
 use Rattle.theorem_latest.proofs.Touching.{any_tells, any_holds, not_zero, some_zero, last_touches_are_enough}
@@ -30,8 +30,8 @@ use Rattle.data_growing.specs.TextSetLaws.{same_texts, contains_set, rising_set}
 use Rattle.data_meaning.specs.declared.record.Record.{Record}
 use Rattle.trace_values.specs.declared.sets.Element.{Element}
 use Rattle.trace_values.specs.Rows.{row_of, AreRows}
-use Rattle.trace_values.specs.Touches.{passing, last_counted, last_at, is_added}
-use Rattle.trace_values.specs.Elements.{names, adds_at, AreAdds, counts_add, counts_live, names_it, NoneNames, StandForElements}
+use Rattle.trace_values.specs.Touches.{last_counted, last_at, is_added}
+use Rattle.trace_values.specs.Elements.{names, adds_at, AreAdds, counts_add, counts_live, StandForElements}
 use Rattle.trace_values.proofs.TouchLaws.{last_passing, counted_last, live_any}
 use Rattle.trace_values.proofs.ElementLaws.{and_none, none_adds}
 use Rattle.trace_values.proofs.Unnamed.{NoneAdds, live_none}

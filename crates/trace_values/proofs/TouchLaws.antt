@@ -1,6 +1,6 @@
 -- Which records touch an element is settled when they are made; the last of them that a vector counts say whether it is shown.
-use Rattle.std.proofs.Common.{◌≡◌, ℕ, zero, suc, ◌+◌, ◌-◌, ◌<◌, ◌≤◌, List, [], ◌∷◌, ◌++◌, length, refl, sym, ap, ap₂, subst, ◌∙◌, arith, Bool, true, false, ◌||◌, Option, Some, None, inl, inr}
-use Rattle.std.specs.Prelude.{◌&&◌, not, ◌==◌, nat_le, if◌then◌else◌, slice_get, fold}
+use Rattle.std.proofs.Common.{◌≡◌, ℕ, zero, suc, ◌-◌, ◌<◌, ◌≤◌, List, [], ◌∷◌, ◌++◌, length, refl, sym, ap, ap₂, subst, ◌∙◌, arith, Bool, true, false, Option, Some, None, inl, inr}
+use Rattle.std.specs.Prelude.{◌&&◌, not, ◌==◌, nat_le, if◌then◌else◌, slice_get}
 use Rattle.std.specs.List.{list_any}
 use Rattle.std.proofs.lemmas.Bool.{cases_lt, le-leb}
 use Rattle.std.proofs.lemmas.Bool.Decides.{eqb_tells, nat_tests}
@@ -10,17 +10,17 @@ use Rattle.model_history.specs.Texts.{Text}
 use Rattle.model_history.specs.Vector.{VersionVector}
 use Rattle.model_history.specs.Cuts.{record_at}
 use Rattle.model_history.specs.Log.{IsTakenFrom}
-use Rattle.model_history.specs.History.{Action, Record as Meant, Stamped, History, at, versions, cut, with_record, all_records, HasRecord, IsHistory}
+use Rattle.model_history.specs.History.{Action, Record as Meant, Stamped, History, at, versions, with_record, all_records, IsHistory}
 use Rattle.model_history.specs.History.Action.{Operation, Prune}
 use Rattle.model_history.proofs.Bridge.{record_at_is, has_record_at, record_at_part, taken_is_history}
 use Rattle.model_history.proofs.HistoryLaws.{with_at_same, with_at_other}
 use Rattle.model_history.proofs.PartLaws.{part-le, in_whole}
 use Rattle.model_history.proofs.PruneLaws.{IsIn, in_range}
 use Rattle.model_meanings.specs.Growing.{is_operation}
-use Rattle.model_meanings.specs.ObservedRemove.{is_adding_by, is_live_by, touches_by, touches, is_live}
+use Rattle.model_meanings.specs.ObservedRemove.{is_adding_by, is_live_by, touches_by, touches}
 use Rattle.model_meanings.proofs.EquationsOfMeanings.{touches_equation, list_any-same}
 use Rattle.model_traces.proofs.Tests.{stamped}
-use Rattle.model_kinds.specs.SixKinds.{set_operations, adds, removes}
+use Rattle.model_kinds.specs.SixKinds.{set_operations, adds}
 use Rattle.model_kinds.specs.declared.operation.Op.{Op}
 use Rattle.theorem_latest.specs.Latest as latest
 use Rattle.theorem_latest.specs.Latest.{stamped_at, touches_at, last_touch, last_of}
@@ -35,7 +35,7 @@ use Rattle.trace_values.specs.Touches.{AreRising, IsPushedIf, passing, last_coun
 use Rattle.trace_values.proofs.Firsts.{positive}
 use Rattle.trace_values.proofs.RisingLaws.{passing_rises}
 use Rattle.trace_values.proofs.RowLaws.{has_row, IsAt}
-use Rattle.trace_values.proofs.WriteLaws.{then_history, made_taken, held_taken, next_at, stamp, in_all, past_is}
+use Rattle.trace_values.proofs.WriteLaws.{then_history, made_taken, next_at, in_all, past_is}
 
 -- THE LAST THAT PASSES A TEST
 

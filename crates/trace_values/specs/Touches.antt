@@ -1,5 +1,5 @@
 -- Which records touch an element, by identity, and whether it is shown.
-use Rattle.std.specs.Prelude.{◌≡◌, ℕ, zero, suc, ◌-◌, ◌<◌, ◌≤◌, ◌==◌, ◌&&◌, not, nat_le, if◌then◌else◌, List, [], ◌∷◌, ◌++◌, length, get_or, fold, Bool, true, false, Option, None, Some, slice_get}
+use Rattle.std.specs.Prelude.{◌≡◌, ℕ, zero, suc, ◌-◌, ◌<◌, ◌≤◌, ◌==◌, ◌&&◌, not, nat_le, if◌then◌else◌, List, [], ◌∷◌, ◌++◌, length, get_or, fold, Bool, true, false, None, Some, slice_get}
 use Rattle.std.specs.List.{list_any}
 use Rattle.model_history.specs.Table.{identities}
 use Rattle.model_history.specs.Texts.{Text}

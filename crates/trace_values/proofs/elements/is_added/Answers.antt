@@ -1,8 +1,7 @@
-use Rattle.std.proofs.Common.{◌≡◌, ◌<◌, ap, sym, ◌∙◌, arith}
+use Rattle.std.proofs.Common.{◌<◌, ap, sym, ◌∙◌, arith}
 use Rattle.std.specs.Prelude.{not, ◌==◌}
 use Rattle.model_history.specs.Table.{identity_limit}
 use Rattle.base_vectors.specs.Vectors.{number_at}
-use Rattle.trace_values.specs.Touches.{last_at}
 use Rattle.trace_values.proofs.Seeing.{added_found, none_added, is_some}
 use Rattle.trace_values.proofs.elements.is_added.Goals as goal
 

@@ -1,4 +1,4 @@
-use Rattle.std.proofs.Common.{◌≡◌, ◌<◌, true, sym, ◌∙◌, arith}
+use Rattle.std.proofs.Common.{◌<◌, sym, ◌∙◌, arith}
 use Rattle.model_history.specs.Table.{identity_limit}
 use Rattle.base_vectors.specs.Vectors.{number_at}
 use Rattle.trace_values.proofs.Seeing.{live_found, none_live}

@@ -1,4 +1,4 @@
-use Rattle.std.proofs.Common.{◌≤◌, length, false}
+use Rattle.std.proofs.Common.{false}
 use Rattle.base_vectors.specs.Vectors.{number_at}
 use Rattle.trace_values.specs.Elements.{is_pruned, AreMarked}
 use Rattle.trace_values.proofs.sets.keep_prune.Given as goal

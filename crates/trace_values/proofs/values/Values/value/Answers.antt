@@ -1,5 +1,4 @@
 use Rattle.std.proofs.Common.{ap, sym, ◌∙◌}
-use Rattle.base_vectors.specs.Vectors.{number_at}
 use Rattle.model_kinds.specs.SixKinds.{six_kinds}
 use Rattle.model_kinds.specs.declared.kind.Kind.TheVariants.{GCounter, PnCounter, GSet, OrSet, Flag, LwwRegister}
 use Rattle.trace_values.proofs.Keeping.{if_ok, value_shown}
