@@ -92,11 +92,7 @@ fn pair(alloc: Global) -> Result<(VersionVector, VersionVector), Fail> {
 }
 
 /// Neither of the two covers the other, and the first has the first identity's records up to 2.
-fn check_apart(
-    rt: &impl Abort,
-    left: &VersionVector,
-    right: &VersionVector,
-) -> Result<(), Fail> {
+fn check_apart(rt: &impl Abort, left: &VersionVector, right: &VersionVector) -> Result<(), Fail> {
     let (origin, _, _) = identities().ok_or("identities")?;
     assert_eq!(rt; left.compare(right), Order::Concurrent);
     let contained = left.contains_dot(Dot { origin, seq: 2 });
