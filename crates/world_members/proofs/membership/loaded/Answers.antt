@@ -11,8 +11,8 @@ returns-in-Err-Damaged g c =
     record {
       refused = subst (λ e. IsRefusedLoad c.args.old e) c.in-Err-Damaged.field-0-is c.in-Err-Damaged.ensures.refused;
       unfit = λ kinds logs table store told of_kinds spells fit.
-        let given : damaged.loaded ≡ table = (subst (λ t. Gives t damaged.loaded) told damaged.gives).0 in
-        damaged.unfit kinds logs store of_kinds (subst (λ t. SpellsStore g.T.Replica g.T.SpelledData kinds logs t store) (sym given) spells) fit;
+          let given : damaged.loaded ≡ table = (subst (λ t. Gives t damaged.loaded) told damaged.gives).0 in
+          damaged.unfit kinds logs store of_kinds (subst (λ t. SpellsStore g.T.Replica g.T.SpelledData kinds logs t store) (sym given) spells) fit;
     }
 
 pub returns-in-Err-Memory : goal.returns-in-Err-Memory
