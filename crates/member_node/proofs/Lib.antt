@@ -13,4 +13,5 @@ pub mod Fates
 pub mod Making
 pub mod Updates
 pub mod Restorings
+pub mod FromKeepers
 pub mod Ticks

@@ -21,6 +21,7 @@ pub mod Steps
 pub mod Loading
 pub mod Restoring
 pub mod Loaded
+pub mod FromKeeper
 pub mod Planning
 pub mod Storing
 pub mod Updates

@@ -27,6 +27,9 @@
 //!   new one's; what holds a store of a run is never refused. Else each key holds what was given for
 //!   it, and no more. After a refusal the old member comes back, but for its keeper (`Node::new`,
 //!   `Node::loaded` (`HoldsGiven`, `IsDamaged`)).
+//! - A member that is made from a keeper alone, as in a process that starts again, stands for the
+//!   model's that has loaded the store of the keeper's table, where it tells one; after a refusal
+//!   the keeper comes back (`Node::from_keeper`).
 #![tactic(auto)]
 
 mod answering;
@@ -34,6 +37,7 @@ mod change;
 mod closing;
 mod counting;
 mod entries;
+mod from_keeper;
 mod gossip;
 mod groups;
 mod held;
@@ -59,6 +63,7 @@ mod storing;
 mod taking;
 mod ticking;
 
+pub use from_keeper::FromKeeperError;
 pub use input::Input;
 pub use key::{KeyDecl, KeyState};
 pub use loading::LoadError;
