@@ -23,22 +23,22 @@ pub struct Named<'v> {
 
 /// One more member is passed.
 #[inline(always)]
-fn pass<'v>(named: Named<'v>, key: &str, value: &'v Value) -> Named<'v>
+fn pass<'v>(mut named: Named<'v>, key: &str, value: &'v Value) -> Named<'v>
     ensures { ArePassed key.now (view value.now) named.entry result }
 {
-    let field = Some(value);
     match key {
-        "at" => Named { at: field, ..named },
-        "do" => Named { form: field, ..named },
-        "key" => Named { key: field, ..named },
-        "op" => Named { op: field, ..named },
-        "level" => Named { level: field, ..named },
-        "by" => Named { by: field, ..named },
-        "element" => Named { element: field, ..named },
-        "now" => Named { now: field, ..named },
-        "text" => Named { text: field, ..named },
-        _ => named,
+        "at" => named.at = Some(value),
+        "do" => named.form = Some(value),
+        "key" => named.key = Some(value),
+        "op" => named.op = Some(value),
+        "level" => named.level = Some(value),
+        "by" => named.by = Some(value),
+        "element" => named.element = Some(value),
+        "now" => named.now = Some(value),
+        "text" => named.text = Some(value),
+        _ => {}
     }
+    named
 }
 
 /// What stands under each of the names.

@@ -75,12 +75,7 @@ fn own_count(form: OpName) -> usize
 
 /// The names of an update with this operation.
 #[tactic(auto, using(crate::proofs::Names::update_names_given))]
-pub fn update_names(
-    named: &Named,
-    form: OpName,
-    more: &[&str],
-    step: u32,
-) -> Result<(), Rule>
+pub fn update_names(named: &Named, form: OpName, more: &[&str], step: u32) -> Result<(), Rule>
     requires { AreFound named.now }
     ensures { result ≡ names_of step (update_names form) (codes "level" ∷ map (λ name. name.now) more.now) (view named.entry.now.value.now) }
 {

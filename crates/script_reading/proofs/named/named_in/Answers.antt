@@ -1,4 +1,4 @@
-use Rattle.std.proofs.Common.{◌≡◌, subst, sym, ◌∙◌}
+use Rattle.std.proofs.Common.{subst, sym, ◌∙◌}
 use Rattle.serde_json.proofs.Views.{Entry}
 use Rattle.script_reading.proofs.Passes.{AreLeft, none, all_left, passes, all_found}
 use Rattle.script_reading.proofs.named.named_in.Goals as goal
