@@ -1,19 +1,18 @@
 -- The headline holds of each run.
 use Rattle.std.proofs.Common.{◌≡◌, ℕ, suc, ◌-◌, ◌*◌, ◌≤◌, List, length, [], ◌∷◌, ◌++◌, map, refl, sym, ap, subst, ◌∙◌, Bool, true, false, Option, Some, None}
-use Rattle.std.specs.Prelude.{⊤, if◌then◌else◌, nat_le, find, slice_get, option_map, option_and_then}
+use Rattle.std.specs.Prelude.{if◌then◌else◌, nat_le, find, slice_get, option_map, option_and_then}
 use Rattle.std.specs.List.{AllByRecursion}
 use Rattle.std.specs.Str.{bytes_eq}
 use Rattle.model_history.specs.Table.{identity_limit}
 use Rattle.model_history.specs.Texts.{Text}
-use Rattle.model_history.proofs.PruneLaws.{IsIn, found}
+use Rattle.model_history.proofs.PruneLaws.{found}
 use Rattle.model_members.specs.DataType.{Replication, Meaning, meaning}
 use Rattle.model_members.specs.DataType.Meaning.{IsDeleted, Shows}
 use Rattle.model_members.specs.Entry.{has_records}
-use Rattle.model_members.specs.Node.{KeyDecl, KeyState, Node, OpenOperation, Finished, Level, Input, Fate, Reply, Result, Output, state_of, key_state, needed, one_step_later}
+use Rattle.model_members.specs.Node.{KeyDecl, Node, OpenOperation, Finished, Level, Input, Reply, state_of, key_state, needed, one_step_later}
 use Rattle.model_members.specs.Node.Result.{Wrote}
-use Rattle.model_members.specs.Refusals.{IsRefusal}
 use Rattle.model_members.specs.Step.{step, value_reply, read_result, meaning_of, result_of, member_count}
-use Rattle.model_members.specs.World.{World, Event, Turn, IsRun, IsLawful, AreLawful, start, run, happens, turn_of, step_in}
+use Rattle.model_members.specs.World.{World, Event, IsRun, start, run, step_in}
 use Rattle.model_members.specs.Script.{KeeperAnswers, Playing, ScriptStep, Answer, Told, Head, opening, settle}
 use Rattle.model_members.proofs.Cases.{got, got_needing}
 use Rattle.model_members.proofs.RefusedInputs.{refused_leaves}
@@ -25,9 +24,9 @@ use Rattle.theorem_runs.proofs.PruningSafety.{unions_are_pruned}
 use Rattle.theorem_runs.proofs.Safety.{IsSafe, runs_are_safe, run_before}
 use Rattle.theorem_runs.proofs.Stepping.{moves}
 use Rattle.theorem_runs.proofs.SameShown.{same_history, means_by_history}
-use Rattle.theorem_operations.proofs.Moments.{Stands as IsReached, stands_start, stands_run, lawful_rest, pushed_run}
+use Rattle.theorem_operations.proofs.Moments.{Stands as IsReached, stands_start, stands_run}
 use Rattle.theorem_operations.proofs.Operations.{step_tells}
-use Rattle.theorem_operations.proofs.Turns.{IsTurnIn, turn_makes}
+use Rattle.theorem_operations.proofs.Turns.{turn_makes}
 use Rattle.theorem_sections.specs.Calls.{CallsStandOnce}
 use Rattle.theorem_sections.specs.Runs.{RunStep, IsRunStep, Plays, PlaysAll, plain_line}
 use Rattle.theorem_sections.specs.Runs.RunStep.{Plain, Threads}
@@ -39,7 +38,7 @@ use Rattle.theorem_sections.proofs.SeenReads.{gets_include_seen}
 use Rattle.theorem_sections.proofs.Sectioned.{Runs, plays_runs, all_run}
 use Rattle.theorem_settling.specs.Settling.{BlockedStays, DigestsTellFrom, IsSettled, HasBlocked, settle_answer}
 use Rattle.theorem_settling.proofs.Settled.{leaves_settled, sends_few, counts_blocked}
-use Rattle.theorem_headline.specs.Headline.{IsMeaningAt, HasOpen, TellsMeaning, AreAlike, RefusalChangesNothing, EachSection, TellsSettle, LeavesSettled, TheHeadline}
+use Rattle.theorem_headline.specs.Headline.{IsMeaningAt, TellsMeaning, AreAlike, RefusalChangesNothing, EachSection, TellsSettle, LeavesSettled, TheHeadline}
 
 module _ {Kind Op Shown : Type 0} (D : Replication Kind Op Shown) where
   -- what a reply or a result tells, it tells of one meaning

@@ -3,7 +3,7 @@
 --     TellsMeaning, AreAlike, RefusalChangesNothing        what members tell, and what changes
 --     TellsSettle, LeavesSettled, EachSection        of settles and of thread steps
 --     TheHeadline        all of it
-use Rattle.std.specs.Prelude.{◌≡◌, ℕ, zero, suc, ◌-◌, ◌*◌, ◌≤◌, List, [], ◌∷◌, ◌++◌, length, ⊤, None, Some, find, slice_get}
+use Rattle.std.specs.Prelude.{◌≡◌, ℕ, suc, ◌-◌, ◌*◌, ◌≤◌, List, [], ◌∷◌, ◌++◌, length, ⊤, None, Some, find, slice_get}
 use Rattle.std.specs.Str.{bytes_eq}
 use Rattle.model_history.specs.Texts.{Text}
 use Rattle.model_members.specs.DataType.{Replication, Meaning, meaning}

@@ -1,19 +1,21 @@
--- A worked script at which no premise of the headline is empty: a client, a member that leaves, a settle, and an input that is refused.
+-- A worked script that meets every premise of the headline, those within its parts too: a client, a member that leaves, a settle over digests that tell entries apart, and an input that is refused.
 use Rattle.std.specs.Prelude.{◌≡◌, ℕ, List, [], ◌∷◌, true, None, Some, option_map}
 use Rattle.model_history.specs.History.{is_pruned}
 use Rattle.model_members.specs.Node.{Node, Reply, Result}
 use Rattle.model_members.specs.Node.Level.{Local, Majority}
+use Rattle.model_members.specs.World.{start}
 use Rattle.model_members.specs.Script.{Playing, ScriptStep, none_fails, opening}
 use Rattle.model_members.specs.Script.Answer.{Replied}
 use Rattle.model_members.specs.Script.Ask.{Update, Get}
-use Rattle.theorem_operations.specs.Borders.{small, small_keys, the_key}
+use Rattle.theorem_operations.specs.Borders.{small_keys, the_key}
 use Rattle.theorem_sections.specs.Runs.{RunStep, PlaysAll}
 use Rattle.theorem_sections.specs.Runs.RunStep.{Plain, Threads}
 use Rattle.theorem_sections.specs.Completing.{IsUndisturbed}
 use Rattle.theorem_sections.specs.Sections.{Command, Line, Ending, Move, Section, IsSection, command_to}
 use Rattle.theorem_sections.specs.Seen.{Stands, SeenUpdate, IsSeenUntil}
-use Rattle.theorem_settling.specs.Settling.{BlockedStays}
-use Rattle.theorem_headline.specs.Headline.{TellsSettle}
+use Rattle.theorem_settling.specs.Settling.{BlockedStays, DigestsTellFrom}
+use Rattle.theorem_digests.specs.Borders.{spelled_whole}
+use Rattle.theorem_headline.specs.Headline.{TellsSettle, before_step}
 
 abbrev pub One : Type 0
 One = Unit {0}
@@ -22,12 +24,12 @@ One = Unit {0}
 abbrev pub worked_client : List (Command One)
 worked_client = command_to 0 (Update the_key tt (Majority 0)) ∷ command_to 1 (Get the_key (Majority 0)) ∷ []
 
--- then member 0 leaves, the other settles alone, and a key is asked for that nobody declared
+-- then a key is asked for that nobody declared, member 0 leaves, and the other two settle
 abbrev pub worked_script : List (RunStep One)
-worked_script = Threads (worked_client ∷ []) ∷ Plain (ScriptStep.Remove 0) ∷ Plain ScriptStep.Settle ∷ Plain (ScriptStep.Asks 1 (Get [] Local)) ∷ []
+worked_script = Threads (worked_client ∷ []) ∷ Plain (ScriptStep.Asks 1 (Get [] Local)) ∷ Plain (ScriptStep.Remove 0) ∷ Plain ScriptStep.Settle ∷ []
 
 abbrev pub worked_start : Playing One One ℕ
-worked_start = opening none_fails 2 small_keys
+worked_start = opening none_fails 3 small_keys
 
 abbrev pub worked_read : SeenUpdate One
 worked_read = record {
@@ -41,27 +43,30 @@ worked_read = record {
   read_cap = 0;
 }
 
--- NO PREMISE IS EMPTY
+-- EVERY PREMISE IS MET, over the one key whose digests are the spellings themselves
 pub record HeadlineIsMet : Type 0 where
-  pub blocked : BlockedStays small
+  pub blocked : BlockedStays spelled_whole
   pub lines : List (List (Line One ℕ))
   pub last : Playing One One ℕ
-  pub plays : PlaysAll small worked_start worked_script lines last
+  pub plays : PlaysAll spelled_whole worked_start worked_script lines last
   -- the client had seen its majority update done, and its majority get tells a value
   pub here : Playing One One ℕ
   pub there : Playing One One ℕ
   pub update : Line One ℕ
   pub get : Line One ℕ
-  pub seen : IsSeenUntil small none_fails 2 small_keys worked_script lines last plays worked_read 0 here there update get
+  pub seen : IsSeenUntil spelled_whole none_fails 3 small_keys worked_script lines last plays worked_read 0 here there update get
   pub value : get.ended ≡ Some (Ending.Ended (record { op = 0; result = Result.ReadValue 1 }))
   -- nothing disturbs the client's section
   pub moves : List Move
   pub end : Section One One ℕ
-  pub section : IsSection small worked_start (worked_client ∷ []) moves end
+  pub section : IsSection spelled_whole worked_start (worked_client ∷ []) moves end
   pub undisturbed : IsUndisturbed worked_start end
-  -- the settle is done, and the member that left is pruned
-  pub settles : TellsSettle small none_fails 2 small_keys worked_script lines last plays 2 0 0
-  pub pruned : option_map (λ (node : Node One One ℕ). is_pruned (node.entries the_key).history 0) (last.world.nodes 1) ≡ Some true
   -- an input is refused
   pub line : Line One ℕ
-  pub refused : Stands lines (record { step = 3; caller = None; number = 0 }) line × (line.answer ≡ Replied Reply.UnknownKey)
+  pub refused : Stands lines (record { step = 1; caller = None; number = 0 }) line × (line.answer ≡ Replied Reply.UnknownKey)
+  -- the settle is done after eight messages, and blocks nothing
+  pub settles : TellsSettle spelled_whole none_fails 3 small_keys worked_script lines last plays 3 8 0
+  -- digests tell entries apart until then
+  pub digests : DigestsTellFrom spelled_whole (start 3 small_keys) (before_step spelled_whole none_fails 3 small_keys worked_script lines last plays 4).events
+  -- so it leaves a settled world, in which the member that left is pruned
+  pub pruned : option_map (λ (node : Node One One ℕ). is_pruned (node.entries the_key).history 0) (last.world.nodes 1) ≡ Some true

@@ -21,8 +21,9 @@ pub fn the_headline<Kind, Operation, Shown>()
         → TheHeadline D answers members keys steps report.lines report.last report.plays (DigestsTellFrom D (start members keys)) }
 {}
 
-/// There is a script with clients of which no premise in it is empty: a client sees its majority update done and makes a
-/// majority get, which tells a value; a member leaves, and a settle is done and prunes it; an input is refused.
+/// There is a script with clients that meets every premise, those within its parts too: a client sees its majority update done
+/// and makes a majority get, which tells a value; a member leaves, and the other two settle and prune it, while digests tell
+/// entries apart; an input is refused.
 pub fn the_headline_is_met()
     ensures { HeadlineIsMet }
 {}
