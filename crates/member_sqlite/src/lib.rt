@@ -10,14 +10,23 @@
 //!   `asked`). Want of memory alone may come before the database is asked.
 #![tactic(auto)]
 
+mod adopting;
 mod causes;
 mod database;
 mod keeper;
+mod layout;
+mod opening;
 mod rows;
 mod statements;
+mod store_keeper;
 #[cfg(test)]
 mod tests;
 mod together;
+mod told;
 mod writes;
 
 pub use keeper::SqliteKeeper;
+pub use opening::FileKeeper;
+pub use sqlite::{Unknown, Wary};
+pub use store_keeper::StoreKeeper;
+pub use told::OpenError;
