@@ -20,6 +20,7 @@ pub mod Stores
 pub mod Steps
 pub mod Loading
 pub mod Restoring
+pub mod Loaded
 pub mod FromKeeper
 pub mod Planning
 pub mod Storing

@@ -1,7 +1,7 @@
 -- What loading a member answers.
 --     IsSoundAt        what may be loaded
 --     IsLoaded, IsRefusedLoad        the new member, and the old one that comes back
---     StandsForLoaded, FindsNoDamage        what comes of a table that has the spellings of a store
+--     StandsForLoaded        what comes of a table that has the spellings of a store
 use Rattle.std.specs.Prelude.{◌≡◌, ◌≢◌, ℕ, ◌≤◌, List, true, false, Some, slice_get, take, map, All, Any}
 use Rattle.model_history.specs.Texts.{Text}
 use Rattle.model_history.specs.History.{History, IsHistory}
@@ -28,7 +28,7 @@ use Rattle.member_node.specs.declared.loading.LoadError.{LoadError}
 use Rattle.member_node.specs.declared.loading.LoadError.TheVariants.{LoadFailed, Damaged, Memory}
 use Rattle.member_node.specs.Keys.{HaveKinds, declared_by}
 use Rattle.member_node.specs.Members.{StandsForNode}
-use Rattle.member_node.specs.Stores.{IsEarlier, SpellsStore, AreFit}
+use Rattle.member_node.specs.Stores.{IsEarlier, SpellsStore}
 use Rattle.member_node.specs.Steps.{IsOtherwiseSame, Answers, MayAnswer}
 
 -- WHAT MAY BE LOADED
@@ -66,19 +66,9 @@ module _ {T Kind Op Delta : Type 0} (ghosts : Ghosts T Kind Op Delta) (spelling 
     pub unsound : IsSoundAt stored → ⊥
     pub before : AreSound (take index table)
 
+-- THE TWO MEMBERS
+
 module _ {T Kind Op Delta K : Type 0} {ghosts : Ghosts T Kind Op Delta} {keeping : Keeping K} where
-  abbrev pub IsFirstUnfit : Spelling T Kind Op Delta → List (KeyState T Kind Op Delta) → (id given : ℕ) → Table → LoadError T K Kind Op Delta ghosts keeping → Type 0
-  IsFirstUnfit spelling keys id given table (LoadFailed node) = Unit {0}
-  IsFirstUnfit spelling keys id given table (Damaged node key) = IsFirstUnsound ghosts spelling keys id given table key
-  IsFirstUnfit spelling keys id given table (Memory node) = Unit {0}
-
-  abbrev pub IsUndamaged : LoadError T K Kind Op Delta ghosts keeping → Type 0
-  IsUndamaged (LoadFailed node) = Unit {0}
-  IsUndamaged (Damaged node key) = ⊥
-  IsUndamaged (Memory node) = Unit {0}
-
-  -- THE TWO MEMBERS
-
   module _ (old : Node T K Kind Op Delta ghosts keeping) where
     -- the keeper was loaded, and its table stays
     pub record IsLoaded (id : ℕ) (view : View) (new : Node T K Kind Op Delta ghosts keeping) : Type 0 where
@@ -110,9 +100,3 @@ module _ {T Kind Op Delta K : Type 0} {ghosts : Ghosts T Kind Op Delta} {keeping
     StandsForLoaded new =
         (kinds : Text → Kind) (logs : Text → History Op) (table : Table) (store : Store Op) → keeping.table old.keeper ≡ Some table → HaveKinds kinds old.keys.items → ((key : Text) → IsHistory (logs key))
         → SpellsStore ghosts spelling kinds logs table store → StandsForNode ghosts.kind_of ghosts.IsDataOf kinds logs new (loaded_node (map declared_by old.keys.items) id view store)
-
-    -- and where the store is fit for it, nothing is found damaged
-    abbrev pub FindsNoDamage : LoadError T K Kind Op Delta ghosts keeping → Type 0
-    FindsNoDamage error =
-        (kinds : Text → Kind) (logs : Text → History Op) (table : Table) (store : Store Op) → keeping.table old.keeper ≡ Some table → HaveKinds kinds old.keys.items
-        → SpellsStore ghosts spelling kinds logs table store → AreFit old.keys.items id view.given store → IsUndamaged error

@@ -21,12 +21,15 @@
 //!   member is then as before, but for its keeper, which tells what it told (`Node::step`, clauses
 //!   `full`, `refusal`, `unchanged`).
 //! - A new member has no record. One that is loaded stands for the model's, over the store that its
-//!   keeper's table holds; it has its own identity, view and no steps. Its keeper's table is refused
-//!   exactly at the first entry that is, in either format, no envelope of a declared durable key's
-//!   kind, or names an identity that was not given or is the new one's; a table that holds a
-//!   store of a run is never refused. After a refusal the old member comes back, but for its keeper
-//!   (`Node::new`, `Node::loaded`). The same is promised of a member that is made from a keeper alone,
-//!   as in a process that starts again; after a refusal the keeper comes back (`Node::from_keeper`).
+//!   keeper's table holds; it has its own identity, view and no steps. What the keeper gives, whether
+//!   it tells its table or not, is refused exactly at the first entry that is, in either format, no
+//!   envelope of a declared durable key's kind, or names an identity that was not given or is the
+//!   new one's; what holds a store of a run is never refused. Else each key holds what was given for
+//!   it, and no more. After a refusal the old member comes back, but for its keeper (`Node::new`,
+//!   `Node::loaded` (`HoldsGiven`, `IsDamaged`)).
+//! - A member that is made from a keeper alone, as in a process that starts again, stands for the
+//!   model's that has loaded the store of the keeper's table, where it tells one; after a refusal
+//!   the keeper comes back (`Node::from_keeper`).
 #![tactic(auto)]
 
 mod answering;

@@ -1,7 +1,7 @@
-ghost use Rattle.std.specs.Prelude.{◌≡◌, true, Some, IfOk, IfErr};
+ghost use Rattle.std.specs.Prelude.{◌≡◌, true, IfOk, IfErr};
 ghost use Rattle.model_members.specs.View.{is_member};
-ghost use Rattle.member_keeper.specs.Tables.{Table};
-ghost use Rattle.member_node.specs.Loading.{IsLoaded, IsRefusedLoad, IsFirstUnfit, AreSound, StandsForLoaded, FindsNoDamage};
+ghost use Rattle.member_node.specs.Loading.{IsLoaded, IsRefusedLoad, StandsForLoaded};
+ghost use Rattle.member_node.specs.Loaded.{HoldsGiven, IsDamaged};
 
 use crate::node::Node;
 use crate::operations::Operations;
@@ -36,10 +36,9 @@ impl<T: SpelledData, K: Keeper + Drop> Node<T, K> {
         ensures stands { IfOk result (StandsForLoaded T.SpelledData.own old id view) }
         ensures loaded { IfOk result (IsLoaded old id view) }
         ensures refused { IfErr result (IsRefusedLoad old) }
-        ensures sound { (table : Table) → K.table old.keeper ≡ Some table → IfOk result (λ _node. AreSound T.Replica T.SpelledData.own old.keys.items id view.given table) }
-        ensures damaged { (table : Table) → K.table old.keeper ≡ Some table → IfErr result (IsFirstUnfit T.SpelledData.own old.keys.items id view.given table) }
-        // A keeper that keeps what members stored is not damaged.
-        ensures undamaged { IfErr result (FindsNoDamage T.SpelledData.own old id view) }
+        ensures sound { IfOk result (HoldsGiven T.SpelledData.own old id view) }
+        // A keeper that gives what members stored is not damaged.
+        ensures damaged { IfErr result (IsDamaged T.SpelledData.own old id view) }
     {
         let mut old = old;
         let loaded = match old.keeper.load() {

@@ -194,6 +194,7 @@ impl<T: SpelledData, K: Keeper + Drop> Node<T, K> {
     }
 
     /// Makes of the member what was planned, once what has to be stored was offered to the keeper.
+    #[inline(always)]
     fn carry(
         &mut self,
         view: Option<View>,
@@ -214,6 +215,7 @@ impl<T: SpelledData, K: Keeper + Drop> Node<T, K> {
     }
 
     /// Makes of the member what was planned, which takes no memory.
+    #[inline(always)]
     fn commit(&mut self, view: Option<View>, plan: Plan<T>, operations: OperationChange)
         requires room { self.old.steps < 16384 }
         requires sound { IsSoundPlan T.Replica self.old.id self.old.steps self.old.keys.items plan }

@@ -180,6 +180,7 @@ impl<T: Replica> Output<T> {
     ghost use Rattle.member_node.specs.Outputs.{failed, failed_output, after_fate};
 
     /// A reply alone.
+    #[inline(always)]
     pub(crate) fn told(alloc: Global, reply: Reply) -> Output<T>
         ensures { result ≡ record { reply = reply; posts = []; finished = None } }
     {
@@ -192,6 +193,7 @@ impl<T: Replica> Output<T> {
 
     /// What is answered where the store failed. An operation that was to be opened asks nobody, and a write is not
     /// acknowledged.
+    #[inline(always)]
     fn fail(self) -> Output<T>
         ensures { result ≡ failed_output self }
     {
@@ -210,6 +212,7 @@ impl<T: Replica> Output<T> {
     }
 
     /// What is answered after this fate.
+    #[inline(always)]
     pub(crate) fn after(self, fate: Fate) -> Output<T>
         ensures { result ≡ after_fate fate self }
     {

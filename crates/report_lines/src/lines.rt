@@ -1,4 +1,4 @@
-ghost use Rattle.std.specs.Prelude.{◌≡◌, ◌∷◌, ◌++◌, map, flat_map, codes, decimal, string_bytes, OnOk, Some};
+ghost use Rattle.std.specs.Prelude.{◌≡◌, ◌∷◌, ◌++◌, map, flat_map, codes, decimal, string_bytes, OnOk, IfSome, Some};
 ghost use Rattle.model_members.specs.Report.{words, link_text, reply_text, key_outcome_text};
 ghost use Rattle.model_kinds.specs.ShownText.{shown_text};
 ghost use Rattle.member_node.specs.Members.{meant};
@@ -15,6 +15,7 @@ use std::alloc::Global;
 use world_members::{Answer, ClientLine, Ended, Event, Head, SentTo};
 
 /// Adds a text.
+#[inline(always)]
 fn push(text: &mut String, part: &str) -> Result<(), Memory>
     ensures { OnOk result (string_bytes text.new ≡ string_bytes text.old ++ part.now) }
 {
@@ -22,15 +23,40 @@ fn push(text: &mut String, part: &str) -> Result<(), Memory>
     Ok(())
 }
 
-/// Adds a number.
+/// The digit of a number below ten.
+#[inline(always)]
+fn digit(number: usize) -> Option<&'static str>
+    ensures { IfSome result (λ digit. digit.now ≡ decimal number) }
+{
+    match number {
+        0 => Some("0"),
+        1 => Some("1"),
+        2 => Some("2"),
+        3 => Some("3"),
+        4 => Some("4"),
+        5 => Some("5"),
+        6 => Some("6"),
+        7 => Some("7"),
+        8 => Some("8"),
+        9 => Some("9"),
+        _ => None,
+    }
+}
+
+/// Adds a number. Most are identities and small counts, of one digit.
+#[inline(always)]
 fn push_digits(text: &mut String, number: usize) -> Result<(), Memory>
     ensures { OnOk result (string_bytes text.new ≡ string_bytes text.old ++ decimal number) }
 {
+    if let Some(digit) = digit(number) {
+        return push(text, digit);
+    }
     let mut digits = Buffer::new();
     push(text, digits.format(number))
 }
 
 /// Adds a text and a number behind it.
+#[inline(always)]
 fn push_number(text: &mut String, before: &str, number: usize) -> Result<(), Memory>
     ensures { OnOk result (string_bytes text.new ≡ string_bytes text.old ++ (before.now ++ decimal number)) }
 {
@@ -39,6 +65,7 @@ fn push_number(text: &mut String, before: &str, number: usize) -> Result<(), Mem
 }
 
 /// Adds what is printed of a message.
+#[inline(always)]
 fn push_sketch(text: &mut String, sketch: Sketch) -> Result<(), Memory>
     ensures { OnOk result (string_bytes text.new ≡ string_bytes text.old ++ sketch_text sketch) }
 {
@@ -64,6 +91,7 @@ fn push_sketch(text: &mut String, sketch: Sketch) -> Result<(), Memory>
 }
 
 /// Adds the link of a message and its number there, behind a text.
+#[inline(always)]
 fn push_link(text: &mut String, before: &str, from: Id, to: Id, index: usize) -> Result<(), Memory>
     ensures { OnOk result (string_bytes text.new ≡ string_bytes text.old ++ (before.now ++ link_text from to index)) }
 {
@@ -73,6 +101,7 @@ fn push_link(text: &mut String, before: &str, from: Id, to: Id, index: usize) ->
 }
 
 /// Adds a member's identity and a key, behind a text.
+#[inline(always)]
 fn push_at_key(text: &mut String, before: &str, at: Id, key: &Text) -> Result<(), Memory>
     ensures { OnOk result (string_bytes text.new ≡ string_bytes text.old ++ (before.now ++ decimal at ++ codes " " ++ key.now)) }
 {

@@ -27,3 +27,8 @@ plain_escape (x ∷ s) h =
 pub plain_quoted : (s before : List ℕ) → list_all is_plain s ≡ true → ((before ++ 34 ∷ []) ++ s) ++ 34 ∷ [] ≡ before ++ quoted s
 plain_quoted s before h =
     append_assoc (before ++ 34 ∷ []) s (34 ∷ []) ∙ append_assoc before (34 ∷ []) (s ++ 34 ∷ []) ∙ ap (λ e. before ++ 34 ∷ (e ++ 34 ∷ [])) (sym (plain_escape s h))
+
+-- and behind others of a list
+pub plain_element : (s before comma : List ℕ) → list_all is_plain s ≡ true → ((before ++ (comma ++ 34 ∷ [])) ++ s) ++ 34 ∷ [] ≡ before ++ (comma ++ quoted s)
+plain_element s before comma h =
+    ap (λ t. (t ++ s) ++ 34 ∷ []) (sym (append_assoc before comma (34 ∷ []))) ∙ plain_quoted s (before ++ comma) h ∙ append_assoc before comma (quoted s)

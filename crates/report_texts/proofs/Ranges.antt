@@ -1,5 +1,5 @@
 -- Ranges that grow at their end, and words of them.
-use Rattle.std.proofs.Common.{◌≡◌, ℕ, zero, suc, ◌+◌, ◌<◌, List, [], ◌∷◌, ◌++◌, length, take, get_or, map, filter, Bool, true, false, cond, not, ◌==◌, decimal, codes, ◌≤◌, String, Global, string_bytes, refl, sym, ap, ◌∙◌, arith, append_assoc}
+use Rattle.std.proofs.Common.{◌≡◌, ℕ, zero, suc, ◌+◌, ◌<◌, List, [], ◌∷◌, ◌++◌, length, take, get_or, map, filter, Bool, true, false, cond, not, ◌==◌, if◌then◌else◌, decimal, codes, ◌≤◌, String, Global, string_bytes, refl, sym, ap, ◌∙◌, arith, append_assoc}
 use Rattle.std.specs.List.{range_with_len, join_with_byte, cons_option}
 use Rattle.std.specs.Prelude.{filter_map, Option, Some, None}
 use Rattle.std.proofs.lemmas.List.{take_more, map-append, append-nil, length-map, length-take}
@@ -7,7 +7,6 @@ use Rattle.std.proofs.lemmas.List.Elements.{filter-append, filter_map-append}
 use Rattle.base_vectors.proofs.Walks.{counted_more}
 use Rattle.model_history.specs.Vector.{VersionVector, IdentitySet}
 use Rattle.model_members.specs.Report.{words, words_or_dash}
-use Rattle.model_history.specs.Table.{identity_limit, identities}
 use Rattle.std.proofs.lemmas.Bool.Decides.{nat_tests}
 use Rattle.report_texts.specs.Pairs.{pair_word, pair_words}
 
@@ -46,6 +45,18 @@ module _ {X : Type 0} (f : X → List ℕ) (c i : ℕ) (ws : List X) (w : X) whe
       ap (λ xs. join_with_byte c (map f xs)) (take_more ws i w h) ∙ ap (join_with_byte c) (map-append f (take i ws) (get_or ws i w ∷ []))
       ∙ join_more c (map f (take i ws)) (f (get_or ws i w)) (simp (length-map, length-take) (omega arith))
       ∙ ap (λ x. join_with_byte c (map f (take i ws)) ++ (c ∷ f x)) (sym is)
+
+  more_at : (b : Bool) → (i == 0) ≡ b → i < length ws → w ≡ get_or ws i w
+      → join_with_byte c (map f (take i ws)) ++ ((if b then [] else c ∷ []) ++ f w) ≡ join_with_byte c (map f (take (i + 1) ws))
+  more_at true none h is =
+      let zero : i ≡ 0 = grind (arith, nat_tests) in
+      ap (λ k. join_with_byte c (map f (take k ws)) ++ f w) zero ∙ sym (first_word zero h is)
+  more_at false some h is = let above : 0 < i = grind (arith, nat_tests) in sym (next_word above h is)
+
+  -- one more word, behind a separator unless it is the first
+  pub more_word : i < length ws → w ≡ get_or ws i w
+      → join_with_byte c (map f (take i ws)) ++ ((if i == 0 then [] else c ∷ []) ++ f w) ≡ join_with_byte c (map f (take (i + 1) ws))
+  more_word h is = more_at (i == 0) refl h is
 
 pub grown_word : (start before then_ after separator joined word : List ℕ) (byte : ℕ) → before ≡ start ++ joined → then_ ≡ before ++ separator → separator ≡ byte ∷ [] → after ≡ then_ ++ word → after ≡ start ++ (joined ++ (byte ∷ word))
 grown_word start before then_ after separator joined word byte e f g h =

@@ -1,4 +1,4 @@
-ghost use Rattle.std.specs.Prelude.{◌≡◌, ◌++◌, map, string_bytes, OnOk};
+ghost use Rattle.std.specs.Prelude.{◌≡◌, ◌++◌, [], codes, if◌then◌else◌, map, string_bytes, OnOk};
 ghost use Rattle.std.specs.List.{list_all, join_with_byte};
 ghost use Rattle.json.specs.Run.{is_plain};
 ghost use Rattle.json.specs.Print.{quoted};
@@ -31,18 +31,46 @@ fn push_escaped(alloc: Global, text: &mut String, written: &str) -> Result<(), M
     Ok(())
 }
 
-/// Adds a text as a JSON string. Where no byte has an escape it is the text itself between quotes.
-fn push_quoted(alloc: Global, text: &mut String, written: &Text) -> Result<(), Memory>
-    ensures { OnOk result (string_bytes text.new ≡ string_bytes text.old ++ quoted written.now) }
+/// Adds the quote that opens an element of a list, behind a comma unless it is the first.
+#[inline(always)]
+fn push_opening(text: &mut String, is_first: bool) -> Result<(), Memory>
+    ensures { OnOk result (string_bytes text.new ≡ string_bytes text.old ++ ((if is_first then [] else codes ",") ++ codes "\"")) }
+{
+    if is_first {
+        text.push_str("\"")?;
+    } else {
+        text.push_str(",\"")?;
+    }
+    Ok(())
+}
+
+/// Adds a text as a JSON string, behind others of a list or as the first. Where no byte has an escape it is the text itself
+/// between quotes.
+#[inline(always)]
+fn push_element(
+    alloc: Global,
+    text: &mut String,
+    is_first: bool,
+    written: &Text,
+) -> Result<(), Memory>
+    ensures { OnOk result (string_bytes text.new ≡ string_bytes text.old ++ ((if is_first then [] else codes ",") ++ quoted written.now)) }
 {
     let written = written.as_str();
     if !is_plain(written) {
+        text.push_str(if is_first { "" } else { "," })?;
         return push_escaped(alloc, text, written);
     }
-    text.push_str("\"")?;
+    push_opening(text, is_first)?;
     text.push_str(written)?;
     text.push_str("\"")?;
     Ok(())
+}
+
+/// Adds a text as a JSON string.
+fn push_quoted(alloc: Global, text: &mut String, written: &Text) -> Result<(), Memory>
+    ensures { OnOk result (string_bytes text.new ≡ string_bytes text.old ++ quoted written.now) }
+{
+    push_element(alloc, text, true, written)
 }
 
 /// Adds the elements of a set as JSON strings, with a comma between each two.
@@ -50,10 +78,7 @@ fn push_elements(alloc: Global, text: &mut String, elements: &[Text]) -> Result<
     ensures { OnOk result (string_bytes text.new ≡ string_bytes text.old ++ join_with_byte 44 (map quoted elements.now)) }
 {
     for (i, element) in elements.iter().enumerate() {
-        if i > 0 {
-            text.push_str(",")?;
-        }
-        push_quoted(alloc, text, element)?;
+        push_element(alloc, text, i == 0, element)?;
     }
     Ok(())
 }

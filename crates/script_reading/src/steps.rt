@@ -29,6 +29,7 @@ fn threads_step(alloc: Global, step: u32, value: &Value) -> Result<RunStep, Faul
 }
 
 /// A step that the script makes by itself, of this form.
+#[inline(always)]
 #[tactic(auto, unfolding(crate::specs::Forms::plain_of))]
 fn plain_step(step: u32, name: &str, value: &Value) -> Result<RunStep, Rule>
     requires { text_of (rule step 5) (get (codes "do") (view value.now)) ≡ Ok name.now }
@@ -39,6 +40,7 @@ fn plain_step(step: u32, name: &str, value: &Value) -> Result<RunStep, Rule>
 }
 
 /// A step of a script, with clients or without.
+#[inline(always)]
 #[tactic(auto, unfolding(crate::specs::Reading::form_of))]
 fn form(alloc: Global, clients: Clients, step: u32, value: &Value) -> Result<RunStep, Fault>
     ensures value { Gives (λ s. s) result (form_of clients step (view value.now)) }
@@ -84,6 +86,7 @@ fn may_have(clients: Clients, form: &RunStep) -> bool
 }
 
 /// The step, if the script may have it.
+#[inline(always)]
 #[tactic(auto, using(crate::proofs::Allowances::is_allowed))]
 fn allowed(clients: Clients, form: RunStep, rule: Rule) -> Result<RunStep, Rule>
     ensures value { result ≡ if_allowed clients rule form }
@@ -99,6 +102,7 @@ fn allowed(clients: Clients, form: RunStep, rule: Rule) -> Result<RunStep, Rule>
 }
 
 /// A step of a script that may have these clients.
+#[inline(always)]
 #[tactic(auto, unfolding(crate::specs::Reading::step_of))]
 fn one_step(alloc: Global, clients: Clients, step: u32, value: &Value) -> Result<RunStep, Fault>
     ensures value { Gives (λ s. s) result (step_of clients step (view value.now)) }

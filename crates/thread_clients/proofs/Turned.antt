@@ -64,5 +64,5 @@ module _ {T K Kind Delta : Type 0} {data_of : Data T Kind Op Delta} {keeping : K
   heard_or_full a b c (inl heard) last = inl (heard_wider ids a a b c (takes_self ids a) heard last)
   heard_or_full a b c (inr full) last = inr (full_wider a a b c (takes_self ids a) full last)
 
-  pub full_here : (a b : Session data_of keeping) → TakesOn ids a b → IsFullSomewhere meaning b → WasFull meaning ids a b
+  pub full_here : (a b : Session data_of keeping) → TakesOn ids a b → IsFullSomewhere meaning ids b → WasFull meaning ids a b
   full_here a b takes full = record { between = b; before = takes; full = full; after = takes_self ids b }

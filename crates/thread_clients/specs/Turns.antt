@@ -34,11 +34,11 @@ module _ {T K Kind Delta : Type 0} {data_of : Data T Kind Op Delta} {keeping : K
     pub turned : HasTurnedAll messages_of (λ id (output : Output T Kind Op Delta data_of). messages_to id output.posts) ids n old new
 
 module _ {T K Kind Delta : Type 0} {data_of : Data T Kind Op Delta} {keeping : Keeping K} (meaning : Meaning data_of keeping) (ids : ℕ → Option ℕ) where
-  -- meanwhile a turn was answered that a history is full
+  -- meanwhile a turn was answered that a member takes no more of what was posted to it
   pub record WasFull (old new : Session data_of keeping) : Type 0 where
     pub between : Session data_of keeping
     pub before : TakesOn ids old between
-    pub full : IsFullSomewhere meaning between
+    pub full : IsFullSomewhere meaning ids between
     pub after : TakesOn ids between new
 
   abbrev pub IsHeardOrFull : Session data_of keeping → Session data_of keeping → Type 0

@@ -12,10 +12,12 @@ use Rattle.member_views.specs.Views.{View}
 use Rattle.member_node.specs.declared.input.Input.{Input}
 use Rattle.member_node.specs.declared.input.Input.TheVariants as input
 use Rattle.member_node.specs.declared.node.Node.{Node}
+use Rattle.member_node.specs.declared.reply.Output.{Output}
 use Rattle.member_node.specs.declared.reply.StepError.{StepError}
 use Rattle.member_node.specs.declared.reply.StepError.TheVariants as step
 use Rattle.thread_cluster.specs.Knowing.{Sees, IsNowhere, IsReceipt, IsRefusedAt, IsCause, IsCauseOf}
 use Rattle.thread_cluster.specs.Turning.{IsCauseSomewhere}
+use Rattle.thread_cluster.specs.Messages.{messages_to, messages_of}
 use Rattle.thread_cluster.specs.declared.error.CallError.{CallError}
 use Rattle.thread_cluster.specs.declared.error.CallError.TheVariants as call
 use Rattle.thread_cluster.specs.Refusals.{stopped, HasMadeAll, IsFullThere, IsFullSomewhere, IsCall, IsInstalled, IsInstall}
@@ -47,12 +49,6 @@ module _ {T K Kind Op Delta I F O : Type 0} {data_of : Data T Kind Op Delta} {ke
   full_there p input session (Refused step.HistoryFull) cause e = inr (made_all p input session cause)
   full_there p input session (Refused step.Memory) cause e = absurd cc
   full_there p input session Memory cause e = absurd cc
-
-  pub full_somewhere : (session : ClientParts (Node T K Kind Op Delta data_of keeping) I F O StepError) (error : CellError StepError) → IsCauseSomewhere meaning session error → stopped error ≡ call.HistoryFull → IsFullSomewhere meaning session
-  full_somewhere session CellFull cause e = record { place = cause.place; full = inl cause.full }
-  full_somewhere session (Refused step.HistoryFull) cause e = record { place = cause.place; full = inr (made_all cause.place cause.input session cause.refused) }
-  full_somewhere session (Refused step.Memory) cause e = absurd cc
-  full_somewhere session Memory cause e = absurd cc
 
   module _ (ids : ℕ → Option ℕ) (id : ℕ) (input : I) (old new : ClientParts (Node T K Kind Op Delta data_of keeping) I F O StepError) where
     abbrev Answer : Type 0
@@ -120,3 +116,12 @@ module _ {T K Kind Op Delta F O : Type 0} {data_of : Data T Kind Op Delta} {keep
     no_view = (λ e. absurd (not_view e), λ n. absurd (cc (n.1, listed)));
     full = called.full;
   }
+
+module _ {T K Kind Op Delta F : Type 0} {data_of : Data T Kind Op Delta} {keeping : Keeping K} (meaning : Ghosts (Node T K Kind Op Delta data_of keeping) (Input T Kind Op Delta data_of) F (Output T Kind Op Delta data_of) StepError)
+    (full_steps : (m : Node T K Kind Op Delta data_of keeping) (i : Input T Kind Op Delta data_of) → meaning.MayRefuse m i step.HistoryFull → m.steps ≡ 16384) (ids : ℕ → Option ℕ)
+    (session : ClientParts (Node T K Kind Op Delta data_of keeping) (Input T Kind Op Delta data_of) F (Output T Kind Op Delta data_of) StepError) where
+  pub full_somewhere : (error : CellError StepError) → IsCauseSomewhere meaning messages_of (λ id (output : Output T Kind Op Delta data_of). messages_to id output.posts) ids session error → stopped error ≡ call.HistoryFull → IsFullSomewhere meaning ids session
+  full_somewhere CellFull cause e = record { place = cause.place; full = inl cause.full; sender = cause.sender; unheard = cause.unheard }
+  full_somewhere (Refused step.HistoryFull) cause e = record { place = cause.place; full = inr (made_all meaning full_steps cause.place cause.input session cause.refused); sender = cause.sender; unheard = cause.unheard }
+  full_somewhere (Refused step.Memory) cause e = absurd cc
+  full_somewhere Memory cause e = absurd cc

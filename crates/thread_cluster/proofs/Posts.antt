@@ -7,8 +7,8 @@ use native.Mathlib.Decide.{ℕ_discrete}
 use Rattle.thread_machine.specs.declared.entry.Entry.{Entry}
 use Rattle.thread_cell.specs.Lists.{at}
 use Rattle.thread_cell.proofs.Prefixes.{prefix_get, prefix_length, prefix_trans}
-use Rattle.thread_cluster.specs.Passing.{Passed, at_one, AreApart, stamped, messages, passed, posts, takes, IsTakeOf, AreHeard, AreAllHeard, AreCopies, Hears, IsNext}
-use Rattle.thread_cluster.specs.Knowing.{KnowsMore}
+use Rattle.thread_cluster.specs.Passing.{Passed, at_one, AreApart, stamped, messages, passed, posts, takes, IsTakeOf, AreHeard, AreAllHeard, AreCopies, Hears, IsNext, HasUnheard}
+use Rattle.thread_cluster.specs.Knowing.{KnowsMore, KnowsSame}
 use Rattle.thread_cluster.proofs.Lists.{get_within, get_there, get_snoc, take_snoc, drop_append, get_drop, rest_begins}
 
 module _ {X : Type 0} where
@@ -235,3 +235,35 @@ module _ {M I F O R X : Type 0} (posted : ℕ → O → List X) (taken : ℕ →
     pub takes_known : (q n p : ℕ) (old new : List (List (Entry M I F O R))) → KnowsMore old new → n ≤ length (takes taken (ids q) (at old p)) → n ≤ length (takes taken (ids q) (at new p))
     takes_known q n p old new knows le =
         let more = prefix_length (takes taken (ids q) (at old p)) (takes taken (ids q) (at new p)) (takes_begin (ids q) (at old p) (at new p) (knows.begins p)) in omega arith
+
+    -- nothing is posted to nobody
+    posts_nowhere : (h : List (Entry M I F O R)) → posts posted None h ≡ []
+    posts_nowhere [] = refl
+    posts_nowhere (e ∷ es) = posts_nowhere es
+
+    receives : (o : Option ℕ) (h : List (Entry M I F O R)) (k : ℕ) (post : Passed X) → slice_get (posts posted o h) k ≡ Some post → (id : ℕ) × (o ≡ Some id)
+    receives (Some id) h k post stands = (id, refl)
+    receives None h k post stands = let none : k < 0 = get_within [] k post (subst (λ (w : List (Passed X)). slice_get w k ≡ Some post) (posts_nowhere h) stands) in absurd (omega arith)
+
+    -- where there is a post to take next, more was posted than is taken
+    pub next_unheard : (q sender : ℕ) (m : X) (p : ℕ) (known : List (List (Entry M I F O R))) → ids q ≡ Some sender → IsNext posted taken ids q m p known → HasUnheard posted taken ids q p known
+    next_unheard q sender m p known from next =
+        let to = receives (ids p) (at known q) (length (takes taken (ids q) (at known p))) next.post next.stands in record {
+          sender = sender;
+          from = from;
+          receiver = to.0;
+          to = to.1;
+          more = get_within (posts posted (ids p) (at known q)) (length (takes taken (ids q) (at known p))) next.post next.stands;
+        }
+
+    -- so it is in what another knows, who knows the same
+    pub unheard_alike : (q p : ℕ) (v w : List (List (Entry M I F O R))) → KnowsSame v w → HasUnheard posted taken ids q p w → HasUnheard posted taken ids q p v
+    unheard_alike q p v w alike h = record {
+      sender = h.sender;
+      from = h.from;
+      receiver = h.receiver;
+      to = h.to;
+      more =
+          subst (λ (a : List (Entry M I F O R)). length (takes taken (ids q) a) < length (posts posted (ids p) (at v q))) (sym (alike.same p))
+          (subst (λ (b : List (Entry M I F O R)). length (takes taken (ids q) (at w p)) < length (posts posted (ids p) b)) (sym (alike.same q)) h.more);
+    }

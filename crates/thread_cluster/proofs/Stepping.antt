@@ -14,7 +14,7 @@ use Rattle.thread_cell.specs.Rule.{calls_at}
 use Rattle.thread_cell.specs.Values.{Accepts, Began, ClientParts, CellParts, Sights}
 use Rattle.thread_cell.proofs.Prefixes.{prefix_length, longer_whole_too}
 use Rattle.thread_cell.proofs.Lists.{at-longer_each}
-use Rattle.thread_cluster.specs.Passing.{at_one, takes}
+use Rattle.thread_cluster.specs.Passing.{at_one, takes, HasUnheard}
 use Rattle.thread_cluster.specs.Knowing.{GoesOn, IsTake, IsAnswered, IsCause, IsShown}
 use Rattle.thread_cluster.specs.Meeting.{AreAlike, HasMet, Took}
 use Rattle.thread_cluster.specs.Turning.{IsCauseSomewhere}
@@ -161,11 +161,24 @@ module _ {M I F O R : Type 0} (meaning : Ghosts M I F O R) (p : ℕ) (input : I)
       }
   is_cause Y (Err Memory) full refused err alike began = tt
 
-  pub somewhere : {A : Type 0} (r : Result A (CellError R)) → IfErr r (IsCause meaning p input s') → IfErr r (IsCauseSomewhere meaning s')
-  somewhere (Ok x) h = tt
-  somewhere (Err CellFull) h = record { place = p; full = h }
-  somewhere (Err (Refused refusal)) h = record { place = p; input = input; refused = h }
-  somewhere (Err Memory) h = tt
+  -- of a take, which left what the session knows
+  pub somewhere : {A X : Type 0} (taken : ℕ → I → List X) (posted : ℕ → O → List X) (ids : ℕ → Option ℕ) (q : ℕ) (Y : Type 0) (r : Result A (CellError R))
+      → HasUnheard posted taken ids q p s.seen.known → OnErr r (Y × (s' ≡ s)) → IfErr r (IsCause meaning p input s') → IfErr r (IsCauseSomewhere meaning taken posted ids s')
+  somewhere taken posted ids q Y (Ok x) unheard err h = tt
+  somewhere taken posted ids q Y (Err CellFull) unheard err h = record {
+    place = p;
+    full = h;
+    sender = q;
+    unheard = subst (λ (w : ClientParts M I F O R). HasUnheard posted taken ids q p w.seen.known) (sym err.1) unheard;
+  }
+  somewhere taken posted ids q Y (Err (Refused refusal)) unheard err h = record {
+    place = p;
+    input = input;
+    refused = h;
+    sender = q;
+    unheard = subst (λ (w : ClientParts M I F O R). HasUnheard posted taken ids q p w.seen.known) (sym err.1) unheard;
+  }
+  somewhere taken posted ids q Y (Err Memory) unheard err h = tt
 
 -- what the cell's member shows, after a meeting
 pub shown : {M I F O R Q A : Type 0} (meaning : Ghosts M I F O R) (Shows : M → Q → A → Type 0) (p : ℕ) (question : Q) (c c' : CellParts M I F O R) (s s' : ClientParts M I F O R) (now : M) (answer : A)

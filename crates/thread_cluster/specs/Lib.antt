@@ -3,6 +3,7 @@ pub mod Knowing
 pub mod Books
 pub mod Meeting
 pub mod Turning
+pub mod Counted
 pub mod Places
 pub mod Sites
 pub mod Opening

@@ -5,6 +5,7 @@
 --     Hears        what the lock of a place keeps
 --     AreApart        no identity is at two places
 --     AreCopies, IsNext        copies of posts, and the post that is to be taken next
+--     HasUnheard        who posted more to another one than this took
 use Rattle.std.specs.Prelude.{◌≡◌, ℕ, ◌<◌, List, [], ◌∷◌, ◌++◌, length, map, drop, slice_get, Option, Some, None}
 use mathlib.Core.List.{IsPrefix}
 use Rattle.thread_machine.specs.declared.entry.Entry.{Entry}
@@ -76,3 +77,11 @@ module _ {M I F O R X : Type 0} where
       pub post : Passed X
       pub stands : slice_get (posts posted (ids p) (at known q)) (length (takes taken (ids q) (at known p))) ≡ Some post
       pub message_is : post.message ≡ message
+
+    -- the member at q posted more to the one at p than this took, in what is known
+    pub record HasUnheard (q p : ℕ) (known : List (List (Entry M I F O R))) : Type 0 where
+      pub sender : ℕ
+      pub from : ids q ≡ Some sender
+      pub receiver : ℕ
+      pub to : ids p ≡ Some receiver
+      pub more : length (takes taken (ids q) (at known p)) < length (posts posted (ids p) (at known q))

@@ -1,8 +1,9 @@
 -- Why calls of members behind locks were refused.
 --     stopped        the error that is answered where a member made no step
 --     HasMadeAll, IsFullThere        the member of a place makes no more steps
---     IsFullAt, IsFullSomewhere        the same by identity, and of some place
+--     IsFullAt        the same by identity
 --     IsCall, IsInstalled, IsInstall        what a call answers, and what it leaves
+--     IsFullSomewhere        a member that took less than was posted to it takes no more
 use Rattle.std.specs.Prelude.{◌≡◌, ℕ, List, Result, Err, IfOk, OnErr, Option, Some, None, slice_get, ◌⊎◌, ◌↔◌}
 use Rattle.data_lattice.specs.declared.replica.Replica.{Ghosts as Data}
 use Rattle.member_keeper.specs.declared.keeper.Keeper.{Ghosts as Keeping}
@@ -17,9 +18,12 @@ use Rattle.member_views.specs.Views.{View}
 use Rattle.member_node.specs.declared.input.Input.{Input}
 use Rattle.member_node.specs.declared.input.Input.TheVariants as input
 use Rattle.member_node.specs.declared.node.Node.{Node}
+use Rattle.member_node.specs.declared.reply.Output.{Output}
 use Rattle.member_node.specs.declared.reply.StepError.{StepError}
 use Rattle.member_node.specs.declared.reply.StepError.TheVariants as step
+use Rattle.thread_cluster.specs.Passing.{HasUnheard}
 use Rattle.thread_cluster.specs.Knowing.{IsFull, Sees, StartsAt, IsNowhere, IsReceipt}
+use Rattle.thread_cluster.specs.Messages.{messages_to, messages_of}
 use Rattle.thread_cluster.specs.declared.error.CallError.{CallError}
 use Rattle.thread_cluster.specs.declared.error.CallError.TheVariants as call
 
@@ -48,10 +52,6 @@ module _ {T K Kind Op Delta I F O : Type 0} {data_of : Data T Kind Op Delta} {ke
     pub here : ids place ≡ Some id
     pub full : IsFullThere place session
 
-  pub record IsFullSomewhere (session : ClientParts (Node T K Kind Op Delta data_of keeping) I F O StepError) : Type 0 where
-    pub place : ℕ
-    pub full : IsFullThere place session
-
   -- A CALL: with an answer, an entry of this input stands where the receipt says; else nothing was added, there is no such member exactly where that is answered, and who is told so knows that a history is full
   pub record IsCall (ids : ℕ → Option ℕ) (id : ℕ) (input : I) (old new : ClientParts (Node T K Kind Op Delta data_of keeping) I F O StepError) (result : Result (Receipt (Node T K Kind Op Delta data_of keeping) I F O StepError) CallError) : Type 0 where
     pub ok : IfOk result (IsReceipt meaning ids id input old new)
@@ -73,3 +73,11 @@ module _ {T K Kind Op Delta F O : Type 0} {data_of : Data T Kind Op Delta} {keep
     pub gone : result ≡ Err call.Gone ↔ IsNowhere ids id
     pub no_view : result ≡ Err call.NoSuchView ↔ (¬ IsNowhere ids id × (slice_get views number ≡ None))
     pub full : result ≡ Err call.HistoryFull → IsFullAt meaning ids id new
+
+module _ {T K Kind Op Delta F : Type 0} {data_of : Data T Kind Op Delta} {keeping : Keeping K} (meaning : Ghosts (Node T K Kind Op Delta data_of keeping) (Input T Kind Op Delta data_of) F (Output T Kind Op Delta data_of) StepError) (ids : ℕ → Option ℕ) where
+  -- A TURN: the member of a place takes no more, and took less than some other one posted to it, as far as the session knows
+  pub record IsFullSomewhere (session : ClientParts (Node T K Kind Op Delta data_of keeping) (Input T Kind Op Delta data_of) F (Output T Kind Op Delta data_of) StepError) : Type 0 where
+    pub place : ℕ
+    pub full : IsFullThere meaning place session
+    pub sender : ℕ
+    pub unheard : HasUnheard (λ id output. messages_to id output.posts) messages_of ids sender place session.seen.known

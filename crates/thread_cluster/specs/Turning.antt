@@ -1,16 +1,16 @@
 -- What a turn leaves.
---     HasHeard        so many of a member's posts are taken
+--     HasHeard, HasTaken, HasTakenMore        so many of a member's posts are taken
 --     HasBegun        a turn that was cut off
 --     IsOneFull, IsOneRefused, IsCauseSomewhere        why it was
 --     IsHeard, IsAllTaken, HasTurned, HasTurnedTo, HasTold, HaveTold, HasTurnedAll        from one place to another, from one to the first places, from all to all
-use Rattle.std.specs.Prelude.{◌≡◌, ◌≢◌, ℕ, ◌<◌, ◌≤◌, List, length, Option, Some}
+use Rattle.std.specs.Prelude.{◌≡◌, ◌≢◌, ℕ, ◌+◌, ◌<◌, ◌≤◌, List, length, Option, Some}
 use Rattle.thread_machine.specs.declared.machine.Machine.{Ghosts}
 use Rattle.thread_machine.specs.declared.entry.Entry.{Entry}
 use Rattle.thread_cell.specs.declared.cell.CellError.{CellError}
 use Rattle.thread_cell.specs.declared.cell.CellError.TheVariants.{CellFull, Refused, Memory}
 use Rattle.thread_cell.specs.Lists.{at}
 use Rattle.thread_cell.specs.Values.{ClientParts}
-use Rattle.thread_cluster.specs.Passing.{posts, takes, AreHeard, AreAllHeard}
+use Rattle.thread_cluster.specs.Passing.{posts, takes, AreHeard, AreAllHeard, HasUnheard}
 use Rattle.thread_cluster.specs.Knowing.{Known, IsFull, Turns, IsRefusedAt}
 
 module _ {M I F O R X : Type 0} (taken : ℕ → I → List X) where
@@ -29,6 +29,10 @@ module _ {M I F O R X : Type 0} (taken : ℕ → I → List X) where
     pub record HasTaken (q p all n : ℕ) (old new : ClientParts M I F O R) : Type 0 where
       pub turned : Turns taken ids n old new
       pub heard : HasHeard q p all new.seen.known
+
+    -- they are those that were heard in what was known, and so many more
+    abbrev pub HasTakenMore : (q p : ℕ) → Known M I F O R → (more n : ℕ) → (old new : ClientParts M I F O R) → Type 0
+    HasTakenMore q p known more n old new = HasTaken q p (length (takes taken (ids q) (at known p)) + more) n old new
 
     -- what the session knew that the member at p posted to the one at q is taken there, in what it knows now
     pub record IsHeard (p q : ℕ) (old new : ClientParts M I F O R) : Type 0 where
@@ -63,19 +67,23 @@ module _ {M I F O R X : Type 0} (taken : ℕ → I → List X) where
       pub turned : Turns taken ids n old new
       pub heard : (p q i j : ℕ) → p ≢ q → ids p ≡ Some i → ids q ≡ Some j → IsHeard p q old new
 
--- some history that is known has as many entries as one may have
-pub record IsOneFull {E : Type 0} (known : List (List E)) : Type 0 where
-  pub place : ℕ
-  pub full : IsFull place known
+module _ {M I F O R X : Type 0} (meaning : Ghosts M I F O R) (taken : ℕ → I → List X) (posted : ℕ → O → List X) (ids : ℕ → Option ℕ) where
+  -- the history of a place is full, as far as is known, and its member took less than some other one posted to it
+  pub record IsOneFull (known : Known M I F O R) : Type 0 where
+    pub place : ℕ
+    pub full : IsFull place known
+    pub sender : ℕ
+    pub unheard : HasUnheard posted taken ids sender place known
 
-module _ {M I F O R : Type 0} (meaning : Ghosts M I F O R) where
-  -- some member may refuse some input so
+  -- the member of a place may refuse some input so, and took less than some other one posted to it
   pub record IsOneRefused (session : ClientParts M I F O R) (refusal : R) : Type 0 where
     pub place : ℕ
     pub input : I
     pub refused : IsRefusedAt meaning place input session refusal
+    pub sender : ℕ
+    pub unheard : HasUnheard posted taken ids sender place session.seen.known
 
-  -- why a call at some place made no step
+  -- why a take at some place made no step
   abbrev pub IsCauseSomewhere : ClientParts M I F O R → CellError R → Type 0
   IsCauseSomewhere session CellFull = IsOneFull session.seen.known
   IsCauseSomewhere session (Refused refusal) = IsOneRefused session refusal

@@ -217,7 +217,7 @@ impl<'a, M: Member, N: Section> AnySite<'a, M, N> {
         ensures few { IfOk result (λ n. n ≤ 16384) }
         ensures ok { IfOk result (λ n. HasTaken M.taken M.posted N.ids from.now.place (place_of self.now) (number + length copies.items) n session.old session.new) }
         ensures err { OnErr result (HasBegun M.taken N.ids session.old session.new) }
-        ensures cause { IfErr result (IsCauseSomewhere M.Machine session.new) }
+        ensures cause { IfErr result (IsCauseSomewhere M.Machine M.taken M.posted N.ids session.new) }
     {
         match self {
             AnySite::P0(site) => site

@@ -36,7 +36,7 @@ where
         ensures table { session.new.seen.table ≡ N.table }
         ensures ok { IfOk result (λ n. HasTurnedAll messages_of (λ id output. messages_to id output.posts) N.ids n session.old session.new) }
         ensures err { OnErr result (HasBegun messages_of N.ids session.old session.new) }
-        ensures full { result ≡ Err CallError.HistoryFull → IsFullSomewhere ⟦<Node<T, K> as Machine>⟧ session.new }
+        ensures full { result ≡ Err CallError.HistoryFull → IsFullSomewhere ⟦<Node<T, K> as Machine>⟧ N.ids session.new }
         ensures only { result ≢ Err CallError.Gone × result ≢ Err CallError.NoSuchView }
     {
         self.turn_from::<R, Brand>(rt, session, Blank::new(1))
@@ -56,7 +56,7 @@ where
         ensures table { session.new.seen.table ≡ N.table }
         ensures ok { IfOk result (λ n. HasTurnedAll messages_of (λ id output. messages_to id output.posts) N.ids n session.old session.new) }
         ensures err { OnErr result (HasBegun messages_of N.ids session.old session.new) }
-        ensures full { result ≡ Err CallError.HistoryFull → IsFullSomewhere ⟦<Node<T, K> as Machine>⟧ session.new }
+        ensures full { result ≡ Err CallError.HistoryFull → IsFullSomewhere ⟦<Node<T, K> as Machine>⟧ N.ids session.new }
         ensures only { result ≢ Err CallError.Gone × result ≢ Err CallError.NoSuchView }
     {
         let mut steps = Steps::<L>::new(blank);
@@ -79,7 +79,7 @@ where
         ensures table { session.new.seen.table ≡ N.table }
         ensures ok { IfOk result (λ n. HasTurnedAll messages_of (λ id output. messages_to id output.posts) N.ids n session.old session.new) }
         ensures err { OnErr result (HasBegun messages_of N.ids session.old session.new) }
-        ensures full { result ≡ Err CallError.HistoryFull → IsFullSomewhere ⟦<Node<T, K> as Machine>⟧ session.new }
+        ensures full { result ≡ Err CallError.HistoryFull → IsFullSomewhere ⟦<Node<T, K> as Machine>⟧ N.ids session.new }
         ensures only { result ≢ Err CallError.Gone × result ≢ Err CallError.NoSuchView }
         ensures steps { steps.new ≤ steps.old + unheard (λ id output. messages_to id output.posts) messages_of N.ids session.old.seen.known session.new.seen.known }
     {

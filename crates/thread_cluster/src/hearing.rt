@@ -21,7 +21,7 @@ impl<M: Member, N: Section, P: Spot> Locked<M, N, P> {
     ghost use Rattle.thread_cluster.specs.Passing.{posts, takes, messages, AreApart, AreCopies};
     ghost use Rattle.thread_cluster.specs.Knowing.{Sees};
     ghost use Rattle.thread_cluster.specs.Meeting.{AreAlike};
-    ghost use Rattle.thread_cluster.specs.Turning.{HasTaken, HasBegun, IsCauseSomewhere};
+    ghost use Rattle.thread_cluster.specs.Turning.{HasTaken, HasTakenMore, HasBegun, IsCauseSomewhere};
 
     // How many messages of a member the place took.
     fn count(&self, from: &Peer<N>) -> usize
@@ -72,9 +72,9 @@ impl<M: Member, N: Section, P: Spot> Locked<M, N, P> {
         requires copies { AreCopies (length (takes M.taken (N.ids from.now.place) (at self.old.seen.known P.PLACE))) copies.items (posts M.posted (N.ids P.PLACE) (at self.old.seen.known from.now.place)) }
         ensures table { session.new.seen.table ≡ N.table }
         ensures few { IfOk result (λ n. n ≤ 16384) }
-        ensures ok { IfOk result (λ n. HasTaken M.taken M.posted N.ids from.now.place P.PLACE (length (takes M.taken (N.ids from.now.place) (at self.old.seen.known P.PLACE)) + length copies.items) n session.old session.new) }
+        ensures ok { IfOk result (λ n. HasTakenMore M.taken M.posted N.ids from.now.place P.PLACE self.old.seen.known (length copies.items) n session.old session.new) }
         ensures err { OnErr result (HasBegun M.taken N.ids session.old session.new) }
-        ensures cause { IfErr result (IsCauseSomewhere M.Machine session.new) }
+        ensures cause { IfErr result (IsCauseSomewhere M.Machine M.taken M.posted N.ids session.new) }
     {
         let mut taken = 0;
         while let Some(message) = copies.pop_front() {
@@ -132,7 +132,7 @@ impl<M: Member, N: Section, P: Spot> Locked<M, N, P> {
         ensures few { IfOk result (λ n. n ≤ 16384) }
         ensures ok { IfOk result (λ n. HasTaken M.taken M.posted N.ids from.now.place P.PLACE (number + length copies.items) n session.old session.new) }
         ensures err { OnErr result (HasBegun M.taken N.ids session.old session.new) }
-        ensures cause { IfErr result (IsCauseSomewhere M.Machine session.new) }
+        ensures cause { IfErr result (IsCauseSomewhere M.Machine M.taken M.posted N.ids session.new) }
     {
         self.meet(table, session);
         let heard = self.count(from);

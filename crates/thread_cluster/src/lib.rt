@@ -19,8 +19,9 @@
 //!   which the session knew before is taken by its receiver in what the session knows then, at the
 //!   same number and with a higher stamp; the session's calls grew by `n` takes, each of a message
 //!   of the member at some place. Refused, they grew by takes alone, and `HistoryFull` comes only
-//!   where some history is full or some member made all its steps (`Cluster::turn` (`HasTurnedAll`,
-//!   `HasBegun`, `IsTake`, `IsFullSomewhere`)).
+//!   where the history of some place is full or its member made all its steps, and some other member
+//!   posted more to it than it took, as the session then knows (`Cluster::turn` (`HasTurnedAll`,
+//!   `HasBegun`, `IsTake`, `IsFullSomewhere`, `HasUnheard`)).
 //! - A turn reads at most as many entries as there are messages to running members, in what the
 //!   session then knows, that weren't heard in what it knew before, whatever it answers
 //!   (`Cluster::turn_counted`, clause `steps` (`unheard`)).

@@ -138,7 +138,7 @@ impl<M: Member, N: Section, P: Spot> Locked<M, N, P> {
         ensures table { session.new.seen.table ≡ N.table }
         ensures ok { OnOk result (Took M.taken N.ids from.now.place P.PLACE self.old self.new session.old session.new) }
         ensures err { OnErr result ((self.new.seen ≡ self.old.seen) × (session.new ≡ session.old)) }
-        ensures cause { IfErr result (IsCauseSomewhere M.Machine session.new) }
+        ensures cause { IfErr result (IsCauseSomewhere M.Machine M.taken M.posted N.ids session.new) }
     {
         let input = M::take(from.id, message);
         self.cell.facts();

@@ -1,10 +1,10 @@
 ghost use Rattle.std.specs.Prelude.{◌≡◌, ◌+◌, ◌-◌, ◌<◌, ◌≤◌, length, IfOk, IfErr, OnErr};
 ghost use Rattle.thread_cell.specs.Lists.{at};
 ghost use Rattle.thread_cluster.specs.Passing.{AreApart, posts, takes};
-ghost use Rattle.thread_cluster.specs.Knowing.{Known};
-ghost use Rattle.thread_cluster.specs.Books.{AreCounted, WereCounted, unheard_from, unheard_to, unheard};
+ghost use Rattle.thread_cluster.specs.Books.{WereCounted, unheard};
 ghost use Rattle.thread_cluster.specs.Sites.{place_of};
-ghost use Rattle.thread_cluster.specs.Turning.{HasBegun, HasTurned, HasTurnedTo, HasTold, HasTurnedAll, IsCauseSomewhere};
+ghost use Rattle.thread_cluster.specs.Turning.{HasBegun, HasTurned, HasTurnedAll, IsCauseSomewhere};
+ghost use Rattle.thread_cluster.specs.Counted.{TurnsCounted, TellsCounted, ReadsOfOne, ReadsOfAll};
 
 use crate::any_site::AnySite;
 use crate::book::Counts;
@@ -40,7 +40,7 @@ fn hear_from<M: Member, N: Section, L: Ledger>(
     ensures few { IfOk result (λ n. n ≤ 16384) }
     ensures ok { IfOk result (λ n. HasTurned M.taken M.posted N.ids (place_of sender.now) (place_of receiver.now) n session.old session.new) }
     ensures err { OnErr result (HasBegun M.taken N.ids session.old session.new) }
-    ensures cause { IfErr result (IsCauseSomewhere M.Machine session.new) }
+    ensures cause { IfErr result (IsCauseSomewhere M.Machine M.taken M.posted N.ids session.new) }
     ensures steps { steps.new ≤ steps.old + (length (posts M.posted (N.ids (place_of receiver.now)) (at session.new.seen.known (place_of sender.now))) - number) }
 {
     let from = sender.peer();
@@ -69,10 +69,10 @@ impl<M: Member, N: Section> Cluster<M, N> {
         requires counted { WereCounted M.posted M.taken N.ids all.now session.old.seen.known }
         ensures table { session.new.seen.table ≡ N.table }
         ensures few { IfOk result (λ n. n ≤ 16384) }
-        ensures ok { IfOk result (λ n. (first : Known M M.Input M.Fate M.Output M.Refusal) → AreCounted M.posted M.taken N.ids all.now first session.old.seen.known → HasTurnedTo M.taken M.posted N.ids (place_of sender.now) to n first session.old session.new) }
+        ensures ok { IfOk result (λ n. TurnsCounted M.taken M.posted N.ids all.now (place_of sender.now) to n session.old session.new) }
         ensures err { OnErr result (HasBegun M.taken N.ids session.old session.new) }
-        ensures cause { IfErr result (IsCauseSomewhere M.Machine session.new) }
-        ensures steps { (first : Known M M.Input M.Fate M.Output M.Refusal) → AreCounted M.posted M.taken N.ids all.now first session.old.seen.known → steps.new ≤ steps.old + unheard_from M.posted M.taken N.ids (place_of sender.now) to first session.new.seen.known }
+        ensures cause { IfErr result (IsCauseSomewhere M.Machine M.taken M.posted N.ids session.new) }
+        ensures steps { ReadsOfOne M.taken M.posted N.ids all.now (place_of sender.now) to steps.old steps.new session.old session.new }
     {
         let Some(receiver) = self.site(to) else {
             return Ok(0);
@@ -112,10 +112,10 @@ impl<M: Member, N: Section> Cluster<M, N> {
         requires counted { WereCounted M.posted M.taken N.ids all.now session.old.seen.known }
         ensures table { session.new.seen.table ≡ N.table }
         ensures few { IfOk result (λ n. n ≤ 131072) }
-        ensures ok { IfOk result (λ n. (first : Known M M.Input M.Fate M.Output M.Refusal) → AreCounted M.posted M.taken N.ids all.now first session.old.seen.known → HasTold M.taken M.posted N.ids from 8 n first session.old session.new) }
+        ensures ok { IfOk result (λ n. TellsCounted M.taken M.posted N.ids all.now from n session.old session.new) }
         ensures err { OnErr result (HasBegun M.taken N.ids session.old session.new) }
-        ensures cause { IfErr result (IsCauseSomewhere M.Machine session.new) }
-        ensures steps { (first : Known M M.Input M.Fate M.Output M.Refusal) → AreCounted M.posted M.taken N.ids all.now first session.old.seen.known → steps.new ≤ steps.old + unheard_to M.posted M.taken N.ids from 8 first session.new.seen.known }
+        ensures cause { IfErr result (IsCauseSomewhere M.Machine M.taken M.posted N.ids session.new) }
+        ensures steps { ReadsOfAll M.taken M.posted N.ids all.now from steps.old steps.new session.old session.new }
     {
         let Some(sender) = self.site(from) else {
             return Ok(0);
@@ -148,7 +148,7 @@ impl<M: Member, N: Section> Cluster<M, N> {
         ensures few { IfOk result (λ n. n ≤ 1048576) }
         ensures ok { IfOk result (λ n. HasTurnedAll M.taken M.posted N.ids n session.old session.new) }
         ensures err { OnErr result (HasBegun M.taken N.ids session.old session.new) }
-        ensures cause { IfErr result (IsCauseSomewhere M.Machine session.new) }
+        ensures cause { IfErr result (IsCauseSomewhere M.Machine M.taken M.posted N.ids session.new) }
         ensures steps { steps.new ≤ steps.old + unheard M.posted M.taken N.ids session.old.seen.known session.new.seen.known }
     {
         let Ok(all) = self.all_counts(rt, session) else {

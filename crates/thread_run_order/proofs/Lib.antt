@@ -7,6 +7,7 @@ pub mod Links
 pub mod Merging
 pub mod Places
 pub mod Refusals
+pub mod Seeing
 pub mod Together
 pub mod Walking
 pub mod Ways

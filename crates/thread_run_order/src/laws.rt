@@ -1,4 +1,4 @@
-ghost use Rattle.std.specs.Prelude.{◌≡◌, ℕ, ◌≤◌, List, [], Option};
+ghost use Rattle.std.specs.Prelude.{◌≡◌, ℕ, ◌≤◌, List, [], Option, Some, slice_get};
 ghost use Rattle.model_history.specs.Texts.{Text};
 ghost use Rattle.thread_machine.specs.declared.entry.Entry.{Entry};
 ghost use Rattle.std.specs.List.{AllByRecursion};
@@ -6,6 +6,8 @@ ghost use Rattle.thread_machine.specs.Machines.{machine_at};
 ghost use Rattle.thread_cell.specs.Closings.{AreReplayed, CellsKnew};
 ghost use Rattle.thread_cell.specs.Entries.{history_at};
 ghost use Rattle.thread_cell.specs.Stamps.{Rises};
+ghost use Rattle.thread_cell.specs.Values.{ClientParts};
+ghost use Rattle.thread_cell.specs.declared.receipt.Receipt.{Receipt};
 ghost use Rattle.thread_cluster.specs.Opening.{AreWholeCells, AllHear};
 ghost use Rattle.member_views.specs.Sound.{last_view};
 ghost use Rattle.world_members.specs.Places.{item_at, identity_at};
@@ -19,6 +21,7 @@ ghost use Rattle.thread_run_order.specs.Orders.{AtPlace, IsRunOrder};
 ghost use Rattle.thread_run_order.specs.Images.{EntryOf};
 ghost use Rattle.thread_run_order.specs.Section.{IsGiven, IsSection};
 ghost use Rattle.thread_run_order.specs.Runs.{IsOneRun};
+ghost use Rattle.thread_run_order.specs.Seeing.{IsCallWithin, FollowsAllSeen};
 
 use data_lattice::SpelledData;
 use member_keeper::Keeper;
@@ -35,6 +38,17 @@ use world_members::World;
 pub fn histories_have_a_run_order<M, I, F, O, R>()
     ensures { (histories : ℕ → List (Entry M I F O R)) (n : ℕ) → ((p : ℕ) → Rises (histories p)) → ((p : ℕ) → n ≤ p → histories p ≡ [])
         → (xs : List (AtPlace (Entry M I F O R))) × IsRunOrder histories xs }
+{}
+
+/// A call of a session stands after all that the session had seen: the entry of an answered call stands in run order, and of
+/// each entry at or after it, whatever the session knew before the call stands earlier.
+///
+/// The session's stamp is what `Session::facts` tells of every session. What a session knows are beginnings of the histories
+/// that `close` leaves, since it is what the session that `close` takes knows, or less.
+pub fn calls_follow_what_was_seen<M: Machine>()
+    ensures { (histories : ℕ → List (Entry M M.Input M.Fate M.Output M.Refusal)) (xs : List (AtPlace (Entry M M.Input M.Fate M.Output M.Refusal))) → IsRunOrder histories xs
+        → (p : ℕ) (input : M.Input) (old new : ClientParts M M.Input M.Fate M.Output M.Refusal) (receipt : Receipt M M.Input M.Fate M.Output M.Refusal)
+        → IsCallWithin M.Machine histories p input old new receipt → (entry : Entry M M.Input M.Fate M.Output M.Refusal) → slice_get (histories p) receipt.index ≡ Some entry → FollowsAllSeen xs old p entry }
 {}
 
 /// What closed cells leave is a section of the world whose members they began with, where each message is taken of a member
@@ -64,7 +78,8 @@ pub fn closed_cells_leave_a_section<T: SpelledData<Op = Op>, K: Keeper + Drop, N
 pub fn a_section_is_one_run<T: SpelledData<Op = Op>, K: Keeper + Drop>(world: &World<T, K>)
     ensures { (kinds : Text → T.Kind) (members : ℕ) (decls : List (KeyDecl T.Kind)) (p : Playing T.Kind operation.Op Shown) → Means T.SpelledData.own kinds members decls p world.now
         → (histories : ℕ → List (EntryOf T.Replica K.Keeper)) (nows : ℕ → Option (member.Node T K T.Kind operation.Op T.Delta T.Replica K.Keeper)) → IsSection ⟦<Node<T, K> as Machine>⟧ world.now histories nows
-        → (xs : List (AtPlace (EntryOf T.Replica K.Keeper))) → IsRunOrder histories xs → IsOneRun T.SpelledData.own kinds members decls p world.now ⟦<Node<T, K> as Machine>⟧ histories nows xs }
+        → (xs : List (AtPlace (EntryOf T.Replica K.Keeper))) → IsRunOrder histories xs
+        → IsOneRun T.SpelledData.own kinds members decls p world.now ⟦<Node<T, K> as Machine>⟧ histories nows xs }
 {
     let _ = world.views().last();
 }

@@ -5,6 +5,8 @@
 //!
 //! - Histories whose stamps rise have a run order: all entries by stamp, and at one stamp by place
 //!   (`histories_have_a_run_order`).
+//! - A call of a session stands after all that the session had seen before it: whatever it knew then
+//!   stands earlier in run order (`calls_follow_what_was_seen` (`FollowsAllSeen`)).
 //! - What closed cells of a cluster leave is a section of the world that their members came from
 //!   (`closed_cells_leave_a_section` (`IsSection`)).
 //! - The world after a section has its members at their places, what they posted at the ends of the

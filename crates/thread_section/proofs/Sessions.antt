@@ -138,5 +138,5 @@ module _ {T K Kind Delta : Type 0} {ghosts : Ghosts T Kind Op Delta} {keeping : 
         let it = full_there client full.place s is full.full in
         subst (λ j. IsKnownFull (replication ghosts spelling) world histories j (known_in s)) (cc (sym it.1 ∙ full.here)) it.2
 
-    pub full_somewhere : (client : ℕ) (s : Session) → IsOf client s → IsFullSomewhere meaning s → KnowsFull (replication ghosts spelling) world histories (known_in s)
+    pub full_somewhere : (client : ℕ) (s : Session) → IsOf client s → IsFullSomewhere meaning ids s → KnowsFull (replication ghosts spelling) world histories (known_in s)
     full_somewhere client s is full = let it = full_there client full.place s is full.full in (it.0, it.2)

@@ -7,6 +7,7 @@ use Rattle.std.proofs.lemmas.List.{map-append}
 use Rattle.model_history.specs.Table.{identity_limit, with_at}
 use Rattle.model_history.specs.Vector.{VersionVector}
 use Rattle.model_history.specs.History.{Action, Record as Meant, History, at, versions, cut, no_records, stamped_from, HasRecord, IsHistory}
+use Rattle.model_history.specs.Log.{IsTakenFrom}
 use Rattle.model_history.specs.History.Action.{Operation, Prune}
 use Rattle.model_history.proofs.HistoryLaws.{with_at_same, with_at_other, has_with_record, slice_get-push}
 use Rattle.model_history.proofs.PartLaws.{in_whole, part_with_record}
@@ -241,6 +242,20 @@ vectors_held made history held old new i known are normal few put j = elim (eqb_
 
 -- BEFORE THE FIRST RECORD
 
+-- what the parts of a call that adds a record left
+pub added_so : (old new : KeyHistory) (i number : ℕ) (action : CodeAction) (past now : Numbers) (kept_rows : List (List Record)) → past ≡ vector_of old.held.items i → IsNormal past → kept_rows ≡ old.rows.items
+    → IsPushed old.rows.items new.rows.items i (record { origin = i; number = number; action = action; past = past }) → now ≡ raised past i number → IsPut old.held.items new.held.items i now → new.prunes ≡ old.prunes → new.deletes ≡ old.deletes
+    → ((made H : History Op) → StandForValues old.values made → AreRows kept_rows made → IsHistory made → IsTakenFrom made H → H i ≡ made i → number_at past ≡ versions H → number ≡ length (made i) + 1 → StandForValues new.values (recorded made i H (action_of action)))
+    → IsAdded old new i number action
+added_so old new i number action past now kept_rows past_is normal rows_are rows now_is put prunes deletes kept = record {
+  normal = subst IsNormal past_is normal;
+  rows = subst (λ (p : Numbers). IsPushed old.rows.items new.rows.items i (record { origin = i; number = number; action = action; past = p })) past_is rows;
+  held = subst (IsPut old.held.items new.held.items i) (now_is ∙ ap (λ (p : Numbers). raised p i number) past_is) put;
+  prunes = prunes;
+  deletes = deletes;
+  values = λ made H stands are history taken own is number_is. kept made H stands (subst (λ (rs : List (List Record)). AreRows rs made) (sym rows_are) are) history taken own (ap number_at past_is ∙ is) number_is;
+}
+
 pub nothing_kept : (code : KeyHistory) → code.rows.items ≡ [] → code.held.items ≡ [] → code.prunes ≡ [] → code.deletes ≡ [] → StandForValues code.values no_records → StandsForKey code no_records (λ i. no_records)
 nothing_kept code rows held prunes deletes values = record {
   rows = λ i. ap (λ rs. map stamped (row_of rs i)) rows;
@@ -270,7 +285,7 @@ module _ (old new : KeyHistory) (made : History Op) (held : ℕ → History Op) 
 
   -- what is kept of the records to tell what they mean
   values_then : (action : Action Op) → action_of code ≡ action → StandForValues new.values (recorded made i (held i) action)
-  values_then action act = subst (λ a. StandForValues new.values (recorded made i (held i) a)) act (added.values made (held i) stands.values kept.history (kept.taken i) own_is (stands.vectors i) number_made)
+  values_then action act = subst (λ a. StandForValues new.values (recorded made i (held i) a)) act (added.values made (held i) stands.values stands.rows kept.history (kept.taken i) own_is (stands.vectors i) number_made)
 
   -- an operation
   pub operation_added : (op : Op) → action_of code ≡ Operation op → (deletes : List Dot) → (AreDeletes old.deletes made → AreDeletes deletes (recorded made i (held i) (Operation op)))

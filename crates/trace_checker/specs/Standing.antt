@@ -47,7 +47,7 @@ pub record IsAdded (old new : KeyHistory) (at number : ℕ) (action : Action) : 
   pub held : IsPut old.held.items new.held.items at (raised (vector_of old.held.items at) at number)
   pub prunes : new.prunes ≡ old.prunes
   pub deletes : new.deletes ≡ old.deletes
-  pub values : (made H : History Op) → StandForValues old.values made → IsHistory made → IsTakenFrom made H → H at ≡ made at → number_at (vector_of old.held.items at) ≡ versions H → number ≡ length (made at) + 1
+  pub values : (made H : History Op) → StandForValues old.values made → AreRows old.rows.items made → IsHistory made → IsTakenFrom made H → H at ≡ made at → number_at (vector_of old.held.items at) ≡ versions H → number ≡ length (made at) + 1
       → StandForValues new.values (recorded made at H (action_of action))
 
 -- of each declared key what a trace came to

@@ -79,7 +79,8 @@ impl KeyHistory {
         let past = vector_of(alloc, self.held.as_slice(), at)?;
         let mut now = past.copy(alloc)?;
         now.raise(at, number)?;
-        self.values.keep(alloc, &past, at, number, &action)?;
+        self.values
+            .keep(alloc, self.rows.as_slice(), &past, at, number, &action)?;
         let record = Record {
             origin: at,
             number,

@@ -1,5 +1,5 @@
 -- What is kept of each identity's first records, after one record more.
-use Rattle.std.proofs.Common.{◌≡◌, ℕ, zero, suc, ◌+◌, ◌-◌, ◌<◌, ◌≤◌, List, [], ◌∷◌, ◌++◌, length, take, refl, sym, ap, ◌∙◌, arith, Bool, true, false, Some, inl, inr}
+use Rattle.std.proofs.Common.{◌≡◌, ℕ, zero, suc, ◌+◌, ◌-◌, ◌<◌, ◌≤◌, List, [], ◌∷◌, ◌++◌, length, take, set, refl, sym, ap, ◌∙◌, arith, Bool, true, false, Some, inl, inr}
 use Rattle.std.specs.Prelude.{◌==◌, if◌then◌else◌, unwrap_or, slice_get}
 use Rattle.std.proofs.lemmas.Bool.{cases_lt}
 use Rattle.std.proofs.lemmas.Bool.Decides.{eqb_tells, nat_tests}
@@ -20,7 +20,7 @@ pub get_last : {X : Type 0} (xs : List X) (x : X) → slice_get (xs ++ x ∷ [])
 get_last [] x = refl
 get_last (y ∷ xs) x = get_last xs x
 
-length_push : {X : Type 0} (xs : List X) (x : X) → length (xs ++ x ∷ []) ≡ length xs + 1
+pub length_push : {X : Type 0} (xs : List X) (x : X) → length (xs ++ x ∷ []) ≡ length xs + 1
 length_push [] x = refl
 length_push (y ∷ xs) x = let later = length_push xs x in omega (arith, later)
 
@@ -41,6 +41,18 @@ last_one none xs x n is = elim (eqb_tells n 0) [
       let place : n - 1 ≡ length xs = omega (arith, is) in
       ap (λ b. if b then none else unwrap_or (slice_get (xs ++ x ∷ []) (n - 1)) none) other.0 ∙ ap (λ k. unwrap_or (slice_get (xs ++ x ∷ []) k) none) place ∙ ap (λ o. unwrap_or o none) (get_last xs x)
 ]
+
+pub set_here : {X : Type 0} (xs : List X) (k : ℕ) (x : X) → k < length xs → slice_get (set xs k x) k ≡ Some x
+set_here [] k x h = absurd (omega (arith, h))
+set_here (y ∷ xs) zero x h = refl
+set_here (y ∷ xs) (suc k) x h = set_here xs k x (omega (arith, h))
+
+pub set_there : {X : Type 0} (xs : List X) (k m : ℕ) (x : X) → (m ≡ k → ⊥) → slice_get (set xs k x) m ≡ slice_get xs m
+set_there [] k m x isnt = refl
+set_there (y ∷ xs) zero zero x isnt = absurd (isnt refl)
+set_there (y ∷ xs) zero (suc m) x isnt = refl
+set_there (y ∷ xs) (suc k) zero x isnt = refl
+set_there (y ∷ xs) (suc k) (suc m) x isnt = set_there xs k m x (λ e. isnt (ap suc e))
 
 -- ONE RECORD MORE
 

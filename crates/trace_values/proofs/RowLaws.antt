@@ -41,12 +41,12 @@ stamped-take i n [] (suc m) = refl
 stamped-take i n (r ∷ rs) zero = refl
 stamped-take i n (r ∷ rs) (suc m) = ap (λ xs. stamp i n r ∷ xs) (stamped-take i (suc n) rs m)
 
-get_some : {X : Type 0} (xs : List X) (k : ℕ) → k < length xs → (x : X) × (slice_get xs k ≡ Some x)
+pub get_some : {X : Type 0} (xs : List X) (k : ℕ) → k < length xs → (x : X) × (slice_get xs k ≡ Some x)
 get_some [] k h = absurd (omega arith)
 get_some (x ∷ xs) zero h = (x, refl)
 get_some (x ∷ xs) (suc k) h = get_some xs k (omega arith)
 
-get_below : {X : Type 0} (xs : List X) (k : ℕ) (x : X) → slice_get xs k ≡ Some x → k < length xs
+pub get_below : {X : Type 0} (xs : List X) (k : ℕ) (x : X) → slice_get xs k ≡ Some x → k < length xs
 get_below [] k x e = absurd (cc e)
 get_below (y ∷ xs) zero x e = omega arith
 get_below (y ∷ xs) (suc k) x e = let h = get_below xs k x e in omega arith

@@ -1,8 +1,8 @@
 -- The first identity that passes a test.
-use Rattle.std.proofs.Common.{◌≡◌, ℕ, zero, suc, ◌+◌, ◌<◌, List, ◌∷◌, refl, sym, ap, ◌∙◌, arith, Bool, true, false, Option, Some, None}
+use Rattle.std.proofs.Common.{◌≡◌, ℕ, zero, suc, ◌+◌, ◌<◌, List, refl, sym, ap, ◌∙◌, arith, Bool, true, false, Some, None}
 use Rattle.std.specs.Prelude.{find, if◌then◌else◌}
 use Rattle.std.specs.List.{range_with_len}
-use Rattle.model_history.specs.Table.{identity_limit, identities}
+use Rattle.model_history.specs.Table.{identity_limit}
 use Rattle.model_history.specs.Vector.{VersionVector}
 use Rattle.trace_values.specs.declared.writes.LastWrite.{LastWrite}
 use Rattle.trace_values.specs.Writes.{has_newest, first_newest}

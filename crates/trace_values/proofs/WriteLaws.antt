@@ -1,14 +1,13 @@
 -- The last writes that are kept are those of every history taken from the records.
-use Rattle.std.proofs.Common.{◌≡◌, ℕ, zero, suc, ◌+◌, ◌-◌, ◌<◌, ◌≤◌, max, List, [], ◌∷◌, ◌++◌, length, map, refl, sym, ap, ap₂, subst, ◌∙◌, arith, Bool, true, false, Option, Some, None, inl, inr}
-use Rattle.std.specs.Prelude.{◌&&◌, not, ◌==◌, if◌then◌else◌, slice_get, is_some, find, fold, option_map, unwrap_or}
-use Rattle.std.specs.List.{range_with_len, list_any}
+use Rattle.std.proofs.Common.{◌≡◌, ℕ, zero, suc, ◌+◌, ◌-◌, ◌<◌, ◌≤◌, max, List, [], ◌∷◌, ◌++◌, length, map, refl, sym, ap, ap₂, ◌∙◌, arith, Bool, true, false, Option, Some, None, inl, inr}
+use Rattle.std.specs.Prelude.{◌&&◌, not, ◌==◌, if◌then◌else◌, slice_get, is_some, find, option_map, unwrap_or}
+use Rattle.std.specs.List.{range_with_len}
 use Rattle.std.proofs.lemmas.Bool.{cases_lt, eqb-true, eq-eqb}
 use Rattle.std.proofs.lemmas.Bool.Decides.{eqb_tells, nat_tests}
 use Rattle.std.proofs.lemmas.List.{map-append}
 use Rattle.std.proofs.lemmas.List.Sums.{fold_push}
 use Rattle.base_vectors.proofs.Walks.{counted_more}
 use Rattle.model_history.specs.Table.{identity_limit, identities}
-use Rattle.model_history.specs.Texts.{Text}
 use Rattle.model_history.specs.Vector.{VersionVector}
 use Rattle.model_history.specs.Cuts.{record_at}
 use Rattle.model_history.specs.Log.{IsTakenFrom}
@@ -17,13 +16,12 @@ use Rattle.model_history.proofs.Bridge.{record_at_is, has_record_at, record_at_p
 use Rattle.model_history.proofs.HistoryLaws.{with_at_same}
 use Rattle.model_history.proofs.PartLaws.{part-le, part_with_record, part_trans, in_whole, history-with_record}
 use Rattle.model_history.proofs.PruneLaws.{IsIn, found as found_passes}
-use Rattle.model_meanings.specs.Growing.{Assignment, greatest, timestamp, timestamp_after, found, newest, winner, winning_text}
+use Rattle.model_meanings.specs.Growing.{Assignment, greatest, timestamp, timestamp_after, found, newest, winning_text}
 use Rattle.model_meanings.proofs.EquationsOfMeanings.{timestamp_equation}
-use Rattle.model_traces.specs.Traces.{recorded}
 use Rattle.model_traces.proofs.Tests.{stamped, first_true, second_true}
 use Rattle.model_kinds.specs.SixKinds.{assigned}
 use Rattle.model_kinds.specs.declared.operation.Op.{Op}
-use Rattle.theorem_latest.specs.Writes.{record_of, writes_at, last_write, last_write_of, last_timestamp, last_newest, last_winner}
+use Rattle.theorem_latest.specs.Writes.{record_of, writes_at, last_write, last_write_of, last_timestamp, last_newest}
 use Rattle.theorem_latest.proofs.Staying.{timestamps_stay}
 use Rattle.theorem_latest.proofs.Writing.{winner_is_last, same_top}
 use Rattle.theorem_latest.proofs.Touching.{not_zero}
@@ -31,7 +29,7 @@ use Rattle.data_meaning.specs.declared.record.Record.{Record}
 use Rattle.data_meaning.specs.Records.{action_of}
 use Rattle.data_meaning.specs.Stamping.{text_in}
 use Rattle.trace_values.specs.declared.writes.LastWrite.{LastWrite}
-use Rattle.trace_values.specs.Rows.{row_of, IsPushed, AreRows, last_of}
+use Rattle.trace_values.specs.Rows.{IsPushed, AreRows, last_of}
 use Rattle.trace_values.specs.Writes.{no_write, write_meant, write_after, timestamp_at, newest_of, has_newest, first_newest, text_at, text_of, winning_text as code_text, AreWrites}
 use Rattle.trace_values.proofs.Firsts.{get_last, first_then, positive}
 use Rattle.trace_values.proofs.RowLaws.{has_row}

@@ -1,5 +1,6 @@
 pub mod Rows
 pub mod Sums
 pub mod Writes
-pub mod Walking
+pub mod Touches
+pub mod Elements
 pub mod Standing

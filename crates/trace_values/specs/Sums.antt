@@ -1,5 +1,5 @@
 -- What records add and take, and whether one of them switches on.
-use Rattle.std.specs.Prelude.{◌≡◌, ℕ, ◌+◌, List, take, sum_by, Bool, false, ◌||◌}
+use Rattle.std.specs.Prelude.{ℕ, ◌+◌, List, take, sum_by, false, ◌||◌}
 use Rattle.std.specs.List.{list_any}
 use Rattle.model_history.specs.Vector.{VersionVector}
 use Rattle.model_history.specs.History.{Action, Record, History}

@@ -1,5 +1,5 @@
 -- The last write of each identity's first records, and the greatest timestamp.
-use Rattle.std.specs.Prelude.{◌≡◌, ℕ, ◌-◌, ◌==◌, ◌&&◌, not, List, [], map, find, Bool, if◌then◌else◌, Option, None, Some, slice_get}
+use Rattle.std.specs.Prelude.{ℕ, ◌-◌, ◌==◌, ◌&&◌, not, List, [], map, find, Bool, if◌then◌else◌, Option, None, Some, slice_get}
 use Rattle.model_history.specs.Table.{identities}
 use Rattle.model_history.specs.Texts.{Text}
 use Rattle.model_history.specs.Vector.{VersionVector}

@@ -8,10 +8,12 @@
 //!   each identity it has (`Values::value`).
 #![tactic(auto)]
 
+mod elements;
+mod rising;
 mod rows;
+mod sets;
 mod sums;
 mod values;
-mod walked;
 mod writes;
 
 pub use rows::{push_row, row_of};

@@ -4,7 +4,7 @@ ghost use Rattle.model_history.specs.History.{History, versions, no_records, IsH
 ghost use Rattle.model_history.specs.Log.{IsTakenFrom};
 ghost use Rattle.model_kinds.specs.SixKinds as kinds;
 ghost use Rattle.model_kinds.specs.declared.operation.Op as operations;
-ghost use Rattle.model_kinds.specs.declared.kind.Kind.TheVariants.{GCounter, PnCounter, Flag, LwwRegister};
+ghost use Rattle.model_kinds.specs.declared.kind.Kind.TheVariants.{GCounter, PnCounter, GSet, OrSet, Flag, LwwRegister};
 ghost use Rattle.model_kinds.specs.declared.shown.Shown.TheVariants.{Signed};
 ghost use Rattle.model_meanings.specs.Growing.{has_operation};
 ghost use Rattle.model_traces.specs.Traces.{recorded};
@@ -13,8 +13,8 @@ ghost use Rattle.data_meaning.specs.Records.{action_of};
 ghost use Rattle.trace_values.specs.Rows.{AreRows};
 ghost use Rattle.trace_values.specs.Standing.{StandForValues};
 
+use crate::sets::{Element, added, live, push_elements};
 use crate::sums::{Sums, push_sums, sums_of};
-use crate::walked::walked;
 use crate::writes::{LastWrite, push_write, winning_text};
 use base_bytes::{Items, Memory};
 use base_vectors::{Id, Seq, VersionVector};
@@ -29,6 +29,8 @@ pub struct Values {
     pub(crate) sums: Vec<Items<Sums>>,
     /// For each record which of it and those before it of its identity is the last write.
     pub(crate) writes: Vec<Items<LastWrite>>,
+    /// The elements that records name, in byte order, and which of the records touch and add them.
+    pub(crate) elements: Vec<Element>,
 }
 
 /// A sum as a signed number. Memory has no room for so many records that it isn't one.
@@ -56,10 +58,11 @@ impl Values {
         Values {
             sums: Vec::new(alloc),
             writes: Vec::new(alloc),
+            elements: Vec::new(alloc),
         }
     }
 
-    /// Keeps one more record of an identity, which has this number and this past.
+    /// Keeps one more record of an identity, which has this number and this past. The rows are those of the records before it.
     ///
     /// # Errors
     ///
@@ -67,6 +70,7 @@ impl Values {
     pub fn keep(
         &mut self,
         alloc: Global,
+        rows: &[Items<Record>],
         past: &VersionVector,
         id: Id,
         number: Seq,
@@ -74,11 +78,12 @@ impl Values {
     ) -> Result<(), Memory>
         requires member { id < identity_limit }
         requires number { 1 ≤ number }
-        ensures { OnOk result ((made H : History operations.Op) → StandForValues self.old made → IsHistory made → IsTakenFrom made H → H id ≡ made id → number_at past.now ≡ versions H → number ≡ length (made id) + 1
+        ensures { OnOk result ((made H : History operations.Op) → StandForValues self.old made → AreRows rows.now made → IsHistory made → IsTakenFrom made H → H id ≡ made id → number_at past.now ≡ versions H → number ≡ length (made id) + 1
             → StandForValues self.new (recorded made id H (action_of action.now))) }
     {
         push_sums(&mut self.sums, alloc, id, number, action)?;
-        push_write(&mut self.writes, alloc, id, number, past, action)
+        push_write(&mut self.writes, alloc, id, number, past, action)?;
+        push_elements(&mut self.elements, alloc, rows, past, id, number, action)
     }
 
     /// The sum of a growing counter.
@@ -112,6 +117,27 @@ impl Values {
         Shown::Written(winning_text(rows, self.writes.as_slice(), known))
     }
 
+    /// The elements of a set that only grows.
+    fn growing(&self, alloc: Global, known: &VersionVector) -> Result<Shown, Memory>
+        ensures { (made H : History operations.Op) → StandForValues self.now made → IsHistory made → IsTakenFrom made H → number_at known.now ≡ versions H → IfOk result (λ shown. shown ≡ kinds.shown GSet H) }
+    {
+        let elements = added(self.elements.as_slice(), alloc, known)?;
+        Ok(Shown::Elements(elements))
+    }
+
+    /// The elements of a set of which elements are removed.
+    fn lasting(
+        &self,
+        alloc: Global,
+        rows: &[Items<Record>],
+        known: &VersionVector,
+    ) -> Result<Shown, Memory>
+        ensures { (made H : History operations.Op) → StandForValues self.now made → AreRows rows.now made → IsHistory made → IsTakenFrom made H → number_at known.now ≡ versions H → IfOk result (λ shown. shown ≡ kinds.shown OrSet H) }
+    {
+        let elements = live(self.elements.as_slice(), alloc, rows, known)?;
+        Ok(Shown::Elements(elements))
+    }
+
     /// What the records mean that a vector counts, where none of them deletes the key.
     ///
     /// # Errors
@@ -132,8 +158,8 @@ impl Values {
             Kind::PnCounter => self.balance(known),
             Kind::Flag => self.switch(known),
             Kind::LwwRegister => Ok(self.written(rows, known)),
-            Kind::GSet => walked(alloc, kind, rows, known),
-            Kind::OrSet => walked(alloc, kind, rows, known),
+            Kind::GSet => self.growing(alloc, known),
+            Kind::OrSet => self.lasting(alloc, rows, known),
         }
     }
 }

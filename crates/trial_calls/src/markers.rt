@@ -22,12 +22,13 @@ fn put_begun(marks: &mut Markers, view: u32, seen: IdSet) -> Result<(), Fail>
     Ok(())
 }
 
-/// Puts a mark of view 2, which its owner has seen, and merges one of view 1, which another member has seen too.
+/// Puts a mark of view 2, which its owner has seen, and merges one of view 1, which two other members have seen too.
 fn put_both(marks: &mut Markers, theirs: &mut Markers) -> Result<(), Fail> {
     let (owner, other, _) = identities().ok_or("identities")?;
     let seen = IdSet::empty().with(owner);
     put_begun(marks, 2, seen)?;
-    put_begun(theirs, 1, seen.with(other))?;
+    let first = Id::new(0).ok_or("identities")?;
+    put_begun(theirs, 1, seen.with(first).with(other))?;
     marks.merge(theirs)?;
     Ok(())
 }

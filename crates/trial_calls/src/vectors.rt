@@ -80,6 +80,47 @@ fn vectors_are_compared(rt: HostRuntime) -> Result<(), Fail> {
     check_compared(&rt, &mut less, &mut more)
 }
 
+/// Two of the first identity and one of the fourth; and one of the first and four of the second.
+fn pair(alloc: Global) -> Result<(VersionVector, VersionVector), Fail> {
+    let (zero, one, _) = identities().ok_or("identities")?;
+    let three = Id::new(3).ok_or("identities")?;
+    let mut left = vector(alloc, zero, 2)?;
+    left.raise(three, 1)?;
+    let mut right = vector(alloc, zero, 1)?;
+    right.raise(one, 4)?;
+    Ok((left, right))
+}
+
+/// Neither of the two covers the other, and the first has the first identity's records up to 2.
+fn check_apart(rt: &impl Abort, left: &VersionVector, right: &VersionVector) -> Result<(), Fail> {
+    let (origin, _, _) = identities().ok_or("identities")?;
+    assert_eq!(rt; left.compare(right), Order::Concurrent);
+    let contained = left.contains_dot(Dot { origin, seq: 2 });
+    let beyond = left.contains_dot(Dot { origin, seq: 3 });
+    assert_eq!(rt; (contained, beyond), (true, false));
+    Ok(())
+}
+
+/// The two joined have two of the first identity, four of the second, none of the third and one of the fourth.
+fn check_both(rt: &impl Abort, both: &VersionVector) {
+    let mut numbers = [0; 4];
+    for (number, at) in (0..4).zip(&mut numbers) {
+        if let Some(id) = Id::new(number) {
+            *at = both.at(id);
+        }
+    }
+    assert_eq!(rt; numbers, [2, 4, 0, 1]);
+}
+
+#[test]
+fn two_apart_are_joined(rt: HostRuntime) -> Result<(), Fail> {
+    let (mut left, right) = pair(rt.alloc())?;
+    check_apart(&rt, &left, &right)?;
+    left.join(&right)?;
+    check_both(&rt, &left);
+    Ok(())
+}
+
 #[test]
 fn sets_are_united(rt: HostRuntime) -> Result<(), Fail> {
     let (zero, one, last) = identities().ok_or("identities")?;

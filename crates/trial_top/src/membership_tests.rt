@@ -1,5 +1,8 @@
+ghost use Rattle.std.specs.Prelude.{◌≡◌, length, IfOk};
+
 use crate::loading::loading_keepers;
 use crate::rows::{MANY, Section, check, compare, compare_built, keepers, printed};
+use member_sqlite::SqliteKeeper;
 use std::alloc::Global;
 use std::test::Fail;
 use top_call::Status;
@@ -221,6 +224,30 @@ fn members_leave_join_and_restart(rt: HostRuntime) -> Result<(), Fail> {
         (FAILING_CLEAR, &[1], CLEAR_FAILED_REPORT),
     ];
     compare(&rt, alloc, 1, &rows)
+}
+
+/// A keeper over a database in memory for each place, as the program has.
+fn databases(alloc: Global) -> Result<Vec<SqliteKeeper>, Fail>
+    ensures { IfOk result (λ keepers. length keepers.items ≡ 8) }
+{
+    let mut keepers = Vec::new(alloc);
+    for _place in 0_u8..8 {
+        keepers.push(SqliteKeeper::in_memory(alloc))?;
+    }
+    Ok(keepers)
+}
+
+#[test]
+fn a_restart_over_databases(rt: HostRuntime) -> Result<(), Fail> {
+    let answer = printed(rt.alloc(), RESTART, databases(rt.alloc())?)?;
+    check(
+        &rt,
+        &answer,
+        Status::Done,
+        RESTART_REPORT.as_bytes(),
+        "databases",
+    );
+    Ok(())
 }
 
 #[test]

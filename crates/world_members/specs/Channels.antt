@@ -3,7 +3,7 @@
 --     channels_in        those from one identity, before its links are made too
 --     next_on, count_on, message_on        what is asked of a channel, where there may be none
 --     ChangesOne        what a write to one channel leaves
-use Rattle.std.specs.Prelude.{◌≡◌, ◌&&◌, ℕ, suc, Vec, List, [], ◌∷◌, ◌++◌, map, length, take, replicate, option_and_then, option_map, slice_get, Option, Some, None, ◌==◌, if◌then◌else◌}
+use Rattle.std.specs.Prelude.{◌≡◌, ◌&&◌, ℕ, suc, Vec, List, [], ◌∷◌, ◌++◌, map, length, replicate, option_and_then, option_map, slice_get, Option, Some, None, ◌==◌, if◌then◌else◌}
 use Rattle.std.specs.declared.alloc.Global.{Global}
 use Rattle.model_history.specs.Table.{identity_limit}
 use Rattle.world_members.specs.declared.links.Link.{Link}
@@ -61,10 +61,6 @@ module _ {M : Type 0} where
   -- another message is due next
   abbrev pub due_from : ℕ → Channel M → Channel M
   due_from next channel = record channel { next = next }
-
-  -- the first messages alone
-  abbrev pub cut_to : ℕ → Channel M → Channel M
-  cut_to sent channel = record channel { messages = take sent channel.messages }
 
   -- of the channels from one identity that to another is changed, if it is there, and the others stay
   abbrev pub ChangesIn : (Channel M → Channel M) → ℕ → List (Channel M) → List (Channel M) → Type 0

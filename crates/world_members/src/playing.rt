@@ -60,6 +60,7 @@ impl<T: SpelledData<Op = Op>, K: Keeper + Drop> World<T, K> {
     }
 
     /// Does what a step other than a round says.
+    #[inline(always)]
     fn step_alone(&mut self, step: &Step) -> Result<Event, Memory>
         requires step { IsStep (step_of step.now) }
         requires alone { step.now ≢ form.Round }
@@ -79,6 +80,7 @@ impl<T: SpelledData<Op = Op>, K: Keeper + Drop> World<T, K> {
     }
 
     /// A member is asked.
+    #[inline(always)]
     pub(crate) fn ask(&mut self, at: Id, ask: &Ask) -> Result<Event, Memory>
         ensures { MakesStep T.SpelledData.own (form.Ask at ask.now) self.old self.new result }
     {
@@ -96,6 +98,7 @@ impl<T: SpelledData<Op = Op>, K: Keeper + Drop> World<T, K> {
     }
 
     /// The input that a question is, and none where no view has the number that it names.
+    #[inline(always)]
     fn asked_input(&self, ask: &Ask) -> Result<Option<Input<T>>, Memory>
         ensures { IfOk result (λ input. input ≡ input_of self.now.views ask.now) }
     {
@@ -116,6 +119,7 @@ impl<T: SpelledData<Op = Op>, K: Keeper + Drop> World<T, K> {
     }
 
     /// The message of a number is delivered, or the next one due where no number is given.
+    #[inline(always)]
     fn deliver_one(&mut self, from: Id, to: Id, index: Option<u32>) -> Result<Event, Memory>
         ensures { MakesStep T.SpelledData.own (form.Deliver from to index) self.old self.new result }
     {

@@ -89,6 +89,7 @@ fn make_room<T: Replica>(
 }
 
 /// Puts a message at the end of the link to a member.
+#[inline(always)]
 fn append<M: Drop>(row: &mut Vec<Link<M>>, to: usize, message: M)
     ensures sent { (ids : IdentitySet) (room : ℕ) → HasRoom ids (room + 1) row.old → ids to ≡ true → IsAppended to message (row_of row.old) (row_of row.new) }
     ensures room { (ids : IdentitySet) (room : ℕ) → HasRoom ids (room + 1) row.old → HasRoom ids room row.new }
@@ -100,6 +101,7 @@ fn append<M: Drop>(row: &mut Vec<Link<M>>, to: usize, message: M)
 }
 
 /// Puts posts at the ends of their links, and tells them.
+#[inline(always)]
 fn send<T: Replica>(row: &mut Vec<Link<Message<T>>>, posts: Vec<Post<T>>, sent: &mut Vec<SentTo>)
     ensures row { AppendsPosts posts.items row.old row.new }
     ensures told { vec_len sent.old + length posts.items ≤ vec_capacity sent.old → sent.new.items ≡ sent.old.items ++ map told_of posts.items }
@@ -129,6 +131,7 @@ pub(crate) struct Answered {
 }
 
 /// What a member answered, once its messages went to the ends of its links.
+#[inline(always)]
 fn posted<T: Replica>(
     row: &mut Vec<Link<Message<T>>>,
     output: Output<T>,
@@ -155,6 +158,7 @@ fn posted<T: Replica>(
 }
 
 /// A member makes a step: its messages, which are few for the input, go to the ends of its links, and are told.
+#[inline(always)]
 fn step_on_row<T: SpelledData, K: Keeper + Drop>(
     alloc: Global,
     node: &mut Node<T, K>,
@@ -173,6 +177,7 @@ fn step_on_row<T: SpelledData, K: Keeper + Drop>(
 }
 
 /// A member makes a step, before which its links are made.
+#[inline(always)]
 fn step_on_made<T: SpelledData, K: Keeper + Drop>(
     alloc: Global,
     node: &mut Node<T, K>,
@@ -188,6 +193,7 @@ fn step_on_made<T: SpelledData, K: Keeper + Drop>(
 }
 
 /// The member of an identity makes a step: its messages go to the ends of its links, and are told.
+#[inline(always)]
 pub(crate) fn step_on<T: SpelledData, K: Keeper + Drop>(
     alloc: Global,
     node: &mut Node<T, K>,
@@ -205,6 +211,7 @@ pub(crate) fn step_on<T: SpelledData, K: Keeper + Drop>(
 
 /// The member of an identity takes the message of a number on a link to it, where it lies: its messages go to the ends of
 /// its links, and are told.
+#[inline(always)]
 pub(crate) fn take_on<T: SpelledData, K: Keeper + Drop>(
     alloc: Global,
     node: &mut Node<T, K>,
@@ -229,6 +236,7 @@ pub(crate) fn take_on<T: SpelledData, K: Keeper + Drop>(
 }
 
 /// The event of what a member answered.
+#[inline(always)]
 pub(crate) fn event_of(
     alloc: Global,
     head: Head,

@@ -146,6 +146,7 @@ impl<T: SpelledData<Op = Op>, K: Keeper + Drop> World<T, K> {
     }
 
     /// Gives an input to the member of an identity.
+    #[inline(always)]
     pub(crate) fn give(&mut self, at: Id, head: Head, input: &Input<T>) -> Result<Event, Memory>
         ensures { MatchResult result (Gives T.SpelledData.own at head input.now self.old self.new) (λ _. Refuses at self.old self.new) }
     {
@@ -162,6 +163,7 @@ impl<T: SpelledData<Op = Op>, K: Keeper + Drop> World<T, K> {
     }
 
     /// Hands the message of this number on a link to the member of an identity, where it lies.
+    #[inline(always)]
     fn hand(&mut self, from: Id, to: Id, index: usize, head: Head) -> Result<Event, Memory>
         requires { is_some (message_on (channel_at self.old.links from to) index) ≡ true }
         ensures { MatchResult result (Hands T.SpelledData.own from to index head self.old self.new) (λ _. Refuses to self.old self.new) }
@@ -192,6 +194,7 @@ impl<T: SpelledData<Op = Op>, K: Keeper + Drop> World<T, K> {
     }
 
     /// Hands the message of this number to its receiver. A message may be handed over any number of times.
+    #[inline(always)]
     pub(crate) fn deliver(&mut self, from: Id, to: Id, index: usize) -> Result<Event, Memory>
         ensures { DoesOr T.SpelledData.own (delivers T.Replica T.SpelledData.own from to index) self.old self.new result }
     {
@@ -226,6 +229,7 @@ fn item_at<X>(items: &[Option<X>], place: usize) -> Option<&X>
 }
 
 /// An event that sent nothing and ended nothing.
+#[inline(always)]
 pub(crate) fn line(alloc: Global, head: Head, answer: Answer) -> Event
     ensures { result ≡ record { head = head; answer = answer; sent = []; finished = None } }
 {
@@ -238,6 +242,7 @@ pub(crate) fn line(alloc: Global, head: Head, answer: Answer) -> Event
 }
 
 /// The event of a message that was not handed over.
+#[inline(always)]
 fn undelivered(alloc: Global, from: Id, to: Id, index: usize, answer: Answer) -> Event
     ensures { result ≡ record { head = head.Deliver from to index None; answer = answer; sent = []; finished = None } }
 {

@@ -1,4 +1,4 @@
-use Rattle.std.proofs.Common.{◌≡◌, ◌≤◌, ap, sym, ◌∙◌, map, string_bytes, arith}
+use Rattle.std.proofs.Common.{◌≤◌, ap, sym, ◌∙◌, map, string_bytes, arith}
 use Rattle.std.specs.Prelude.{filter_map, option_map}
 use Rattle.std.specs.List.{range_with_len}
 use Rattle.model_history.specs.Table.{identity_limit}

@@ -1,4 +1,4 @@
-use Rattle.std.proofs.Common.{◌≡◌, ◌≤◌, decimal, ap, sym, ◌∙◌, map, string_bytes, arith}
+use Rattle.std.proofs.Common.{◌≤◌, decimal, ap, sym, ◌∙◌, map, string_bytes, arith}
 use Rattle.model_history.specs.Table.{identity_limit}
 use Rattle.base_vectors.specs.IdSets.{members_in}
 use Rattle.base_vectors.proofs.Readings.{members_end}

@@ -1,4 +1,4 @@
-use Rattle.std.proofs.Common.{◌≡◌, ◌≤◌, not, ◌==◌, ap, ◌∙◌, map, string_bytes, arith}
+use Rattle.std.proofs.Common.{◌≤◌, not, ◌==◌, ap, ◌∙◌, map, string_bytes, arith}
 use Rattle.model_history.specs.Table.{identity_limit}
 use Rattle.model_history.specs.History.{at}
 use Rattle.base_vectors.proofs.Readings.{members_end}

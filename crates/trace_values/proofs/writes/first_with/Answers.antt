@@ -1,10 +1,5 @@
-use Rattle.std.proofs.Common.{◌≡◌, ap, sym, ◌∙◌, arith, Some, ◌&&◌, not, true}
-use Rattle.std.specs.Prelude.{◌==◌}
-use Rattle.std.proofs.lemmas.Bool.{eq-eqb}
+use Rattle.std.proofs.Common.{sym, arith}
 use Rattle.base_vectors.specs.Vectors.{number_at}
-use Rattle.model_traces.proofs.Tests.{both_true}
-use Rattle.trace_values.specs.declared.writes.LastWrite.{LastWrite}
-use Rattle.trace_values.specs.Writes.{has_newest}
 use Rattle.trace_values.proofs.Searches.{first_found, none_found}
 use Rattle.trace_values.proofs.WriteLaws.{is_newest}
 use Rattle.trace_values.proofs.writes.first_with.Goals as goal

@@ -72,21 +72,25 @@ returns-in-Ok-restored-clause-stands g c = λ kinds logs table store e have_kind
     stands_loaded R S g.met.T.SpelledData.byte_means g.met.T.SpelledData.spelling_means once kinds logs c.args.id c.args.view table store spells c.args.old.keys.items _ c.args.old.distinct same holds histories have_kinds refl refl c.new.ensures refl
 
 pub returns-in-Ok-restored-clause-sound : goal.returns-in-Ok-restored-clause-sound
-returns-in-Ok-restored-clause-sound g c = λ table e.
-    let R = g.T.Replica in
-    let S = g.T.SpelledData in
-    let loaded = told (g.K.Keeper.table c.args.old.keeper) c.in-Ok.loaded.items table c.in-Ok.ensures.loaded e in
-    subst (AreSound R S c.args.old.keys.items c.args.id c.args.view.given) loaded
-    (subst (λ keys. AreSound R S keys c.args.id c.args.view.given c.in-Ok.loaded.items) c.deref.ensures.value c.in-Ok-restored.ensures.sound)
+returns-in-Ok-restored-clause-sound g c = record {
+  loaded = c.in-Ok.loaded.items;
+  gives = c.in-Ok.ensures.loaded;
+  sound = subst (λ keys. AreSound g.T.Replica g.T.SpelledData keys c.args.id c.args.view.given c.in-Ok.loaded.items) c.deref.ensures.value c.in-Ok-restored.ensures.sound;
+  holds = c.in-Ok-restored.ensures.holds;
+}
 
-pub returns-in-Err-Damaged-clause-undamaged : goal.returns-in-Err-Damaged-clause-undamaged
-returns-in-Err-Damaged-clause-undamaged g c = λ kinds logs table store e have_kinds spells fit.
+pub returns-in-Err-Damaged-clause-damaged : goal.returns-in-Err-Damaged-clause-damaged
+returns-in-Err-Damaged-clause-damaged g c =
     let R = g.T.Replica in
     let S = g.T.SpelledData in
-    let loaded = told (g.K.Keeper.table c.args.old.keeper) c.in-Ok.loaded.items table c.in-Ok.ensures.loaded e in
     let first : IsFirstUnsound R S c.deref.result.now c.args.id c.args.view.given c.in-Ok.loaded.items c.in-Err-Damaged.key =
     subst (λ (unfit : Unfit). IfDamaged unfit (IsFirstUnsound R S c.deref.result.now c.args.id c.args.view.given c.in-Ok.loaded.items)) c.in-Err-Damaged.field-0-is c.in-Err-Damaged.ensures.unfit in
-    let here : IsFirstUnsound R S c.args.old.keys.items c.args.id c.args.view.given table c.in-Err-Damaged.key =
-    subst (λ keys. IsFirstUnsound R S keys c.args.id c.args.view.given table c.in-Err-Damaged.key) c.deref.ensures.value
-    (subst (λ (items : List Stored). IsFirstUnsound R S c.deref.result.now c.args.id c.args.view.given items c.in-Err-Damaged.key) loaded first) in
-    never_unsound R S g.met.T.SpelledData.byte_means g.met.T.SpelledData.spelling_means g.met.T.Replica.data_unmentioned c.args.id c.args.view.given c.args.old.keys.items kinds logs store have_kinds fit table c.in-Err-Damaged.key spells here
+    let here : IsFirstUnsound R S c.args.old.keys.items c.args.id c.args.view.given c.in-Ok.loaded.items c.in-Err-Damaged.key =
+    subst (λ keys. IsFirstUnsound R S keys c.args.id c.args.view.given c.in-Ok.loaded.items c.in-Err-Damaged.key) c.deref.ensures.value first in
+    record {
+      loaded = c.in-Ok.loaded.items;
+      gives = c.in-Ok.ensures.loaded;
+      first = rw c.in-Err-Damaged.field-0-is here;
+      unfit = λ kinds logs store have_kinds spells fit.
+          never_unsound R S g.met.T.SpelledData.byte_means g.met.T.SpelledData.spelling_means g.met.T.Replica.data_unmentioned c.args.id c.args.view.given c.args.old.keys.items kinds logs store have_kinds fit c.in-Ok.loaded.items c.in-Err-Damaged.key spells here;
+    }

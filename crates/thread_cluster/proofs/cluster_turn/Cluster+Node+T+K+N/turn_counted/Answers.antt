@@ -4,7 +4,7 @@ use Rattle.thread_cluster.proofs.cluster_turn.Cluster+Node+T+K+N.turn_counted.Go
 pub returns-in-Err-clause-full : goal.returns-in-Err-clause-full
 returns-in-Err-clause-full g c = λ e.
     let told = c.stopped.ensures in
-    full_somewhere _ (λ m i h. h) c.turn_all.new.session c.in-Err.error c.in-Err.ensures.cause cc
+    full_somewhere _ (λ m i h. h) g.N.Section.ids c.turn_all.new.session c.in-Err.error c.in-Err.ensures.cause cc
 
 pub returns-in-Err-clause-only : goal.returns-in-Err-clause-only
 returns-in-Err-clause-only g c =

@@ -2,7 +2,7 @@ use Rattle.std.proofs.Common.{ap, sym, ◌∙◌, subst, arith}
 use Rattle.thread_cluster.specs.Passing.{Hears, IsNext}
 use Rattle.thread_cluster.specs.Meeting.{AreAlike}
 use Rattle.thread_cluster.proofs.Lists.{on_ok, either_way}
-use Rattle.thread_cluster.proofs.Posts.{hears_take}
+use Rattle.thread_cluster.proofs.Posts.{hears_take, next_unheard, unheard_alike}
 use Rattle.thread_cluster.proofs.Books.{takes_one_of}
 use Rattle.thread_cluster.proofs.Stepping.{took, is_cause, somewhere}
 use Rattle.thread_cluster.proofs.locked.Locked.take.Goals as goal
@@ -37,6 +37,11 @@ returns-clause-ok g c =
 
 pub returns-clause-cause : goal.returns-clause-cause
 returns-clause-cause g c =
+    let p = g.P.Spot.PLACE in
+    let q = c.args.from.now.place in
     let alike : AreAlike c.self.inside.cell c.args.session.now = rw c.self.view_is c.requires.alike in
-    somewhere g.M.Machine g.P.Spot.PLACE c.take-input.result c.self.inside.cell c.accept.new.cell c.args.session.now c.accept.new.session c.accept.result
+    let next : IsNext g.M.Member.posted g.M.Member.taken g.N.Section.ids q c.args.message p c.self.inside.cell.seen.known = rw c.self.view_is c.requires.next in
+    let unheard = unheard_alike g.M.Member.posted g.M.Member.taken g.N.Section.ids q p c.args.session.now.seen.known c.self.inside.cell.seen.known alike.same
+    (next_unheard g.M.Member.posted g.M.Member.taken g.N.Section.ids q c.args.from.now.id c.args.message p c.self.inside.cell.seen.known c.args.from.now.stands next) in
+    somewhere g.M.Machine g.P.Spot.PLACE c.take-input.result c.self.inside.cell c.accept.new.cell c.args.session.now c.accept.new.session g.M.Member.taken g.M.Member.posted g.N.Section.ids q _ c.accept.result unheard c.accept.ensures.err
     (is_cause g.M.Machine g.P.Spot.PLACE c.take-input.result c.self.inside.cell c.accept.new.cell c.args.session.now c.accept.new.session _ c.accept.result c.accept.ensures.full c.accept.ensures.refused c.accept.ensures.err alike c.facts.ensures.began)

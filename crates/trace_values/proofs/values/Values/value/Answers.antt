@@ -1,8 +1,7 @@
 use Rattle.std.proofs.Common.{ap, sym, ◌∙◌}
-use Rattle.base_vectors.specs.Vectors.{number_at}
 use Rattle.model_kinds.specs.SixKinds.{six_kinds}
-use Rattle.model_kinds.specs.declared.kind.Kind.TheVariants.{GCounter, PnCounter, Flag, LwwRegister}
-use Rattle.trace_values.proofs.Keeping.{if_ok, value_shown, walked_shown}
+use Rattle.model_kinds.specs.declared.kind.Kind.TheVariants.{GCounter, PnCounter, GSet, OrSet, Flag, LwwRegister}
+use Rattle.trace_values.proofs.Keeping.{if_ok, value_shown}
 use Rattle.trace_values.proofs.values.Values.value.Goals as goal
 
 pub returns-in-GCounter : goal.returns-in-GCounter
@@ -18,11 +17,7 @@ pub returns-in-LwwRegister : goal.returns-in-LwwRegister
 returns-in-LwwRegister c = λ made H stands rows history taken known_is free. c.written.ensures made H stands rows history taken known_is ∙ value_shown LwwRegister H free ∙ ap (λ kind. six_kinds.shown kind H) (sym c.in-LwwRegister.is)
 
 pub returns-in-GSet : goal.returns-in-GSet
-returns-in-GSet c = λ made H stands rows history taken known_is free.
-    let walk = walked_shown made H history taken (number_at c.args.known.now) known_is in
-    if_ok c.walked.result _ _ (λ shown is. is ∙ walk.1 c.args.kind) (c.walked.ensures made rows walk.0)
+returns-in-GSet c = λ made H stands rows history taken known_is free. if_ok c.growing.result _ _ (λ shown is. is ∙ value_shown GSet H free ∙ ap (λ kind. six_kinds.shown kind H) (sym c.in-GSet.is)) (c.growing.ensures made H stands history taken known_is)
 
 pub returns-in-OrSet : goal.returns-in-OrSet
-returns-in-OrSet c = λ made H stands rows history taken known_is free.
-    let walk = walked_shown made H history taken (number_at c.args.known.now) known_is in
-    if_ok c.walked-in-OrSet.result _ _ (λ shown is. is ∙ walk.1 c.args.kind) (c.walked-in-OrSet.ensures made rows walk.0)
+returns-in-OrSet c = λ made H stands rows history taken known_is free. if_ok c.lasting.result _ _ (λ shown is. is ∙ value_shown OrSet H free ∙ ap (λ kind. six_kinds.shown kind H) (sym c.in-OrSet.is)) (c.lasting.ensures made H stands rows history taken known_is)
