@@ -2,7 +2,7 @@
 --     IsFirstVersion        the tables are those of this version
 --     IsAdopted        the keeper's table is what the database's rows say, or the database was new and got its tables
 --     IsUnadopted        why there is no table
-use Rattle.std.specs.Prelude.{◌≡◌, ◌≢◌, ◌⊎◌, ℕ, pos, List, [], ◌∷◌, codes, length, slice_index_or, Ok, Err}
+use Rattle.std.specs.Prelude.{◌≡◌, ◌≢◌, ◌⊎◌, ℕ, pos, List, [], ◌∷◌, codes, Ok, Err}
 use Rattle.sqlite_value.specs.declared.value.Value.{Value}
 use Rattle.sqlite_value.specs.declared.value.Value.TheVariants.{Int}
 use Rattle.sqlite_value.specs.Order.{Row, column}

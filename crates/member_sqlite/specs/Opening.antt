@@ -19,30 +19,31 @@ use Rattle.member_sqlite.specs.declared.told.OpenError.TheVariants as why
 use Rattle.member_sqlite.specs.Told.{told}
 use Rattle.member_sqlite.specs.Adopting.{IsAdopted, IsUnadopted}
 
-module _ {D : Type 0} {g : Ghosts D} where
-  -- The files were opened, what was found in them is what they held, and the table is what the rows of that say.
-  abbrev pub IsOpenedFrom : Image → Held (FileStore D g) → Table → Type 0
-  IsOpenedFrom image conn table = (first : Held (FileStore D g)) × IsOpened first × FindsIn image (file_state first) × IsAdopted over_files first conn table
+-- The files were opened, what was found in them is what they held, and the table is what the rows of that say.
+abbrev pub IsOpenedFrom : {D : Type 0} {g : Ghosts D} → Image → Held (FileStore D g) → Table → Type 0
+IsOpenedFrom {D} {g} image conn table = (first : Held (FileStore D g)) × IsOpened first × FindsIn image (file_state first) × IsAdopted over_files first conn table
 
+module _ {D : Type 0} (g : Ghosts D) (FreshLog FreshFile : D → Type 0) where
   -- The files were not opened. Where it is known of which files that is told, these are left as the error says.
-  pub record IsUnconnected (Fresh : Files D → Type 0) (e : OpenError) : Type 0 where
+  pub record IsUnconnected (e : OpenError) : Type 0 where
     pub error : Error
     pub is : e ≡ told error
     pub named : IsTrue (is_open_error error)
     pub left : Option (Leftover D g)
-    pub cause : IfSome left (λ it. (files : Files D) × Fresh files × (IsCleanLeft it → FailsToOpenFiles files it error × LeavesFiles files it))
-
-  abbrev pub TellsCause : (Files D → Type 0) → Result (Held (FileStore D g)) OpenError → Type 0
-  TellsCause Fresh result = IfErr result (IsUnconnected Fresh)
+    pub cause : IfSome left (λ it. (files : Files D) × FreshLog files.log × FreshFile files.db × (IsCleanLeft it → FailsToOpenFiles files it error × LeavesFiles files it))
 
   -- they were opened, and are not what a keeper needs
   abbrev pub IsUnfit : Image → OpenError → Type 0
   IsUnfit image e = (first last : Held (FileStore D g)) × (HasCleanDisk (file_state last) → IsOpened first × FindsIn image (file_state first) × IsUnadopted over_files first last e)
 
   -- want of memory before the file was touched, or one of these
-  abbrev pub IsRefused : (Files D → Type 0) → Image → OpenError → Type 0
-  IsRefused Fresh image e = (e ≡ why.Memory) ⊎ (IsUnconnected Fresh e ⊎ IsUnfit image e)
+  abbrev pub IsRefused : Image → OpenError → Type 0
+  IsRefused image e = (e ≡ why.Memory) ⊎ (IsUnconnected e ⊎ IsUnfit image e)
+
+module _ {D : Type 0} {g : Ghosts D} where
+  abbrev pub TellsCause : Result (Held (FileStore D g)) OpenError → (FreshLog FreshFile : D → Type 0) → Type 0
+  TellsCause result FreshLog FreshFile = IfErr result (IsUnconnected g FreshLog FreshFile)
 
   -- which is told where no keeper is made
-  abbrev pub TellsRefusal : {K : Type 0} → Result K OpenError → (K → Held (FileStore D g)) → (Files D → Type 0) → Image → Type 0
-  TellsRefusal result conn_of Fresh image = IfErr result (IsRefused Fresh image)
+  abbrev pub TellsRefusal : {K : Type 0} → Result K OpenError → (K → Held (FileStore D g)) → (FreshLog FreshFile : D → Type 0) → Image → Type 0
+  TellsRefusal result conn_of FreshLog FreshFile image = IfErr result (IsRefused g FreshLog FreshFile image)

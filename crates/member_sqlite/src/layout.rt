@@ -9,7 +9,8 @@ ghost use Rattle.member_sqlite.specs.Layout.{LaysOut};
 use sqlite::{Alter, Connection, Error, ErrorCode};
 
 /// The version of the tables, and the table of entries. A later version has another number.
-const LAYOUT: &str = "CREATE TABLE format (version INTEGER NOT NULL); INSERT INTO format (version) VALUES (1); CREATE TABLE entries (key TEXT PRIMARY KEY, bytes BLOB NOT NULL)";
+const LAYOUT: &str =
+    "CREATE TABLE format (version INTEGER NOT NULL); INSERT INTO format (version) VALUES (1); CREATE TABLE entries (key TEXT PRIMARY KEY, bytes BLOB NOT NULL)";
 
 /// Makes the tables in one transaction.
 pub(crate) fn lay_out<S: Alter>(conn: &mut Connection<S>) -> Result<(), Error>

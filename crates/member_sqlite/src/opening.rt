@@ -57,17 +57,26 @@ impl<S: Start> StoreKeeper<FileStore<FileFrom<S>>> {
         ensures opened { IfOk result (λ keeper. HasCleanDisk (file_state keeper.conn) → IsOpenedFrom (image_at S.Start) keeper.conn keeper.table.entries) }
         ensures in_order { IfOk result (λ keeper. IsTable keeper.table.entries) }
         ensures faults { IfOk result (λ keeper. keeper.faults ≡ 0) }
-        ensures refused { TellsRefusal result (λ keeper. keeper.conn) (λ files. IsFresh true files.log × IsFresh false files.db) (image_at S.Start) }
+        ensures refused { TellsRefusal result (λ keeper. keeper.conn) (IsFresh true) (IsFresh false) (image_at S.Start) }
     {
-        let writes = prepared(rt.alloc())?;
-        let mut conn = connect(rt, path, start)?;
+        let writes = match prepared(rt.alloc()) {
+            Ok(writes) => writes,
+            Err(why) => return Err(why),
+        };
+        let mut conn = match connect(rt, path, start) {
+            Ok(conn) => conn,
+            Err(why) => return Err(why),
+        };
         match adopt(rt.alloc(), &mut conn) {
-            Ok(table) => Ok(StoreKeeper {
-                table,
-                conn,
-                writes,
-                faults: 0,
-            }),
+            Ok(table) => {
+                let _in_order = table.entries();
+                Ok(StoreKeeper {
+                    table,
+                    conn,
+                    writes,
+                    faults: 0,
+                })
+            }
             Err(why) => Err(why),
         }
     }
@@ -105,10 +114,10 @@ fn connect<S: Start>(
     start: S,
 ) -> Result<Connection<FileStore<FileFrom<S>>>, OpenError>
     ensures opened { IfOk result (λ conn. HasCleanDisk (file_state conn) → IsOpened conn × FindsIn (image_at S.Start) (file_state conn)) }
-    ensures cause { TellsCause (λ files. IsFresh true files.log × IsFresh false files.db) result }
+    ensures cause { TellsCause result (IsFresh true) (IsFresh false) }
 {
     match Connection::open_from(rt, path, true, start) {
         Ok(conn) => Ok(conn),
-        Err((error, _)) => Err(told(error)),
+        Err(refused) => Err(told(refused.0)),
     }
 }

@@ -18,7 +18,12 @@ pub(crate) fn entry(alloc: Global, key: &str, byte: u8, count: usize) -> Result<
 }
 
 /// Stores one entry of a few bytes.
-pub(crate) fn store<K: Keeper>(alloc: Global, keeper: &mut K, key: &str, byte: u8) -> Result<(), Fail> {
+pub(crate) fn store<K: Keeper>(
+    alloc: Global,
+    keeper: &mut K,
+    key: &str,
+    byte: u8,
+) -> Result<(), Fail> {
     let stored = entry(alloc, key, byte, 3)?;
     Ok(keeper.store(&[stored])?)
 }

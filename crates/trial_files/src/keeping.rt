@@ -40,14 +40,25 @@ fn begin_again(rt: &HostRuntime, path: &str) -> Result<(), Fail> {
 #[test]
 fn what_was_stored_is_there_again(rt: HostRuntime) -> Result<(), Fail> {
     folder(&rt, "kept_files")?;
-    let path = "kept_files/a.db";
-    assert_eq!(rt; found(&rt, path)?.as_str(), "");
-    fill(&rt, path)?;
-    assert_eq!(rt; found(&rt, path)?.as_str(), "a1b2");
-    close(&rt, path)?;
-    fs::copy(&rt, path, "kept_files/b.db")?;
-    assert_eq!(rt; found(&rt, "kept_files/b.db")?.as_str(), "a1b2c7");
-    begin_again(&rt, path)?;
-    assert_eq!(rt; found(&rt, path)?.as_str(), "d4");
+    fill(&rt, "kept_files/a.db")?;
+    assert_eq!(rt; found(&rt, "kept_files/a.db")?.as_str(), "a1b2");
     leave(&rt, "kept_files")
+}
+
+#[test]
+fn a_closed_file_has_all_by_itself(rt: HostRuntime) -> Result<(), Fail> {
+    folder(&rt, "closed_files")?;
+    close(&rt, "closed_files/a.db")?;
+    fs::copy(&rt, "closed_files/a.db", "closed_files/b.db")?;
+    assert_eq!(rt; found(&rt, "closed_files/b.db")?.as_str(), "c7");
+    leave(&rt, "closed_files")
+}
+
+#[test]
+fn what_was_cleared_is_gone(rt: HostRuntime) -> Result<(), Fail> {
+    folder(&rt, "cleared_files")?;
+    fill(&rt, "cleared_files/a.db")?;
+    begin_again(&rt, "cleared_files/a.db")?;
+    assert_eq!(rt; found(&rt, "cleared_files/a.db")?.as_str(), "d4");
+    leave(&rt, "cleared_files")
 }
