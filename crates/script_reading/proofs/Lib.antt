@@ -2,5 +2,6 @@ mod Allowances
 mod Lists
 mod Names
 mod Openings
+mod Passes
 mod RuleOrder
 pub mod Refused

@@ -7,9 +7,8 @@ use Rattle.script_reading.specs.declared.clients.RunStep.{RunStep}
 use Rattle.script_reading.specs.declared.clients.RunStep.TheVariants.{Plain, Threads, Subscribe, Unsubscribe}
 use Rattle.script_reading.specs.declared.fault.Rule.{Rule}
 use Rattle.script_reading.specs.declared.script.Script.{Script}
-use Rattle.script_reading.specs.declared.script.ScriptKey.{ScriptKey}
 use Rattle.script_reading.specs.Fields.{rule, ◌>>=◌}
-use Rattle.script_reading.specs.Reading.{form_of, if_allowed, step_of, steps_after, step_list_of, opening_of, script_of, Spells}
+use Rattle.script_reading.specs.Reading.{form_of, if_allowed, step_of, steps_after, step_list_of, opening_of, Spells}
 use Rattle.script_reading.specs.WellFormed.{IsAllowed, HasNoClients}
 use Rattle.script_reading.proofs.Openings.{script_opens, script_with, with_steps}
 

@@ -1,5 +1,6 @@
 pub mod Fields
 pub mod Levels
+pub mod Found
 pub mod Operations
 pub mod Followers
 pub mod Forms

@@ -17,7 +17,7 @@ use Rattle.script_reading.specs.declared.script.Script.{Script}
 use Rattle.script_reading.specs.declared.script.ScriptKey.{ScriptKey}
 use Rattle.script_reading.specs.declared.script.Step.{Step}
 use Rattle.script_reading.specs.declared.ask.Ask as asks
-use Rattle.script_reading.specs.declared.ask.Ask.TheVariants.{Update, Get, Flush, Gossip, Tick, Install}
+use Rattle.script_reading.specs.declared.ask.Ask.TheVariants.{Update, Get, Gossip}
 use Rattle.script_reading.specs.declared.script.Step.TheVariants.{Ask, Deliver, Lose, Round, Timeout, Remove, Join, Restart, Settle}
 
 -- what a counter takes at once

@@ -27,10 +27,9 @@ pub const LAST_PLACE: u64 = 7;
 /// The greatest number of a message on a link, of a view, and of an operation that a step names.
 pub const LAST_NUMBER: u64 = 0xffff_ffff;
 
-/// What stands under a name. To look it up is dear, so what is read twice is looked up once.
-pub fn found<'v>(value: &'v Value, name: &str) -> Option<&'v Value>
-    ensures value { option_map (λ v. view v.now) result ≡ get name.now (view value.now) }
-    ensures given { is_some result ≡ is_given (view value.now) name.now }
+/// What stands under a name.
+fn found<'v>(value: &'v Value, name: &str) -> Option<&'v Value>
+    ensures { option_map (λ v. view v.now) result ≡ get name.now (view value.now) }
 {
     value.get(name)
 }
@@ -114,21 +113,21 @@ pub fn flag(value: &Value, name: &str, rule: Rule) -> Result<bool, Rule>
     }
 }
 
-/// The amount under a name of a step.
-pub fn amount(value: &Value, name: &str, step: u32) -> Result<u64, Rule>
-    ensures value { result ≡ amount_of step (get name.now (view value.now)) }
+/// The amount that stands there in a step.
+pub fn amount_in(field: Option<&Value>, step: u32) -> Result<u64, Rule>
+    ensures value { result ≡ amount_of step (option_map (λ v. view v.now) field.entry) }
     ensures bounds { IfOk result IsAmount }
 {
-    whole(value, name, 1, MOST_ADDED, Rule { step, number: 10 })
+    whole_in(field, 1, MOST_ADDED, Rule { step, number: 10 })
 }
 
-/// The moment under a name of a step.
-pub fn moment(value: &Value, name: &str, step: u32) -> Result<Moment, Rule>
-    ensures value { result ≡ moment_of step (get name.now (view value.now)) }
+/// The moment that stands there in a step.
+pub fn moment_in(field: Option<&Value>, step: u32) -> Result<Moment, Rule>
+    ensures value { result ≡ moment_of step (option_map (λ v. view v.now) field.entry) }
     ensures bounds { IfOk result IsMoment }
 {
     let rule = Rule { step, number: 10 };
-    match Moment::new(whole(value, name, 0, LAST_MOMENT, rule)?) {
+    match Moment::new(whole_in(field, 0, LAST_MOMENT, rule)?) {
         Some(moment) => Ok(moment),
         None => Err(rule),
     }

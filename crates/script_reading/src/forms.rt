@@ -2,75 +2,66 @@ ghost use Rattle.std.specs.Prelude.{◌≡◌, codes, map, true, Ok, IfOk};
 ghost use Rattle.serde_json.specs.Find.{get};
 ghost use Rattle.serde_json.specs.View.{view};
 ghost use Rattle.script_reading.specs.Fields.{rule, text_of, is_given};
+ghost use Rattle.script_reading.specs.Found.{AreFound};
 ghost use Rattle.script_reading.specs.Forms.{update_of, get_of, flush_of, gossip_of, deliver_of, lose_of, round_of, tick_of, timeout_of, remove_of, join_of, restart_of, install_of, settle_of, step_by, plain_of};
 ghost use Rattle.script_reading.specs.WellFormed.{IsStep};
 
 use crate::ask::Ask;
 use crate::fault::Rule;
 use crate::fields::{
-    found, given_names, identity, identity_in, index, key_in, number, place, step_names, text,
-    text_in,
+    given_names, identity, identity_in, index, key_in, number, place, step_names, text_in,
 };
 use crate::levels::level;
+use crate::named::{Named, named_in};
 use crate::operations::{op_named, operation, update_names};
 use crate::script::Step;
 use serde_json::Value;
 
 #[tactic(auto, unfolding(crate::specs::Forms::update_of))]
-fn update(step: u32, value: &Value, more: &[&str]) -> Result<Step, Rule>
-    requires { is_given (view value.now) (codes "do") ≡ true }
-    ensures value { result ≡ update_of (map (λ name. name.now) more.now) step (view value.now) }
+fn update(step: u32, named: &Named, more: &[&str]) -> Result<Step, Rule>
+    requires { AreFound named.now }
+    ensures value { result ≡ update_of (map (λ name. name.now) more.now) step (view named.entry.now.value.now) }
     ensures bounds { IfOk result IsStep }
 {
     let rule = Rule { step, number: 5 };
-    let named = found(value, "op");
-    let Some(form) = op_named(text_in(named, rule)?) else {
+    let Some(form) = op_named(text_in(named.op, rule)?) else {
         return Err(rule);
     };
-    let (at, key, said) = (
-        found(value, "at"),
-        found(value, "key"),
-        found(value, "level"),
-    );
-    let are_given = at.is_some() && (key.is_some() && named.is_some());
-    update_names(value, form, are_given, said.is_some(), more, step)?;
-    let at = identity_in(at, step)?;
-    let key = key_in(key, Rule { step, number: 8 })?;
-    let op = operation(step, form, value)?;
-    let level = level(said, step)?;
+    update_names(named, form, more, step)?;
+    let at = identity_in(named.at, step)?;
+    let key = key_in(named.key, Rule { step, number: 8 })?;
+    let op = operation(step, form, named)?;
+    let level = level(named.level, step)?;
     let ask = Ask::Update { key, op, level };
     Ok(Step::Ask { at, ask })
 }
 
 #[tactic(auto, using(crate::proofs::Names::get_names), unfolding(crate::specs::Forms::get_of))]
-fn get(step: u32, value: &Value, more: &[&str]) -> Result<Step, Rule>
-    requires { is_given (view value.now) (codes "do") ≡ true }
-    ensures value { result ≡ get_of (map (λ name. name.now) more.now) step (view value.now) }
+fn get(step: u32, named: &Named, more: &[&str]) -> Result<Step, Rule>
+    requires given { is_given (view named.now.value.now) (codes "do") ≡ true }
+    requires found { AreFound named.now }
+    ensures value { result ≡ get_of (map (λ name. name.now) more.now) step (view named.entry.now.value.now) }
     ensures bounds { IfOk result IsStep }
 {
-    let (at, key, said) = (
-        found(value, "at"),
-        found(value, "key"),
-        found(value, "level"),
-    );
-    let count = if said.is_some() { 4 } else { 3 };
-    given_names(value, at.is_some() && key.is_some(), count, more, step)?;
-    let at = identity_in(at, step)?;
-    let key = key_in(key, Rule { step, number: 8 })?;
-    let level = level(said, step)?;
+    let are_given = named.at.is_some() && named.key.is_some();
+    let count = if named.level.is_some() { 4 } else { 3 };
+    given_names(named.value, are_given, count, more, step)?;
+    let at = identity_in(named.at, step)?;
+    let key = key_in(named.key, Rule { step, number: 8 })?;
+    let level = level(named.level, step)?;
     let ask = Ask::Get { key, level };
     Ok(Step::Ask { at, ask })
 }
 
 #[tactic(auto, using(crate::proofs::Names::flush_names), unfolding(crate::specs::Forms::flush_of))]
-fn flush(step: u32, value: &Value, more: &[&str]) -> Result<Step, Rule>
-    requires { is_given (view value.now) (codes "do") ≡ true }
-    ensures value { result ≡ flush_of (map (λ name. name.now) more.now) step (view value.now) }
+fn flush(step: u32, named: &Named, more: &[&str]) -> Result<Step, Rule>
+    requires given { is_given (view named.now.value.now) (codes "do") ≡ true }
+    requires found { AreFound named.now }
+    ensures value { result ≡ flush_of (map (λ name. name.now) more.now) step (view named.entry.now.value.now) }
     ensures bounds { IfOk result IsStep }
 {
-    let at = found(value, "at");
-    given_names(value, at.is_some(), 2, more, step)?;
-    let at = identity_in(at, step)?;
+    given_names(named.value, named.at.is_some(), 2, more, step)?;
+    let at = identity_in(named.at, step)?;
     Ok(Step::Ask {
         at,
         ask: Ask::Flush,
@@ -195,15 +186,17 @@ fn settle(step: u32, value: &Value) -> Result<Step, Rule>
 
 /// The step of a form, by what stands under `do`.
 #[tactic(auto, using(crate::proofs::Names::given_if_read))]
-pub fn named(step: u32, name: &str, value: &Value, more: &[&str]) -> Result<Step, Rule>
-    requires { text_of (rule step 5) (get (codes "do") (view value.now)) ≡ Ok name.now }
-    ensures value { result ≡ step_by (map (λ name. name.now) more.now) step (view value.now) name.now }
+pub fn named(step: u32, name: &str, fields: &Named, more: &[&str]) -> Result<Step, Rule>
+    requires name { text_of (rule step 5) (get (codes "do") (view fields.now.value.now)) ≡ Ok name.now }
+    requires found { AreFound fields.now }
+    ensures value { result ≡ step_by (map (λ name. name.now) more.now) step (view fields.entry.now.value.now) name.now }
     ensures bounds { IfOk result IsStep }
 {
+    let value = fields.value;
     match name {
-        "update" => update(step, value, more),
-        "get" => get(step, value, more),
-        "flush" => flush(step, value, more),
+        "update" => update(step, fields, more),
+        "get" => get(step, fields, more),
+        "flush" => flush(step, fields, more),
         "gossip" => gossip(step, value, more),
         "deliver" => deliver(step, value),
         "lose" => lose(step, value),
@@ -225,10 +218,7 @@ pub fn plain(step: u32, value: &Value, more: &[&str]) -> Result<Step, Rule>
     ensures value { result ≡ plain_of (map (λ name. name.now) more.now) step (view value.now) }
     ensures bounds { IfOk result IsStep }
 {
-    named(
-        step,
-        text(value, "do", Rule { step, number: 5 })?,
-        value,
-        more,
-    )
+    let fields = named_in(value);
+    let name = text_in(fields.form, Rule { step, number: 5 })?;
+    named(step, name, &fields, more)
 }

@@ -24,6 +24,7 @@ mod forms;
 mod keys;
 mod laws;
 mod levels;
+mod named;
 mod operations;
 mod read;
 mod script;

@@ -2,6 +2,7 @@ ghost use Rattle.std.specs.Prelude.{◌≡◌, ◌+◌, ◌≤◌, [], codes, le
 ghost use Rattle.serde_json.specs.View.{view, items_view};
 ghost use Rattle.serde_json.specs.Find.{get};
 ghost use Rattle.script_reading.specs.Fields.{rule, text_of, Gives};
+ghost use Rattle.script_reading.specs.Found.{AreFound};
 ghost use Rattle.script_reading.specs.Reading.{threads_step_of, plain_step_of, form_of, if_allowed, step_of, steps_after};
 ghost use Rattle.script_reading.specs.Allowances.{have_threads, follow_keys, may_have};
 ghost use Rattle.script_reading.specs.WellFormed.{IsRunStep, IsAllowed};
@@ -9,9 +10,10 @@ ghost use Rattle.script_reading.specs.WellFormed.{IsRunStep, IsAllowed};
 use crate::clients::{Clients, RunStep};
 use crate::commands::threads;
 use crate::fault::{Fault, Rule};
-use crate::fields::text;
+use crate::fields::text_in;
 use crate::followers::{subscribe, unsubscribe};
 use crate::forms::named;
+use crate::named::{Named, named_in};
 use base_bytes::Items;
 use serde_json::Value;
 use std::alloc::Global;
@@ -31,12 +33,13 @@ fn threads_step(alloc: Global, step: u32, value: &Value) -> Result<RunStep, Faul
 /// A step that the script makes by itself, of this form.
 #[inline(always)]
 #[tactic(auto, unfolding(crate::specs::Forms::plain_of))]
-fn plain_step(step: u32, name: &str, value: &Value) -> Result<RunStep, Rule>
-    requires { text_of (rule step 5) (get (codes "do") (view value.now)) ≡ Ok name.now }
-    ensures value { result ≡ plain_step_of step (view value.now) }
+fn plain_step(step: u32, name: &str, fields: &Named) -> Result<RunStep, Rule>
+    requires name { text_of (rule step 5) (get (codes "do") (view fields.now.value.now)) ≡ Ok name.now }
+    requires found { AreFound fields.now }
+    ensures value { result ≡ plain_step_of step (view fields.entry.now.value.now) }
     ensures bounds { IfOk result IsRunStep }
 {
-    Ok(RunStep::Plain(named(step, name, value, &[])?))
+    Ok(RunStep::Plain(named(step, name, fields, &[])?))
 }
 
 /// A step of a script, with clients or without.
@@ -46,11 +49,12 @@ fn form(alloc: Global, clients: Clients, step: u32, value: &Value) -> Result<Run
     ensures value { Gives (λ s. s) result (form_of clients step (view value.now)) }
     ensures bounds { IfOk result IsRunStep }
 {
-    match text(value, "do", Rule { step, number: 5 })? {
+    let fields = named_in(value);
+    match text_in(fields.form, Rule { step, number: 5 })? {
         "threads" => threads_step(alloc, step, value),
         "subscribe" => Ok(subscribe(clients, step, value)?),
         "unsubscribe" => Ok(unsubscribe(clients, step, value)?),
-        name => Ok(plain_step(step, name, value)?),
+        name => Ok(plain_step(step, name, &fields)?),
     }
 }
 

@@ -15,6 +15,8 @@ mod digests;
 #[cfg(test)]
 mod member;
 #[cfg(test)]
+mod pruned_set;
+#[cfg(test)]
 mod spellings;
 #[cfg(test)]
 mod stored;
