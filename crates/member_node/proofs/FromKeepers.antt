@@ -7,7 +7,7 @@ use Rattle.model_members.specs.World.{Store, loaded_node}
 use Rattle.member_keeper.specs.Tables.{Table}
 use Rattle.member_keeper.specs.declared.stored.Stored.{Stored}
 use Rattle.data_lattice.specs.declared.spelled.SpelledData.{Ghosts as Spelling}
-use Rattle.member_node.proofs.Common.{Text, History, VersionVector, IdentitySet, View, Ghosts, Keeping, KeyState, Node, declared_by, AreSound, StandsForNode}
+use Rattle.member_node.proofs.Common.{Text, History, VersionVector, IdentitySet, View, Shown, Ghosts, Keeping, KeyState, Node, declared_by, AreSound, StandsForNode}
 use Rattle.member_node.specs.declared.key.KeyDecl.{KeyDecl}
 use Rattle.member_node.specs.Keys.{AreOfKinds, HaveKinds, declared}
 use Rattle.member_node.specs.Loading.{IsSoundAt}

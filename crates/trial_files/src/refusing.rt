@@ -110,7 +110,8 @@ fn a_row_that_is_no_entry_is_damaged(rt: HostRuntime) -> Result<(), Fail> {
 
 #[test]
 fn a_key_that_is_too_long_is_damaged(rt: HostRuntime) -> Result<(), Fail> {
-    let sql = "INSERT INTO entries VALUES (hex(zeroblob(33)), x'01')";
+    let sql =
+        "INSERT INTO entries VALUES ('aaaaaaaaaaaaaaaaaaaaaaaaaaaaaaaaaaaaaaaaaaaaaaaaaaaaaaaaaaaaaaaaaaaa', x'01')";
     assert_eq!(rt; said_after(&rt, sql)?, Some(OpenError::Damaged));
     Ok(())
 }
