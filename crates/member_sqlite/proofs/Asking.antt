@@ -8,23 +8,25 @@ use Rattle.member_keeper.specs.declared.keeper.KeeperError.TheVariants.{Failed, 
 use Rattle.member_sqlite.specs.declared.causes.Refusal.{Refusal}
 use Rattle.member_sqlite.specs.declared.causes.Refusal.TheVariants as refusal
 use Rattle.member_sqlite.specs.Causes.{answer_to}
-use Rattle.member_sqlite.specs.Asked.{PutsAll, IsOpened, IsReady, IsUnopened, Asks, Answers}
+use Rattle.member_sqlite.specs.Asked.{IsOpened, IsReady, IsUnopened, Asks, Answers}
+use Rattle.member_sqlite.specs.InStore.{PutsAllIn, AnswersIn}
 use Rattle.member_sqlite.specs.Statements.{PutsOne, PutsTogether}
 use Rattle.sqlite.specs.State.{Executes}
-use Rattle.sqlite.specs.Steps.{over_memory}
+use Rattle.sqlite_trees.specs.declared.store.Store.{Ghosts}
 use Rattle.member_keeper.specs.declared.stored.Stored.{Stored}
 
 -- an entry alone, and several
-pub puts_alone : (entries : List Stored) (entry : Stored) (old new : Held MemStore) (outcome : Result (Unit {0}) Refusal) → length entries ≡ 1 → entry ≡ get_or entries 0 entry
-    → PutsOne over_memory Executes entry old new outcome → PutsAll entries old new outcome
-puts_alone [] entry old new outcome one is put = absurd (omega arith)
-puts_alone (first ∷ []) entry old new outcome one is put = subst (λ (e : Stored). PutsOne over_memory Executes e old new outcome) is put
-puts_alone (first ∷ second ∷ more) entry old new outcome one is put = absurd (omega arith)
+module _ {S : Type 0} (g : Ghosts S) where
+  pub puts_alone : (entries : List Stored) (entry : Stored) (old new : Held S) (outcome : Result (Unit {0}) Refusal) → length entries ≡ 1 → entry ≡ get_or entries 0 entry → PutsOne g Executes entry old new outcome
+      → PutsAllIn g entries old new outcome
+  puts_alone [] entry old new outcome one is put = absurd (omega arith)
+  puts_alone (first ∷ []) entry old new outcome one is put = subst (λ (e : Stored). PutsOne g Executes e old new outcome) is put
+  puts_alone (first ∷ second ∷ more) entry old new outcome one is put = absurd (omega arith)
 
-pub puts_several : (entries : List Stored) (old new : Held MemStore) (outcome : Result (Unit {0}) Refusal) → (length entries ≡ 1 → ⊥) → PutsTogether over_memory entries old new outcome → PutsAll entries old new outcome
-puts_several [] old new outcome several put = put
-puts_several (first ∷ []) old new outcome several put = absurd (several refl)
-puts_several (first ∷ second ∷ more) old new outcome several put = put
+  pub puts_several : (entries : List Stored) (old new : Held S) (outcome : Result (Unit {0}) Refusal) → (length entries ≡ 1 → ⊥) → PutsTogether g entries old new outcome → PutsAllIn g entries old new outcome
+  puts_several [] old new outcome several put = put
+  puts_several (first ∷ []) old new outcome several put = absurd (several refl)
+  puts_several (first ∷ second ∷ more) old new outcome several put = put
 
 -- one that is open is ready
 pub ready_open : (old : Option (Held MemStore)) → is_some old ≡ true → IsReady old old
@@ -64,3 +66,19 @@ module _ (Does : Held MemStore → Held MemStore → Result (Unit {0}) Refusal �
   pub err_told : (T : Type 0) (old new : Option (Held MemStore)) (error : KeeperError) → Answers {T = Unit {0}} Does old new (Err error) → Answers {T = T} Does old new (Err error)
   err_told T old new Failed told = told
   err_told T old new Memory told = told
+
+-- the same of a database that is open
+module _ {S : Type 0} (Does : Held S → Held S → Result (Unit {0}) Refusal → Type 0) where
+  answers_outcome_in : (old new : Held S) (outcome : Result (Unit {0}) Refusal) → Does old new outcome → AnswersIn Does old new (answer_to outcome)
+  answers_outcome_in old new (Ok done) did = did
+  answers_outcome_in old new (Err refusal.Memory) did = inl did
+  answers_outcome_in old new (Err refusal.Other) did = did
+
+  -- what the database answered is told
+  pub answers_in : (old new : Held S) (outcome : Result (Unit {0}) Refusal) (result : Result (Unit {0}) KeeperError) → result ≡ answer_to outcome → Does old new outcome → AnswersIn Does old new result
+  answers_in old new outcome result is did = subst (AnswersIn Does old new) (sym is) (answers_outcome_in old new outcome did)
+
+  -- of any type of answers an error is told so
+  pub err_in : (T : Type 0) (old new : Held S) (error : KeeperError) → AnswersIn {T = Unit {0}} Does old new (Err error) → AnswersIn {T = T} Does old new (Err error)
+  err_in T old new Failed told = told
+  err_in T old new Memory told = told

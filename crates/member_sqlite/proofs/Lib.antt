@@ -1,3 +1,4 @@
 pub mod Asking
+pub mod Matching
 pub mod Putting
 pub mod Values

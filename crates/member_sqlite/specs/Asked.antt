@@ -1,47 +1,30 @@
 -- What the calls of a keeper ask of its database in memory.
-use Rattle.std.specs.Prelude.{◌≡◌, ◌⊎◌, List, [], ◌∷◌, Option, None, Some, Result, Ok, Err, IsErrAnd}
-use Rattle.sqlite_value.specs.Order.{Row}
+use Rattle.std.specs.Prelude.{◌≡◌, ◌⊎◌, List, Option, None, Some, Result, Ok, Err, IsErrAnd}
 use Rattle.sqlite_trees.specs.declared.memory.MemStore.{MemStore}
-use Rattle.sqlite.specs.declared.error.Error.{Error}
 use Rattle.sqlite.specs.Held.{Held, state}
-use Rattle.sqlite.specs.State.{Executes, Shown, FailsToQuery}
 use Rattle.sqlite.specs.Steps.{over_memory, IsEmpty}
 use Rattle.member_keeper.specs.declared.stored.Stored.{Stored}
 use Rattle.member_keeper.specs.declared.keeper.KeeperError.{KeeperError}
 use Rattle.member_keeper.specs.declared.keeper.KeeperError.TheVariants.{Failed, Memory}
 use Rattle.member_sqlite.specs.declared.causes.Refusal.{Refusal}
 use Rattle.member_sqlite.specs.declared.causes.Refusal.TheVariants as refusal
-use Rattle.member_sqlite.specs.Causes.{IsToldAs}
-use Rattle.member_sqlite.specs.Rows.{AreRows}
-use Rattle.member_sqlite.specs.Statements.{all_text, clear_text, RanTo, PutsOne, PutsTogether, IsMade, IsUnmade}
+use Rattle.member_sqlite.specs.InStore.{PutsAllIn, FindsAllIn, DeletesAllIn}
+use Rattle.member_sqlite.specs.Made.{IsMade, IsUnmade}
 
--- An entry alone was put by a statement that is a transaction by itself, and any others in one transaction.
 abbrev pub PutsAll : List Stored → Held MemStore → Held MemStore → Result (Unit {0}) Refusal → Type 0
-PutsAll (entry ∷ []) old new outcome = PutsOne over_memory Executes entry old new outcome
-PutsAll entries old new outcome = PutsTogether over_memory entries old new outcome
+PutsAll = PutsAllIn over_memory
 
--- all rows were deleted
 abbrev pub DeletesAll : Held MemStore → Held MemStore → Result (Unit {0}) Refusal → Type 0
-DeletesAll old new outcome = RanTo over_memory Executes clear_text [] old new outcome
+DeletesAll = DeletesAllIn over_memory
 
--- these were all rows
-abbrev pub ShowsAll : Held MemStore → Held MemStore → List Row → Type 0
-ShowsAll old new rows = Shown all_text [] (state over_memory old) (state over_memory new) rows
-
--- the query for all rows was refused
-abbrev pub IsRefused : Held MemStore → Held MemStore → Refusal → Type 0
-IsRefused old new why = (error : Error) × IsToldAs error why × FailsToQuery all_text [] (state over_memory old) (state over_memory new) error
-
--- The database was asked for all rows, and they are the entries. Where it answers others, that is a failure.
 abbrev pub FindsAll : List Stored → Held MemStore → Held MemStore → Result (Unit {0}) Refusal → Type 0
-FindsAll entries old new (Ok done) = (rows : List Row) × ShowsAll old new rows × AreRows entries rows
-FindsAll entries old new (Err why) = IsRefused old new why ⊎ ((why ≡ refusal.Other) × (rows : List Row) × ShowsAll old new rows × (¬ AreRows entries rows))
+FindsAll = FindsAllIn over_memory
 
--- an empty database in memory got its table
+-- an empty database in memory got its tables
 abbrev pub IsOpened : Held MemStore → Type 0
 IsOpened conn = (first : Held MemStore) × IsEmpty (state over_memory first) × IsMade over_memory first conn
 
--- there was no memory for a database, or it refused its table or a statement
+-- there was no memory for a database, or it refused its tables or a statement
 abbrev pub IsUnopened : Refusal → Type 0
 IsUnopened why = (why ≡ refusal.Memory) ⊎ ((first last : Held MemStore) × IsEmpty (state over_memory first) × IsUnmade over_memory first last why)
 

@@ -1,5 +1,11 @@
+pub mod Adopting
 pub mod Asked
 pub mod Causes
 pub mod InDatabase
+pub mod InStore
+pub mod Layout
+pub mod Made
+pub mod Opening
 pub mod Rows
 pub mod Statements
+pub mod Told

@@ -3,7 +3,7 @@ use Rattle.std.specs.Prelude.{◌≡◌, ◌⊎◌, ℕ, ◌<◌, true, List, []
 use Rattle.sqlite_value.specs.Order.{Row}
 use Rattle.sqlite_trees.specs.declared.store.Store.{Ghosts}
 use Rattle.sqlite.specs.declared.error.Error.{Error}
-use Rattle.sqlite.specs.State.{State, IsUnchanged, IsNotRun, Executes, ExecutesInside, Commits}
+use Rattle.sqlite.specs.State.{State, IsNotRun, ExecutesInside, Commits}
 use Rattle.sqlite.specs.Steps.{FailsToCommit}
 use Rattle.sqlite.specs.Held.{Held, state}
 use Rattle.member_keeper.specs.declared.stored.Stored.{Stored}
@@ -11,9 +11,6 @@ use Rattle.member_sqlite.specs.declared.causes.Refusal.{Refusal}
 use Rattle.member_sqlite.specs.declared.causes.Refusal.TheVariants as refusal
 use Rattle.member_sqlite.specs.Causes.{IsToldAs}
 use Rattle.member_sqlite.specs.Rows.{values_of}
-
-abbrev pub table_text : List ℕ
-table_text = codes "CREATE TABLE entries (key TEXT PRIMARY KEY, bytes BLOB NOT NULL)"
 
 abbrev pub change_text : List ℕ
 change_text = codes "UPDATE entries SET bytes = ?2 WHERE key = ?1"
@@ -100,21 +97,6 @@ module _ {S : Type 0} (g : Ghosts S) where
   PutsTogether entries old new (Err why) =
       Keeps old new × (((last : Held S) × StopsAt entries (begun old) last why) ⊎ (IsUncommitted entries (begun old) new why ⊎ IsLate old why))
 
-  -- the table was made, and two statements were prepared, which changed nothing
-  pub record IsMade (first conn : Held S) : Type 0 where
-    pub table : Held S
-    pub count : ℕ
-    pub made : Ran Executes table_text [] first table (Ok count)
-    pub mid : Held S
-    pub change : IsUnchanged (state g table) (state g mid)
-    pub add : IsUnchanged (state g mid) (state g conn)
-
   -- a statement was not prepared
   abbrev pub IsUnprepared : List ℕ → Held S → Held S → Refusal → Type 0
   IsUnprepared sql old new why = (error : Error) × IsToldAs error why × IsNotRun (state g old) (state g new) sql [] error
-
-  -- the table was refused, or one of the two statements
-  abbrev pub IsUnmade : Held S → Held S → Refusal → Type 0
-  IsUnmade first new why =
-      Ran Executes table_text [] first new (Err why) ⊎ ((table : Held S) × (count : ℕ) × Ran Executes table_text [] first table (Ok count)
-      × (IsUnprepared change_text table new why ⊎ ((mid : Held S) × IsUnchanged (state g table) (state g mid) × IsUnprepared add_text mid new why)))

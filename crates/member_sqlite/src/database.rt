@@ -1,19 +1,23 @@
 ghost use Rattle.std.specs.Prelude.{IfOk, IfErr, MatchResult};
 ghost use Rattle.sqlite.specs.Steps.{over_memory};
-ghost use Rattle.member_sqlite.specs.Statements.{IsMade, IsUnmade};
+ghost use Rattle.member_sqlite.specs.Made.{IsMade, IsUnmade};
+ghost use Rattle.sqlite.specs.Held.{state};
+ghost use Rattle.sqlite.specs.State.{HasCleanDisk};
+ghost use Rattle.member_sqlite.specs.InStore.{PutsAllIn, FindsAllIn, DeletesAllIn};
 ghost use Rattle.member_sqlite.specs.Asked.{PutsAll, FindsAll, DeletesAll, IsOpened, IsUnopened};
 
 use crate::causes::{Refusal, refusal_of};
+use crate::layout::lay_out;
 use crate::rows::are_rows;
-use crate::statements::{prepare, put, run, run_to};
+#[cfg(test)]
+use crate::statements::run;
+use crate::statements::{prepare, put, run_to};
 use crate::together::put_together;
 use crate::writes::Writes;
 use member_keeper::Stored;
-use sqlite::{Connection, MemStore};
+use sqlite::{Alter, Connection, MemStore};
 use std::alloc::Global;
 use std::marker::Model;
-
-const TABLE: &str = "CREATE TABLE entries (key TEXT PRIMARY KEY, bytes BLOB NOT NULL)";
 
 const CHANGE: &str = "UPDATE entries SET bytes = ?2 WHERE key = ?1";
 
@@ -43,7 +47,7 @@ impl Model for Database {
 }
 
 impl Database {
-    /// Opens a database, and makes the table.
+    /// Opens a database, and makes its tables.
     pub(crate) fn open(alloc: Global) -> Result<Database, Refusal>
         ensures opened { IfOk result IsOpened }
         ensures unopened { IfErr result IsUnopened }
@@ -56,6 +60,11 @@ impl Database {
             Ok(writes) => Ok(Database { conn, writes }),
             Err(why) => Err(why),
         }
+    }
+
+    /// Its two statements that put an entry, which mean their texts on every connection.
+    pub(crate) fn into_writes(self) -> Writes {
+        self.writes
     }
 
     /// Puts the entries in one transaction. A statement alone is one by itself.
@@ -86,13 +95,13 @@ impl Database {
     }
 }
 
-/// Makes the table, and prepares the two statements that put an entry.
+/// Makes the tables, and prepares the two statements that put an entry.
 fn make(conn: &mut Connection<MemStore>) -> Result<Writes, Refusal>
     ensures { MatchResult result (λ _. IsMade over_memory conn.old conn.new) (IsUnmade over_memory conn.old conn.new) }
 {
-    match run(conn, TABLE) {
-        Ok(_) => {}
-        Err(why) => return Err(why),
+    match lay_out(conn) {
+        Ok(()) => {}
+        Err(error) => return Err(refusal_of(error)),
     }
     let change = match prepare(conn, CHANGE) {
         Ok(change) => change,
@@ -105,12 +114,12 @@ fn make(conn: &mut Connection<MemStore>) -> Result<Writes, Refusal>
 }
 
 /// Puts the entries in one transaction. A statement alone is one by itself.
-fn put_rows(
-    conn: &mut Connection<MemStore>,
+pub(crate) fn put_rows<S: Alter>(
+    conn: &mut Connection<S>,
     writes: &Writes,
     entries: &[Stored],
 ) -> Result<(), Refusal>
-    ensures { PutsAll entries.now conn.old conn.new result }
+    ensures { HasCleanDisk (state S.Store conn.new) → PutsAllIn S.Store entries.now conn.old conn.new result }
 {
     match entries {
         [entry] => put(conn, writes, entry),
@@ -119,15 +128,18 @@ fn put_rows(
 }
 
 /// Deletes all rows.
-fn clear_rows(conn: &mut Connection<MemStore>) -> Result<(), Refusal>
-    ensures { DeletesAll conn.old conn.new result }
+pub(crate) fn clear_rows<S: Alter>(conn: &mut Connection<S>) -> Result<(), Refusal>
+    ensures { HasCleanDisk (state S.Store conn.new) → DeletesAllIn S.Store conn.old conn.new result }
 {
     run_to(conn, CLEAR)
 }
 
 /// Asks the database for all of its rows, and refuses where they are not these entries.
-fn find_rows(conn: &mut Connection<MemStore>, entries: &[Stored]) -> Result<(), Refusal>
-    ensures { FindsAll entries.now conn.old conn.new result }
+pub(crate) fn find_rows<S: Alter>(
+    conn: &mut Connection<S>,
+    entries: &[Stored],
+) -> Result<(), Refusal>
+    ensures { HasCleanDisk (state S.Store conn.new) → FindsAllIn S.Store entries.now conn.old conn.new result }
 {
     match conn.query_all(ALL, &[]) {
         Ok(rows) => {

@@ -120,7 +120,7 @@ impl Keeper for SqliteKeeper {
 }
 
 /// What the keeper answers, with a fault counted for a refusal other than want of memory.
-fn counted(faults: &mut u64, outcome: Result<(), Refusal>) -> Result<(), KeeperError>
+pub(crate) fn counted(faults: &mut u64, outcome: Result<(), Refusal>) -> Result<(), KeeperError>
     ensures cause { IsCaused faults.old faults.new result }
     ensures counted { CountsFailures faults.old faults.new result }
     ensures answer { result ≡ answer_to outcome }
