@@ -1,3 +1,4 @@
+pub mod Bounds
 pub mod Called
 pub mod Counts
 pub mod EachRun

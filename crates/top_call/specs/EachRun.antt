@@ -2,7 +2,7 @@
 --     SettlesAreSo        what a settle from here tells is so, and it leaves a settled world
 --     TellsSettle        a run's lines tell such a settle
 --     ReadsIncludeWrites        what a majority read shows includes the majority writes whose success was seen
-use Rattle.std.specs.Prelude.{◌≡◌, ◌≢◌, ℕ, ◌*◌, ◌-◌, ◌≤◌, List, [], ◌∷◌, ◌++◌, length, None, Some}
+use Rattle.std.specs.Prelude.{◌≡◌, ◌≢◌, ℕ, ◌*◌, ◌-◌, ◌≤◌, List, [], ◌∷◌, ◌++◌, length, map, None, Some}
 use Rattle.std.specs.List.{AllByRecursion}
 use Rattle.model_members.specs.DataType.{Replication, Meaning}
 use Rattle.model_members.specs.Node.{KeyDecl, Finished, Reply}
@@ -20,10 +20,20 @@ use Rattle.theorem_sections.specs.Sections.{Line}
 use Rattle.theorem_sections.specs.Runs.{RunStep, PlaysAll}
 use Rattle.theorem_settling.specs.Settling.{IsSettled, HasBlocked, settle_answer}
 use Rattle.theorem_digests.specs.Digests.{DistinctDigests}
+use Rattle.script_reading.specs.declared.script.Script.{Script}
+use Rattle.report_lines.specs.Run.{decl_of, in_order}
 
 -- values of the six kinds, whose digests are the SHA-1 of their spellings
 abbrev pub six : Replication Kind Op Shown
 six = spelled_groups six_kinds history_byte history_spelled
+
+-- the keys of a script as the model has them, in the byte order of their names
+abbrev pub keys_of : Script → List (KeyDecl Kind)
+keys_of script = map decl_of (in_order script.keys)
+
+-- no two different spellings that running members have of one key have one SHA-1, in any world of these events of the script
+abbrev pub DistinctOf : Script → List (Event Op) → Type 0
+DistinctOf script = DistinctDigests six history_byte history_spelled (start script.members (keys_of script))
 
 abbrev pub Lines : Type 0
 Lines = List (List (Line Op Shown))

@@ -4,7 +4,7 @@ ghost use Rattle.model_kinds.specs.ShownText.{shown_text};
 ghost use Rattle.model_members.specs.World.{start};
 ghost use Rattle.theorem_digests.specs.Digests.{DistinctDigests};
 ghost use Rattle.theorem_headline.specs.Headline.{TheHeadline};
-ghost use Rattle.std.specs.Prelude.{◌≤◌, ◌++◌, ◌∷◌, ℕ, List};
+ghost use Rattle.std.specs.Prelude.{◌≤◌, ◌++◌, ◌∷◌, ℕ, List, map};
 ghost use Rattle.std.specs.List.{AllByRecursion};
 ghost use Rattle.model_history.specs.Table.{identity_limit};
 ghost use Rattle.model_kinds.specs.declared.kind.Kind.{Kind};
@@ -14,20 +14,39 @@ ghost use Rattle.model_members.specs.Node.{KeyDecl};
 ghost use Rattle.model_members.specs.Script.{KeeperAnswers, Playing, ScriptStep, opening};
 ghost use Rattle.theorem_sections.specs.Runs.{RunStep, IsRunStep, PlaysAll, HasReport};
 ghost use Rattle.model_kinds.specs.SixKinds.{six_kinds};
+ghost use Rattle.script_reading.specs.declared.clients.Clients.{Clients};
 ghost use Rattle.script_reading.specs.declared.script.Script.{Script};
+ghost use Rattle.script_reading.specs.Reading.{Spells};
+ghost use Rattle.world_members.specs.Threads.{run_step_of};
+ghost use Rattle.report_lines.specs.Run.{IsReport};
 ghost use Rattle.trace_judged.specs.Judgements.{IsJudgement};
 ghost use Rattle.trace_judged.specs.declared.judging.Judgement.TheVariants as judged;
 ghost use Rattle.trace_played.specs.Traced.{IsTraceText};
-ghost use Rattle.top_call.specs.EachRun.{Lines, SettlesAreSo, TellsSettle, ReadsIncludeWrites, six};
+ghost use Rattle.top_call.specs.EachRun.{DistinctOf, Lines, SettlesAreSo, TellsSettle, ReadsIncludeWrites, keys_of, six};
 
 /// The headline: all that holds of each run whose report the program may write, over the six kinds and the SHA-1 of
-/// spellings, whatever the keepers answer and whatever the schedule is. The clauses of `replicate` give its premise: with
-/// status 0 the text is such a report.
+/// spellings, whatever the keepers answer and whatever the schedule is. Of what bytes spell its premises hold
+/// (`scripts_are_within_bounds`, `the_headline_of_scripts`).
 pub fn the_headline()
     ensures { (answers : KeeperAnswers) (members : ℕ) (keys : List (KeyDecl Kind)) (steps : List (RunStep Op)) (text : Text)
         → 1 ≤ members → members ≤ identity_limit → AllByRecursion IsRunStep steps
         → (report : HasReport six shown_text answers members keys steps text)
         → TheHeadline six answers members keys steps report.lines report.last report.plays (DistinctDigests six history_byte history_spelled (start members keys)) }
+{}
+
+/// Bytes that spell a script spell one within the bounds that the headline asks for: it begins with 1 to 8 members, and the
+/// places of its steps are those of a script.
+pub fn scripts_are_within_bounds()
+    ensures members { (clients : Clients) (bytes : List ℕ) (script : Script) → Spells clients bytes script → (1 ≤ script.members) × (script.members ≤ 8) }
+    ensures steps { (clients : Clients) (bytes : List ℕ) (script : Script) → Spells clients bytes script → AllByRecursion IsRunStep (map run_step_of script.steps) }
+{}
+
+/// The headline of a script that bytes spell, and of a text that is the report of a run of it: this is what the clause `done`
+/// of `replicate` says of a report, with the answers that the keepers gave.
+pub fn the_headline_of_scripts()
+    ensures { (clients : Clients) (bytes : List ℕ) (script : Script) (answers : KeeperAnswers) (text : Text)
+        → Spells clients bytes script → (report : IsReport six_kinds history_byte history_spelled answers script text)
+        → TheHeadline six answers script.members (keys_of script) (map run_step_of script.steps) report.lines report.last report.plays (DistinctOf script) }
 {}
 
 /// What a settle of a script that may have clients tells is so, whatever the schedule and whatever the keepers answer.

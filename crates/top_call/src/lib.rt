@@ -15,7 +15,8 @@ mod watching;
 mod words;
 
 pub use laws::{
-    reads_of_runs_include_writes, settles_of_runs_are_so, the_headline, traces_are_found_lawful,
+    reads_of_runs_include_writes, scripts_are_within_bounds, settles_of_runs_are_so, the_headline,
+    the_headline_of_scripts, traces_are_found_lawful,
 };
 pub use status::Status;
 pub use top::{Outcome, replicate, replicate_plain};
