@@ -248,7 +248,7 @@ script_within clients d =
     (λ keys_in _. bound IsWithin (keys_after [] keys_in) (λ keys. step_list_of d >>= (λ steps_in. steps_after clients [] steps_in >>= (λ steps. Ok (record { members = members; keys = keys; steps = steps }))))
     (λ keys _. bound IsWithin (step_list_of d) (λ steps_in. steps_after clients [] steps_in >>= (λ steps. Ok (record { members = members; keys = keys; steps = steps })))
     (λ steps_in _. bound IsWithin (steps_after clients [] steps_in) (λ steps. Ok (record { members = members; keys = keys; steps = steps }))
-    (λ steps read. 
+    (λ steps read.
     let some : IsBetween 1 8 members = known (IsBetween 1 8) (whole_of (rule 0 2) 1 8 (get (codes "members") d)) members counted (between (rule 0 2) 1 8 (option_and_then as_u64 (option_and_then as_number (get (codes "members") d)))) in
     (some.0, some.1, meant_fit steps (known (AllByRecursion RunFits) (steps_after clients [] steps_in) steps read (steps_fit clients [] steps_in tt)))))))))
 
