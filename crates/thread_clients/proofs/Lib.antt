@@ -4,5 +4,4 @@ pub mod Waiting
 pub mod Ended
 pub mod Settled
 pub mod Walking
-pub mod Stopped
 pub mod Beside

@@ -20,17 +20,22 @@ all_at P (y ∷ xs) zero x all is = let same : y ≡ x = cc in subst P same all.
 all_at P (y ∷ xs) (suc i) x all is = all_at P xs i x all.1 is
 
 module _ {M I F O R : Type 0} where
+  -- the entry of a place is the first one's, or stands in the rest
+  first : (x : AtPlace (Entry M I F O R)) (xs : List (AtPlace (Entry M I F O R))) (p : ℕ) (e : Entry M I F O R)
+      → ((n : ℕ) → slice_get (entries_of p xs) n ≡ Some e → (i : ℕ) × (slice_get xs i ≡ Some (record { place = p; entry = e })))
+      → (k : ℕ) → slice_get (x.entry ∷ entries_of p xs) k ≡ Some e → x.place ≡ p → (i : ℕ) × (slice_get (x ∷ xs) i ≡ Some (record { place = p; entry = e }))
+  first x xs p e rest zero here place =
+      let entry : x.entry ≡ e = cc in
+      (zero, ap Some (ap (λ q. record { place = q; entry = x.entry }) place ∙ ap (λ f. record { place = p; entry = f }) entry))
+  first x xs p e rest (suc k) here place = let below = rest k here in (suc below.0, below.1)
+
   -- an entry of a place stands in the list
   found : (xs : List (AtPlace (Entry M I F O R))) (p n : ℕ) (e : Entry M I F O R) → slice_get (entries_of p xs) n ≡ Some e → (i : ℕ) × (slice_get xs i ≡ Some (record { place = p; entry = e }))
   found [] p n e is = absurd cc
   found (x ∷ xs) p n e is = elim (eqb_tells x.place p) [
-    | inl here ↦ first n (sym (ap (λ es. slice_get es n) (same_place x p x xs here.1)) ∙ is) here.1
+    | inl here ↦ first x xs p e (λ k stands. found xs p k e stands) n (sym (ap (λ es. slice_get es n) (same_place x p x xs here.1)) ∙ is) here.1
     | inr other ↦ (let rest = found xs p n e (sym (ap (λ es. slice_get es n) (other_place x p x xs other.1)) ∙ is) in (suc rest.0, rest.1))
   ]
-    where
-      first : (k : ℕ) → slice_get (x.entry ∷ entries_of p xs) k ≡ Some e → x.place ≡ p → (i : ℕ) × (slice_get (x ∷ xs) i ≡ Some (record { place = p; entry = e }))
-      first zero here place = let entry : x.entry ≡ e = cc in (zero, ap Some (ap (λ q. record { place = q; entry = x.entry }) place ∙ ap (λ f. record { place = p; entry = f }) entry))
-      first (suc k) here place = let rest = found xs p k e here in (suc rest.0, rest.1)
 
   -- of two in the list, that of the lower stamp stands earlier
   sorted_below : (xs : List (AtPlace (Entry M I F O R))) (i k : ℕ) (x y : AtPlace (Entry M I F O R)) → AreSorted xs → slice_get xs i ≡ Some x → slice_get xs k ≡ Some y → x.entry.stamp < y.entry.stamp → i < k

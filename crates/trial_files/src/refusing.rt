@@ -53,7 +53,7 @@ fn a_file_that_is_cut_is_damaged(rt: HostRuntime) -> Result<(), Fail> {
 fn a_bit_that_changed_is_found(rt: HostRuntime) -> Result<(), Fail> {
     folder(&rt, "changed_files")?;
     let mut bytes = closed(&rt, "changed_files/a.db")?;
-    let at = bytes.len() - 100;
+    let at = bytes.len().saturating_sub(100);
     if let Some(byte) = bytes.get_mut(at) {
         *byte ^= 16;
     }
