@@ -261,7 +261,7 @@ fn what_is_loaded_may_be_damaged(rt: HostRuntime) -> Result<(), Fail> {
 #[test]
 fn a_place_that_is_not_cleared_ends_the_run(rt: HostRuntime) -> Result<(), Fail> {
     let alloc = rt.alloc();
-    for _place in 0..8_usize {
+    for place in 0..8_usize {
         let answer = printed(alloc, RESTART, keepers(alloc, place, &[0])?)?;
         let text = format!(in alloc; "store failed at {place}\n")?;
         check(&rt, &answer, Status::ClearFailed, text.as_bytes(), place);
