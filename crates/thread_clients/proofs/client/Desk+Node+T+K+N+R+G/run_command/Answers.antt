@@ -1,3 +1,4 @@
+use Rattle.thread_cluster.proofs.Lists.{on_err_always}
 use Rattle.thread_cluster.proofs.Growing.{goes_on_trans}
 use Rattle.thread_clients.proofs.Settled.{made_reply, made_refusal, runs_here, made_on}
 use Rattle.thread_clients.specs.Stopping.IsBegun.{unmade, made}
@@ -33,7 +34,7 @@ pub returns-in_ok-line-in-Err-clause-goes_on : goal.returns-in_ok-line-in-Err-cl
 returns-in_ok-line-in-Err-clause-goes_on g c = c.in-Err.ensures.called.err.goes_on
 
 pub returns-in_err-line-in-Ok-clause-err : goal.returns-in_err-line-in-Ok-clause-err
-returns-in_err-line-in-Ok-clause-err g c = made c.call-result.new.session c.in-Ok.receipt c.in-Ok.ensures.called.ok c.in_err-line-in-Ok.ensures.err
+returns-in_err-line-in-Ok-clause-err g c = on_err_always _ _ (made c.call-result.new.session c.in-Ok.receipt c.in-Ok.ensures.called.ok c.in_err-line-in-Ok.ensures.err)
 
 pub returns-in_err-line-in-Err-clause-err : goal.returns-in_err-line-in-Err-clause-err
-returns-in_err-line-in-Err-clause-err g c = unmade c.in-Err.ensures.called.err
+returns-in_err-line-in-Err-clause-err g c = on_err_always _ _ (unmade c.in-Err.ensures.called.err)

@@ -1,4 +1,5 @@
 use Rattle.std.proofs.Common.{◌≡◌, ◌+◌, ◌-◌, ◌++◌, ◌∷◌, [], suc, replicate, refl, arith}
+use Rattle.thread_cluster.proofs.Lists.{on_err_always}
 use Rattle.thread_cluster.proofs.Growing.{goes_on_self, goes_on_trans}
 use Rattle.thread_clients.proofs.Walking.{further_none, further_again, further_all}
 use Rattle.thread_clients.proofs.Stopped.{begun_none, stops_after}
@@ -23,8 +24,9 @@ returns-in_err-line-clause-err g c =
     let times = c.args.repeated.now.times in
     let less = c.loop-time-test.true in
     let views = c.args.self.now.cluster.now.views in
-    stops_after _ g.N.Section.ids views c.args.client n (suc (times - suc n)) times c.args.repeated.now.command c.args.session.now c.loop-time.session c.run_command.new.session c.args.lines.now c.loop-time.lines
-    (omega arith) c.loop-time.invariant.further (λ later. c.in_err-line.ensures.err)
+    on_err_always _ _
+    (stops_after _ g.N.Section.ids views c.args.client n (suc (times - suc n)) times c.args.repeated.now.command c.args.session.now c.loop-time.session c.run_command.new.session c.args.lines.now c.loop-time.lines
+    (omega arith) c.loop-time.invariant.further (λ later. c.in_err-line.ensures.err))
 
 pub returns-in_err-push-clause-err : goal.returns-in_err-push-clause-err
 returns-in_err-push-clause-err g c =
@@ -34,10 +36,11 @@ returns-in_err-push-clause-err g c =
     let command = c.args.repeated.now.command in
     let views = c.args.self.now.cluster.now.views in
     let lines = c.loop-time.lines ++ c.in_ok-line.line ∷ [] in
-    stops_after _ g.N.Section.ids views c.args.client (n + 1) (times - suc n) times command c.args.session.now c.run_command.new.session c.run_command.new.session c.args.lines.now lines
+    on_err_always _ _
+    (stops_after _ g.N.Section.ids views c.args.client (n + 1) (times - suc n) times command c.args.session.now c.run_command.new.session c.run_command.new.session c.args.lines.now lines
     (omega arith)
     (further_again _ g.N.Section.ids views c.args.client n command c.args.session.now c.loop-time.session c.run_command.new.session c.args.lines.now c.loop-time.lines lines c.in_ok-line.line c.loop-time.invariant.further c.in_ok-line.ensures.ok refl)
-    (λ later. begun_none _ g.N.Section.ids views (replicate (times - suc n) command ++ later) c.run_command.new.session)
+    (λ later. begun_none _ g.N.Section.ids views (replicate (times - suc n) command ++ later) c.run_command.new.session))
 
 pub loop-time-preserved : goal.loop-time-preserved
 loop-time-preserved g c = record {

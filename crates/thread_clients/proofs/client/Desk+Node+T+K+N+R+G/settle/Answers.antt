@@ -1,4 +1,5 @@
 use Rattle.std.proofs.Common.{◌∙◌, sym}
+use Rattle.thread_cluster.proofs.Lists.{on_err_always}
 use Rattle.thread_cluster.proofs.Growing.{goes_on_self}
 use Rattle.thread_clients.proofs.Turned.{takes_on}
 use Rattle.thread_clients.proofs.Settled.{settled_end, settled_turn, settled_quiet}
@@ -21,12 +22,12 @@ returns-then-is_quiet-clause-goes_on g c = goes_on_self c.args.session.now
 pub returns-in_err-turn-clause-goes_on : goal.returns-in_err-turn-clause-goes_on
 returns-in_err-turn-clause-goes_on g c = takes_on g.N.Section.ids c.args.session.now c.turn.new.session c.in_err-turn.ensures.takes
 
-pub returns-in_err-end-in-Pending-clause-err : goal.returns-in_err-end-in-Pending-clause-err
-returns-in_err-end-in-Pending-clause-err g c =
-    left_pending _ g.N.Section.ids c.args.command.now.at c.args.output.now.reply c.in-Pending.op c.args.session.now c.end.new.session c.in-Pending.is c.in_err-end-in-Pending.ensures.err
+pub returns-in_err-end-clause-err : goal.returns-in_err-end-clause-err
+returns-in_err-end-clause-err g c =
+    on_err_always _ _ (left_pending _ g.N.Section.ids c.args.command.now.at c.args.output.now.reply c.in-Pending.op c.args.session.now c.end.new.session c.in-Pending.is c.in_err-end.ensures.err)
 
 pub returns-in_err-turn-clause-err : goal.returns-in_err-turn-clause-err
-returns-in_err-turn-clause-err g c = left_taking _ g.N.Section.ids c.args.command.now.at c.args.output.now.reply c.args.session.now c.turn.new.session c.in_err-turn.ensures.takes
+returns-in_err-turn-clause-err g c = on_err_always _ _ (left_taking _ g.N.Section.ids c.args.command.now.at c.args.output.now.reply c.args.session.now c.turn.new.session c.in_err-turn.ensures.takes)
 
 pub returns-clause-ok : goal.returns-clause-ok
 returns-clause-ok g c =

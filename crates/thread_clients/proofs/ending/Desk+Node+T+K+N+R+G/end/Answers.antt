@@ -1,4 +1,4 @@
-use Rattle.thread_cluster.proofs.Lists.{if_ok, on_err}
+use Rattle.thread_cluster.proofs.Lists.{if_ok, on_err, on_err_always}
 use Rattle.thread_cluster.proofs.Growing.{goes_on_trans}
 use Rattle.thread_clients.proofs.Turned.{takes_on}
 use Rattle.thread_clients.proofs.Ended.{found_end, gave_up, waited_some, waited_none}
@@ -10,7 +10,7 @@ pub returns-in_err-result-clause-goes_on : goal.returns-in_err-result-clause-goe
 returns-in_err-result-clause-goes_on g c = takes_on g.N.Section.ids c.args.session.now c.wait_for.new.session c.in_err-result.ensures.takes
 
 pub returns-in_err-result-clause-err : goal.returns-in_err-result-clause-err
-returns-in_err-result-clause-err g c = taking c.in_err-result.ensures.takes
+returns-in_err-result-clause-err g c = on_err_always _ _ (taking c.in_err-result.ensures.takes)
 
 pub returns-in-None-clause-err : goal.returns-in-None-clause-err
 returns-in-None-clause-err g c =
