@@ -17,6 +17,7 @@ use Rattle.script_reading.specs.declared.clients.Repeated.{Repeated}
 use Rattle.thread_clients.specs.Commands.{commands_of}
 use Rattle.thread_clients.specs.Sessions.{Session, Meaning}
 use Rattle.thread_clients.specs.Paths.{IsPath}
+use Rattle.thread_clients.specs.Stopping.{WasStopped, AreStopped}
 use Rattle.thread_clients.specs.Playing.{IsBack, AreBack, HasPlayed, HavePlayed, AreAllPlayed, job_of, played_of, session_of}
 
 module _ {A B : Type 0} (f : A → B) where
@@ -84,9 +85,13 @@ module _ {T K Kind Delta : Type 0} {data_of : Data T Kind Op Delta} {keeping : K
 module _ {T K Kind Delta : Type 0} {data_of : Data T Kind Op Delta} {keeping : Keeping K} (meaning : Meaning data_of keeping) (ids : ℕ → Option ℕ) (views : List View) (table : TableId) (clients : List (List Repeated)) where
   -- what the client's command did, where it made all, or not
   pub one_played : (client : ℕ) (commands : List Repeated) (old new : Job T K Kind Delta data_of keeping) → slice_get clients client ≡ Some commands → new.session.seen.table ≡ table → GoesOn old.session new.session
-      → (new.complete ≡ true → IsPath meaning ids views client old.session (commands_of commands) new.lines new.session) → HasPlayed meaning ids views table clients client old new
-  one_played client commands old new is table_is goes_on path = record {
+      → WasStopped meaning ids views client (commands_of commands) old.session new.session → (new.complete ≡ true → IsPath meaning ids views client old.session (commands_of commands) new.lines new.session)
+      → HasPlayed meaning ids views table clients client old new
+  one_played client commands old new is table_is goes_on part path = record {
     back = record { table_is = table_is; goes_on = goes_on };
+    part = λ others there.
+        let same : commands ≡ others = cc in
+        subst (λ (cs : List Repeated). WasStopped meaning ids views client (commands_of cs) old.session new.session) same part;
     path = λ complete others there.
         let same : commands ≡ others = cc in
         subst (λ (cs : List Repeated). IsPath meaning ids views client old.session (commands_of cs) new.lines new.session) same (path complete);
@@ -128,3 +133,19 @@ module _ {T K Kind Delta : Type 0} {data_of : Data T Kind Op Delta} {keeping : K
   run_back sessions back jobs after later are have put told =
       let from_start = subst (λ (js : List (Job T K Kind Delta data_of keeping)). HavePlayed meaning ids views table clients js after) are have in
       subst (AreBack table sessions) (sym (told ∙ ap (λ (js : List (Job T K Kind Delta data_of keeping)). map session_of js) put)) (all_back sessions after from_start)
+
+  -- what each did, whether it made all or not
+  all_stopped : (sessions : List (Session data_of keeping)) (jobs : List (Job T K Kind Delta data_of keeping)) → HavePlayed meaning ids views table clients (map job_of sessions) jobs → AreStopped meaning ids views clients sessions (map session_of jobs)
+  all_stopped sessions jobs have = record { each = λ k commands session other given begun ended. one k commands session other given begun (from_mapped session_of jobs k other ended) }
+    where
+      one : (k : ℕ) (commands : List Repeated) (session other : Session data_of keeping) → slice_get clients k ≡ Some commands → slice_get sessions k ≡ Some session
+          → ((job : Job T K Kind Delta data_of keeping) × (slice_get jobs k ≡ Some job) × (session_of job ≡ other)) → WasStopped meaning ids views k (commands_of commands) session other
+      one k commands session other given begun (job, is, same) =
+          subst (λ (s : Session data_of keeping). WasStopped meaning ids views k (commands_of commands) session s) same
+          ((have.each k (job_of session) job (get_mapped job_of sessions k session begun) is).part commands given)
+
+  pub run_stopped : (sessions back : List (Session data_of keeping)) (jobs after later : List (Job T K Kind Delta data_of keeping)) → jobs ≡ map job_of sessions → HavePlayed meaning ids views table clients jobs after → later ≡ after → back ≡ map session_of later
+      → AreStopped meaning ids views clients sessions back
+  run_stopped sessions back jobs after later are have put told =
+      let from_start = subst (λ (js : List (Job T K Kind Delta data_of keeping)). HavePlayed meaning ids views table clients js after) are have in
+      subst (AreStopped meaning ids views clients sessions) (sym (told ∙ ap (λ (js : List (Job T K Kind Delta data_of keeping)). map session_of js) put)) (all_stopped sessions after from_start)

@@ -4,4 +4,5 @@ pub mod Waiting
 pub mod Ended
 pub mod Settled
 pub mod Walking
+pub mod Stopped
 pub mod Beside

@@ -5,6 +5,10 @@ use Rattle.script_reading.specs.declared.ask.Ask.TheVariants.{Flush, Gossip, Tic
 use Rattle.script_reading.specs.declared.clients.Command.{Command}
 use Rattle.script_reading.specs.declared.clients.Repeated.{Repeated}
 
+-- a command as often as it stands
+abbrev pub all_of : Repeated → List Command
+all_of c = replicate c.times c.command
+
 -- each command as often as it stands
 abbrev pub commands_of : List Repeated → List Command
 commands_of commands = flat_map (λ (c : Repeated). replicate c.times c.command) commands

@@ -5,4 +5,5 @@ pub mod Turns
 pub mod Endings
 pub mod Answers
 pub mod Paths
+pub mod Stopping
 pub mod Playing

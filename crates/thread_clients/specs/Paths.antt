@@ -1,7 +1,5 @@
 -- What clients did, command by command.
 --     IsPath, GoesFurther        a client's commands, one after another
---     HasPlayed, ArePlayed        what a client did, and all of them
---     IsBack, AreBack        sessions that come back
 use Rattle.std.specs.Prelude.{ℕ, List, [], ◌∷◌, ◌++◌, Option}
 use Rattle.model_kinds.specs.declared.operation.Op.{Op}
 use Rattle.data_lattice.specs.declared.replica.Replica.{Ghosts as Data}

@@ -15,6 +15,7 @@ use Rattle.script_reading.specs.declared.clients.Repeated.{Repeated}
 use Rattle.thread_clients.specs.Commands.{commands_of}
 use Rattle.thread_clients.specs.Sessions.{Session, Meaning}
 use Rattle.thread_clients.specs.Paths.{IsPath}
+use Rattle.thread_clients.specs.Stopping.{WasStopped}
 
 module _ {T K Kind Delta : Type 0} {data_of : Data T Kind Op Delta} {keeping : Keeping K} where
   -- a session with no line yet
@@ -39,9 +40,10 @@ module _ {T K Kind Delta : Type 0} {data_of : Data T Kind Op Delta} {keeping : K
       pub each : (k : ℕ) (one other : Session data_of keeping) → slice_get old k ≡ Some one → slice_get new k ≡ Some other → IsBack one other
 
 module _ {T K Kind Delta : Type 0} {data_of : Data T Kind Op Delta} {keeping : Keeping K} (meaning : Meaning data_of keeping) (ids : ℕ → Option ℕ) (views : List View) (table : TableId) (clients : List (List Repeated)) where
-  -- the client of a number went on in its session; and if it made all of its commands, its lines are those of them
+  -- the client of a number made some of its commands, in its session; and if it made all, its lines are those of them
   pub record HasPlayed (client : ℕ) (old new : Job T K Kind Delta data_of keeping) : Type 0 where
     pub back : IsBack table old.session new.session
+    pub part : (commands : List Repeated) → slice_get clients client ≡ Some commands → WasStopped meaning ids views client (commands_of commands) old.session new.session
     pub path : new.complete ≡ true → (commands : List Repeated) → slice_get clients client ≡ Some commands → IsPath meaning ids views client old.session (commands_of commands) new.lines new.session
 
   -- so did each

@@ -1,10 +1,11 @@
-ghost use Rattle.std.specs.Prelude.{◌≡◌, [], true, false, replicate, IfOk, OnOk};
+ghost use Rattle.std.specs.Prelude.{◌≡◌, [], true, false, IfOk, OnOk, OnErr};
 ghost use Rattle.thread_cluster.specs.Knowing.{GoesOn, IsNowhere};
 ghost use Rattle.script_reading.specs.declared.clients.Command.{Command};
 ghost use Rattle.thread_clients.specs.Sessions.{Session};
-ghost use Rattle.thread_clients.specs.Commands.{commands_of, has_turn};
+ghost use Rattle.thread_clients.specs.Commands.{all_of, commands_of, has_turn};
 ghost use Rattle.thread_clients.specs.Answers.{Settles, HasMade, IsLineOf, IsRefusalLine};
 ghost use Rattle.thread_clients.specs.Paths.{IsPath, GoesFurther};
+ghost use Rattle.thread_clients.specs.Stopping.{IsLeftOff, IsBegun, StopsWithin, WasStopped};
 
 use crate::desk::Desk;
 use crate::gate::Gate;
@@ -91,6 +92,7 @@ impl<'a, T: SpelledData<Op = Op>, K: Keeper + Drop, N: Section, R: Wait, G: Gate
         requires runs { ¬ IsNowhere N.ids command.now.at }
         ensures table { session.new.seen.table ≡ N.table }
         ensures ok { IfOk result (Settles ⟦<Node<T, K> as Machine>⟧ N.ids command.now output.now.reply output.now.posts session.old session.new) }
+        ensures err { OnErr result (IsLeftOff ⟦<Node<T, K> as Machine>⟧ N.ids command.now.at output.now.reply session.old session.new) }
         ensures goes_on { GoesOn session.old session.new }
     {
         if let Reply::Pending(op) = &output.reply {
@@ -119,6 +121,7 @@ impl<'a, T: SpelledData<Op = Op>, K: Keeper + Drop, N: Section, R: Wait, G: Gate
         requires runs { ¬ IsNowhere N.ids command.now.at }
         ensures table { session.new.seen.table ≡ N.table }
         ensures ok { IfOk result (IsLineOf ⟦<Node<T, K> as Machine>⟧ N.ids command.now output session.old session.new client) }
+        ensures err { OnErr result (IsLeftOff ⟦<Node<T, K> as Machine>⟧ N.ids command.now.at output.reply session.old session.new) }
         ensures goes_on { GoesOn session.old session.new }
     {
         let sent = sketches(self.alloc, output.posts.as_slice())?;
@@ -150,6 +153,7 @@ impl<'a, T: SpelledData<Op = Op>, K: Keeper + Drop, N: Section, R: Wait, G: Gate
         requires { session.old.seen.table ≡ N.table }
         ensures table { session.new.seen.table ≡ N.table }
         ensures ok { IfOk result (λ line. HasMade ⟦<Node<T, K> as Machine>⟧ N.ids self.now.cluster.now.views command.now session.old session.new line client) }
+        ensures err { OnErr result (IsBegun ⟦<Node<T, K> as Machine>⟧ N.ids self.now.cluster.now.views command.now session.old session.new) }
         ensures goes_on { GoesOn session.old session.new }
     {
         self.gate.before(client, number);
@@ -184,7 +188,8 @@ impl<'a, T: SpelledData<Op = Op>, K: Keeper + Drop, N: Section, R: Wait, G: Gate
     ) -> Result<(), Memory>
         requires { session.old.seen.table ≡ N.table }
         ensures table { session.new.seen.table ≡ N.table }
-        ensures ok { OnOk result (GoesFurther ⟦<Node<T, K> as Machine>⟧ N.ids self.now.cluster.now.views client (replicate repeated.now.times repeated.now.command) session.old session.new lines.old lines.new) }
+        ensures ok { OnOk result (GoesFurther ⟦<Node<T, K> as Machine>⟧ N.ids self.now.cluster.now.views client (all_of repeated.now) session.old session.new lines.old lines.new) }
+        ensures err { OnErr result (StopsWithin ⟦<Node<T, K> as Machine>⟧ N.ids self.now.cluster.now.views client (all_of repeated.now) session.old session.new lines.old) }
         ensures goes_on { GoesOn session.old session.new }
     {
         for _time in 0..repeated.times {
@@ -209,6 +214,7 @@ impl<'a, T: SpelledData<Op = Op>, K: Keeper + Drop, N: Section, R: Wait, G: Gate
         requires { session.old.seen.table ≡ N.table }
         ensures table { session.new.seen.table ≡ N.table }
         ensures ok { IfOk result (λ lines. IsPath ⟦<Node<T, K> as Machine>⟧ N.ids self.now.cluster.now.views client session.old (commands_of commands.now) lines session.new) }
+        ensures err { OnErr result (WasStopped ⟦<Node<T, K> as Machine>⟧ N.ids self.now.cluster.now.views client (commands_of commands.now) session.old session.new) }
         ensures goes_on { GoesOn session.old session.new }
     {
         let mut lines = Items::new(self.alloc);

@@ -1,6 +1,7 @@
 ghost use Rattle.std.specs.Prelude.{◌≡◌, ℕ, ◌<◌, ◌≤◌, true, length, map, [], vec_len, vec_capacity, IfOk, IfErr};
 ghost use Rattle.std.specs.List.{All};
 ghost use Rattle.thread_clients.specs.Playing.{HasPlayed, HavePlayed, AreAllPlayed, AreBack, job_of, played_of, session_of};
+ghost use Rattle.thread_clients.specs.Stopping.{AreStopped};
 
 use crate::client::Lines;
 use crate::desk::Desk;
@@ -209,6 +210,7 @@ where
     requires tables { All (λ s. s.seen.table ≡ N.table) sessions.items }
     ensures ok { IfOk result (λ played. AreAllPlayed ⟦<Node<T, K> as Machine>⟧ N.ids cluster.now.views N.table clients.now sessions.items played.items) }
     ensures err { IfErr result (λ refused. AreBack N.table sessions.items refused.0.items) }
+    ensures stopped { IfErr result (λ refused. AreStopped ⟦<Node<T, K> as Machine>⟧ N.ids cluster.now.views clients.now sessions.items refused.0.items) }
 {
     let count = sessions.len();
     let mut jobs = Vec::new(alloc);

@@ -1,9 +1,10 @@
-ghost use Rattle.std.specs.Prelude.{◌≡◌, ◌↔◌, true, IfOk};
+ghost use Rattle.std.specs.Prelude.{◌≡◌, ◌↔◌, true, IfOk, OnErr};
 ghost use Rattle.member_node.specs.declared.reply.Reply.TheVariants as Reply;
 ghost use Rattle.thread_cell.specs.Stamps.{IsTimed};
 ghost use Rattle.thread_cluster.specs.Knowing.{GoesOn, IsNowhere};
 ghost use Rattle.thread_clients.specs.Turns.{MayGiveUp};
 ghost use Rattle.thread_clients.specs.Endings.{closed_by, left_by, IsGivenUp, Ends};
+ghost use Rattle.thread_clients.specs.Stopping.{IsCutOff, IsLeftOpen};
 
 use crate::desk::Desk;
 use crate::gate::Gate;
@@ -65,6 +66,7 @@ impl<'a, T: SpelledData<Op = Op>, K: Keeper + Drop, N: Section, R: Wait, G: Gate
         requires runs { ¬ IsNowhere N.ids at }
         ensures table { session.new.seen.table ≡ N.table }
         ensures ok { IfOk result (IsGivenUp ⟦<Node<T, K> as Machine>⟧ N.ids at op session.old session.new) }
+        ensures err { OnErr result (IsCutOff ⟦<Node<T, K> as Machine>⟧ N.ids at op session.old session.new) }
         ensures goes_on { GoesOn session.old session.new }
     {
         match self.cluster.ask(self.rt, session, at, Input::Timeout(op)) {
@@ -99,6 +101,7 @@ impl<'a, T: SpelledData<Op = Op>, K: Keeper + Drop, N: Section, R: Wait, G: Gate
         requires runs { ¬ IsNowhere N.ids at }
         ensures table { session.new.seen.table ≡ N.table }
         ensures ok { IfOk result (Ends ⟦<Node<T, K> as Machine>⟧ N.ids at op session.old session.new) }
+        ensures err { OnErr result (IsLeftOpen ⟦<Node<T, K> as Machine>⟧ N.ids at op session.old session.new) }
         ensures goes_on { GoesOn session.old session.new }
     {
         match self.wait_for(session, at, op)? {

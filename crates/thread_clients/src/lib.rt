@@ -8,7 +8,10 @@
 //!   what it sent is taken, or a history was full; a command that made no step had no running
 //!   member, no such view or no room (`run_clients`, clause `ok` (`AreAllPlayed`, `IsPath`,
 //!   `HasMade`, `Ends`)).
-//! - For want of memory all sessions come back, and know no less (`run_clients`, clause `err`).
+//! - For want of memory all sessions come back, and know no less. What each client did are its first
+//!   commands, as above, and of the next one a part: no call; or its entry, and then takes; or its
+//!   entry, takes and the timeout of what it opened, after all that allows it (`run_clients`,
+//!   clauses `err`, `stopped` (`AreStopped`, `WasStopped`)).
 #![tactic(auto)]
 
 mod calling;

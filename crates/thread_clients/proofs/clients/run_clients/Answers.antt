@@ -2,11 +2,15 @@ use Rattle.std.proofs.Common.{◌∙◌, ◌+◌, ap, sym, length, drop, arith, 
 use Rattle.std.proofs.lemmas.List.{take_at}
 use Rattle.std.specs.Prelude.{vec_capacity}
 use Rattle.thread_clients.specs.Playing.{job_of}
-use Rattle.thread_clients.proofs.Beside.{back_same, length_mapped, reserved, jobs_tables, run_done, run_back}
+use Rattle.thread_clients.proofs.Beside.{back_same, length_mapped, reserved, jobs_tables, run_done, run_back, run_stopped}
+use Rattle.thread_clients.proofs.Stopped.{all_stopped_here}
 use Rattle.thread_clients.proofs.clients.run_clients.Goals as goal
 
 pub returns-then-is_err-clause-err : goal.returns-then-is_err-clause-err
 returns-then-is_err-clause-err g c = back_same g.N.Name.table c.args.sessions.items c.requires.tables
+
+pub returns-then-is_err-clause-stopped : goal.returns-then-is_err-clause-stopped
+returns-then-is_err-clause-stopped g c = all_stopped_here _ g.N.Section.ids c.args.cluster.now.views c.args.clients.now c.args.sessions.items
 
 pub jobs_of-jobs-requires-clause-empty : goal.jobs_of-jobs-requires-clause-empty
 jobs_of-jobs-requires-clause-empty g c = c.reserve.ensures.items ∙ c.new-jobs.ensures.items
@@ -35,6 +39,13 @@ returns-then-are_complete-clause-ok g c =
 pub returns-else-are_complete-clause-err : goal.returns-else-are_complete-clause-err
 returns-else-are_complete-clause-err g c =
     run_back _ g.N.Section.ids c.args.cluster.now.views g.N.Name.table c.args.clients.now c.args.sessions.items c.sessions_of.result.items c.as_mut_slice.result.now c.play_all.new.jobs _
+    (c.as_mut_slice.ensures.value ∙ c.jobs_of-jobs.ensures) c.play_all.ensures
+    (take_at c.play_all.new.jobs (drop (length c.play_all.new.jobs) c.jobs_of-jobs.result.items) c.jobs_of-jobs.result.len (c.play_all.ensures.count ∙ (ap length c.as_mut_slice.ensures.value ∙ sym c.jobs_of-jobs.result.ok.0)))
+    c.sessions_of.ensures
+
+pub returns-else-are_complete-clause-stopped : goal.returns-else-are_complete-clause-stopped
+returns-else-are_complete-clause-stopped g c =
+    run_stopped _ g.N.Section.ids c.args.cluster.now.views g.N.Name.table c.args.clients.now c.args.sessions.items c.sessions_of.result.items c.as_mut_slice.result.now c.play_all.new.jobs _
     (c.as_mut_slice.ensures.value ∙ c.jobs_of-jobs.ensures) c.play_all.ensures
     (take_at c.play_all.new.jobs (drop (length c.play_all.new.jobs) c.jobs_of-jobs.result.items) c.jobs_of-jobs.result.len (c.play_all.ensures.count ∙ (ap length c.as_mut_slice.ensures.value ∙ sym c.jobs_of-jobs.result.ok.0)))
     c.sessions_of.ensures

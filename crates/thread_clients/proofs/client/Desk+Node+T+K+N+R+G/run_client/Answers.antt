@@ -1,6 +1,8 @@
 use Rattle.std.proofs.Common.{arith}
+use Rattle.thread_cluster.proofs.Lists.{on_err_always}
 use Rattle.thread_cluster.proofs.Growing.{goes_on_self, goes_on_trans}
 use Rattle.thread_clients.proofs.Walking.{path_none, path_next, path_whole}
+use Rattle.thread_clients.proofs.Stopped.{stopped_at}
 use Rattle.thread_clients.proofs.client.Desk+Node+T+K+N+R+G.run_client.Goals as goal
 
 pub loop-repeated-init : goal.loop-repeated-init
@@ -12,6 +14,12 @@ loop-repeated-init g c = record {
 
 pub returns-in_err-run_times-clause-goes_on : goal.returns-in_err-run_times-clause-goes_on
 returns-in_err-run_times-clause-goes_on g c = goes_on_trans c.args.session.now c.loop-repeated.session c.run_times.new.session c.loop-repeated.invariant.goes_on c.in_err-run_times.ensures.goes_on
+
+pub returns-in_err-run_times-clause-err : goal.returns-in_err-run_times-clause-err
+returns-in_err-run_times-clause-err g c =
+    on_err_always _ _
+    (stopped_at _ g.N.Section.ids c.args.self.now.cluster.now.views c.args.client c.args.commands.now c.as_slice-repeated-items.result.now c.loop-repeated.repeated-index c.repeated-item.result c.args.session.now c.loop-repeated.session c.run_times.new.session
+    c.loop-repeated.lines c.as_slice-repeated-items.ensures c.loop-repeated-test.true c.repeated-item.is c.loop-repeated.invariant.path c.in_err-run_times.ensures.err)
 
 pub loop-repeated-preserved : goal.loop-repeated-preserved
 loop-repeated-preserved g c = record {

@@ -1,5 +1,7 @@
+use Rattle.thread_cluster.proofs.Lists.{on_err_always}
 use Rattle.thread_cluster.proofs.Growing.{goes_on_trans}
 use Rattle.thread_clients.proofs.Settled.{made_reply, made_refusal, runs_here, made_on}
+use Rattle.thread_clients.specs.Stopping.IsBegun.{unmade, made}
 use Rattle.thread_clients.proofs.client.Desk+Node+T+K+N+R+G.run_command.Goals as goal
 
 pub answered-requires-clause-runs : goal.answered-requires-clause-runs
@@ -30,3 +32,9 @@ returns-in_ok-line-in-Err-clause-ok g c =
 
 pub returns-in_ok-line-in-Err-clause-goes_on : goal.returns-in_ok-line-in-Err-clause-goes_on
 returns-in_ok-line-in-Err-clause-goes_on g c = c.in-Err.ensures.called.err.goes_on
+
+pub returns-in_err-line-in-Ok-clause-err : goal.returns-in_err-line-in-Ok-clause-err
+returns-in_err-line-in-Ok-clause-err g c = on_err_always _ _ (made c.call-result.new.session c.in-Ok.receipt c.in-Ok.ensures.called.ok c.in_err-line-in-Ok.ensures.err)
+
+pub returns-in_err-line-in-Err-clause-err : goal.returns-in_err-line-in-Err-clause-err
+returns-in_err-line-in-Err-clause-err g c = on_err_always _ _ (unmade c.in-Err.ensures.called.err)

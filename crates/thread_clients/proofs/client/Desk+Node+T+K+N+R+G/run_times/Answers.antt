@@ -1,6 +1,8 @@
-use Rattle.std.proofs.Common.{◌≡◌, arith}
+use Rattle.std.proofs.Common.{◌≡◌, ◌+◌, ◌-◌, ◌++◌, ◌∷◌, [], suc, replicate, refl, arith}
+use Rattle.thread_cluster.proofs.Lists.{on_err_always}
 use Rattle.thread_cluster.proofs.Growing.{goes_on_self, goes_on_trans}
 use Rattle.thread_clients.proofs.Walking.{further_none, further_again, further_all}
+use Rattle.thread_clients.proofs.Stopped.{begun_none, stops_after}
 use Rattle.thread_clients.proofs.client.Desk+Node+T+K+N+R+G.run_times.Goals as goal
 
 pub loop-time-init : goal.loop-time-init
@@ -15,6 +17,30 @@ returns-in_err-line-clause-goes_on g c = goes_on_trans c.args.session.now c.loop
 
 pub returns-in_err-push-clause-goes_on : goal.returns-in_err-push-clause-goes_on
 returns-in_err-push-clause-goes_on g c = goes_on_trans c.args.session.now c.loop-time.session c.run_command.new.session c.loop-time.invariant.goes_on c.in_ok-line.ensures.goes_on
+
+pub returns-in_err-line-clause-err : goal.returns-in_err-line-clause-err
+returns-in_err-line-clause-err g c =
+    let n = c.loop-time._time in
+    let times = c.args.repeated.now.times in
+    let less = c.loop-time-test.true in
+    let views = c.args.self.now.cluster.now.views in
+    on_err_always _ _
+    (stops_after _ g.N.Section.ids views c.args.client n (suc (times - suc n)) times c.args.repeated.now.command c.args.session.now c.loop-time.session c.run_command.new.session c.args.lines.now c.loop-time.lines
+    (omega arith) c.loop-time.invariant.further (λ later. c.in_err-line.ensures.err))
+
+pub returns-in_err-push-clause-err : goal.returns-in_err-push-clause-err
+returns-in_err-push-clause-err g c =
+    let n = c.loop-time._time in
+    let times = c.args.repeated.now.times in
+    let less = c.loop-time-test.true in
+    let command = c.args.repeated.now.command in
+    let views = c.args.self.now.cluster.now.views in
+    let lines = c.loop-time.lines ++ c.in_ok-line.line ∷ [] in
+    on_err_always _ _
+    (stops_after _ g.N.Section.ids views c.args.client (n + 1) (times - suc n) times command c.args.session.now c.run_command.new.session c.run_command.new.session c.args.lines.now lines
+    (omega arith)
+    (further_again _ g.N.Section.ids views c.args.client n command c.args.session.now c.loop-time.session c.run_command.new.session c.args.lines.now c.loop-time.lines lines c.in_ok-line.line c.loop-time.invariant.further c.in_ok-line.ensures.ok refl)
+    (λ later. begun_none _ g.N.Section.ids views (replicate (times - suc n) command ++ later) c.run_command.new.session))
 
 pub loop-time-preserved : goal.loop-time-preserved
 loop-time-preserved g c = record {
