@@ -20,11 +20,11 @@ DeletesAll = DeletesAllIn over_memory
 abbrev pub FindsAll : List Stored → Held MemStore → Held MemStore → Result (Unit {0}) Refusal → Type 0
 FindsAll = FindsAllIn over_memory
 
--- an empty database in memory got its tables
+-- an empty database in memory got its table
 abbrev pub IsOpened : Held MemStore → Type 0
 IsOpened conn = (first : Held MemStore) × IsEmpty (state over_memory first) × IsMade over_memory first conn
 
--- there was no memory for a database, or it refused its tables or a statement
+-- there was no memory for a database, or it refused its table or a statement
 abbrev pub IsUnopened : Refusal → Type 0
 IsUnopened why = (why ≡ refusal.Memory) ⊎ ((first last : Held MemStore) × IsEmpty (state over_memory first) × IsUnmade over_memory first last why)
 

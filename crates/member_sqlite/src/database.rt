@@ -7,17 +7,16 @@ ghost use Rattle.member_sqlite.specs.InStore.{PutsAllIn, FindsAllIn, DeletesAllI
 ghost use Rattle.member_sqlite.specs.Asked.{PutsAll, FindsAll, DeletesAll, IsOpened, IsUnopened};
 
 use crate::causes::{Refusal, refusal_of};
-use crate::layout::lay_out;
 use crate::rows::are_rows;
-#[cfg(test)]
-use crate::statements::run;
-use crate::statements::{prepare, put, run_to};
+use crate::statements::{prepare, put, run, run_to};
 use crate::together::put_together;
 use crate::writes::Writes;
 use member_keeper::Stored;
 use sqlite::{Alter, Connection, MemStore};
 use std::alloc::Global;
 use std::marker::Model;
+
+const TABLE: &str = "CREATE TABLE entries (key TEXT PRIMARY KEY, bytes BLOB NOT NULL)";
 
 const CHANGE: &str = "UPDATE entries SET bytes = ?2 WHERE key = ?1";
 
@@ -47,7 +46,7 @@ impl Model for Database {
 }
 
 impl Database {
-    /// Opens a database, and makes its tables.
+    /// Opens a database, and makes the table. Nobody opens it again, so that no version is kept.
     pub(crate) fn open(alloc: Global) -> Result<Database, Refusal>
         ensures opened { IfOk result IsOpened }
         ensures unopened { IfErr result IsUnopened }
@@ -95,13 +94,13 @@ impl Database {
     }
 }
 
-/// Makes the tables, and prepares the two statements that put an entry.
+/// Makes the table, and prepares the two statements that put an entry.
 fn make(conn: &mut Connection<MemStore>) -> Result<Writes, Refusal>
     ensures { MatchResult result (λ _. IsMade over_memory conn.old conn.new) (IsUnmade over_memory conn.old conn.new) }
 {
-    match lay_out(conn) {
-        Ok(()) => {}
-        Err(error) => return Err(refusal_of(error)),
+    match run(conn, TABLE) {
+        Ok(_) => {}
+        Err(why) => return Err(why),
     }
     let change = match prepare(conn, CHANGE) {
         Ok(change) => change,

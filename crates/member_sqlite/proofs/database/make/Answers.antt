@@ -3,23 +3,25 @@ use Rattle.sqlite.proofs.Callers.{memory_is_clean}
 use Rattle.member_sqlite.proofs.database.make.Goals as goal
 
 pub returns-in-Err : goal.returns-in-Err
-returns-in-Err c = inl (c.in-Err.error, c.refusal_of.ensures, c.in-Err.ensures.laid (memory_is_clean c.lay_out.new.conn))
+returns-in-Err c = inl (c.in-Err.ensures (memory_is_clean c.run.new.conn))
 
 pub returns-in-Err-prepare : goal.returns-in-Err-prepare
 returns-in-Err-prepare c =
-    inr (c.lay_out.new.conn, c.in-Ok.ensures.laid (memory_is_clean c.lay_out.new.conn), inl (c.in-Err-prepare.ensures.err (memory_is_clean c.prepare.new.conn)))
+    inr (c.run.new.conn, c.in-Ok.field-0, c.in-Ok.ensures (memory_is_clean c.run.new.conn), inl (c.in-Err-prepare.ensures.err (memory_is_clean c.prepare.new.conn)))
 
 pub returns-in-Err-prepare-2 : goal.returns-in-Err-prepare-2
 returns-in-Err-prepare-2 c = inr (
-  c.lay_out.new.conn,
-  c.in-Ok.ensures.laid (memory_is_clean c.lay_out.new.conn),
+  c.run.new.conn,
+  c.in-Ok.field-0,
+  c.in-Ok.ensures (memory_is_clean c.run.new.conn),
   inr (c.prepare.new.conn, c.in-Ok-prepare.ensures.ok (memory_is_clean c.prepare.new.conn), c.in-Err-prepare-2.ensures.err (memory_is_clean c.prepare-2.new.conn)),
 )
 
 pub returns-in-Ok-prepare-2 : goal.returns-in-Ok-prepare-2
 returns-in-Ok-prepare-2 c = record {
-  laid = c.lay_out.new.conn;
-  made = c.in-Ok.ensures.laid (memory_is_clean c.lay_out.new.conn);
+  table = c.run.new.conn;
+  count = c.in-Ok.field-0;
+  made = c.in-Ok.ensures (memory_is_clean c.run.new.conn);
   mid = c.prepare.new.conn;
   change = c.in-Ok-prepare.ensures.ok (memory_is_clean c.prepare.new.conn);
   add = c.in-Ok-prepare-2.ensures.ok (memory_is_clean c.prepare-2.new.conn);
