@@ -22,8 +22,9 @@ use Rattle.world_members.specs.declared.client_line.ClientLine.{ClientLine}
 use Rattle.world_members.specs.declared.client_line.Ended.{Ended}
 use Rattle.world_members.specs.declared.client_line.Ended.TheVariants as ended
 use Rattle.world_members.specs.declared.event.Event.{Event}
-use Rattle.report_lines.specs.Lines.{head_words, answer_text, sent_text, event_text, ending_text, client_tails_text, client_line_text}
-use Rattle.report_lines.proofs.Told.{spaced, words_spaced, finished_told, answer_told, head_told, head_spaced, sent_told, lines_told}
+use Rattle.report_lines.specs.Lines.{sent_text, event_text, ending_text, client_tails_text, client_line_text}
+use Rattle.report_replies.proofs.Words.{spaced, words_spaced, finished_told}
+use Rattle.report_lines.proofs.Told.{answer_told, head_told, head_spaced, sent_told, lines_told}
 
 ending_told : (e : Option Ended) → ending_text e ≡ flat_map spaced (ending_words shown_text (option_map ending_meant e))
 ending_told None = refl

@@ -1,6 +1,6 @@
 -- The steps of a script leave the keepers' answers as they are.
-use Rattle.std.proofs.Common.{◌≡◌, ℕ, ◌+◌, List, [], ◌∷◌, map, refl, Bool, true, false, Option, Some, None}
-use Rattle.std.specs.Prelude.{if◌then◌else◌, nat_lt, length, is_some, not, ◌==◌, slice_get, fold, filter}
+use Rattle.std.proofs.Common.{◌≡◌, ℕ, ◌+◌, List, [], ◌∷◌, Bool, true, false, Option, Some, None}
+use Rattle.std.specs.Prelude.{if◌then◌else◌, nat_lt, length, is_some, not, ◌==◌, fold, filter}
 use Rattle.std.specs.List.{range_with_len}
 use Rattle.model_history.specs.Table.{identity_limit}
 use Rattle.model_members.specs.View.{is_member, is_taken, place_of, leader, identities_of}

@@ -30,7 +30,7 @@ use Rattle.script_reading.specs.Meant.{step_of}
 use Rattle.world_members.specs.declared.event.Event.{Event}
 use Rattle.world_members.specs.declared.world.World.{World}
 use Rattle.world_members.specs.Places.{keeper_of}
-use Rattle.world_members.specs.Keeping.{Given, KeepsAt, IsKept}
+use Rattle.world_members.specs.Keeping.{Given, KeepsAt}
 use Rattle.world_members.specs.Steps.{Foretells, HaveAnswered, LoadsWhatItTook, Plays, Reaches}
 use Rattle.world_members.specs.Threads.{run_step_of, GivesBack}
 use Rattle.world_members.specs.Ways.{Means}

@@ -2,7 +2,6 @@
 use Rattle.std.proofs.Common.{◌≡◌, ℕ, ◌<◌, List, [], ◌∷◌, ◌++◌, length, map, flat_map, Option, None, Some, refl, sym, ap, ap₂, ◌∙◌, arith, append_assoc}
 use Rattle.std.specs.Prelude.{codes, decimal, option_map}
 use Rattle.std.specs.List.{AllZip}
-use Rattle.std.proofs.lemmas.List.{append-nil}
 use Rattle.std.proofs.lemmas.Grind.{flat_map-append}
 use Rattle.model_history.specs.Texts.{Text}
 use Rattle.model_members.specs.DataType.{Replication}
@@ -11,14 +10,12 @@ use Rattle.model_members.specs.Node as nodes
 use Rattle.model_members.specs.Script as script
 use Rattle.model_members.specs.Script.{Told}
 use Rattle.model_members.specs.Report as report
-use Rattle.model_members.specs.Report.{words, line_of, message_text, post_words, told_text, link_text, key_outcome_text}
+use Rattle.model_members.specs.Report.{words, line_of, message_text, post_words, told_text, link_text}
 use Rattle.model_kinds.specs.ShownText.{shown_text}
 use Rattle.model_kinds.specs.declared.operation.Op.{Op}
 use Rattle.model_kinds.specs.declared.shown.Shown.{Shown}
-use Rattle.member_node.specs.declared.operation.Finished.{Finished}
-use Rattle.member_node.specs.declared.outcome.KeyOutcome.{KeyOutcome}
-use Rattle.member_node.specs.Operations.{result_meant, finished_meant}
-use Rattle.member_node.specs.Replies.{meant_at_key}
+use Rattle.report_replies.specs.Replies.{finished_text}
+use Rattle.report_replies.proofs.Words.{spaced, words_spaced, some_spaced, finished_told}
 use Rattle.script_reading.specs.declared.ask.Ask.{Ask}
 use Rattle.script_reading.specs.declared.ask.Ask.TheVariants as asked
 use Rattle.script_reading.specs.Meant.{ask_of}
@@ -28,40 +25,12 @@ use Rattle.world_members.specs.declared.event.Answer.TheVariants as answer
 use Rattle.world_members.specs.declared.event.Event.{Event}
 use Rattle.world_members.specs.declared.event.Head.{Head}
 use Rattle.world_members.specs.declared.event.Head.TheVariants as head
-use Rattle.report_lines.specs.Lines.{sketch_text, delivered_words, ask_words, head_words, outcome_text, answer_text, post_text, sent_text, finished_text, tails_text, event_text}
+use Rattle.report_lines.specs.Lines.{sketch_text, delivered_words, ask_words, head_words, answer_text, post_text, sent_text, tails_text, event_text}
 
 -- WORDS
 
--- a word after a space
-abbrev pub spaced : Text → Text
-spaced word = 32 ∷ word
-
-pub words_spaced : (w : Text) (ws : List Text) → words (w ∷ ws) ≡ w ++ flat_map spaced ws
-words_spaced w [] = sym (append-nil w)
-words_spaced w (v ∷ ws) = ap (λ t. w ++ (32 ∷ t)) (words_spaced v ws)
-
-some_spaced : (ws : List Text) → 0 < length ws → 32 ∷ words ws ≡ flat_map spaced ws
-some_spaced [] some = absurd (omega arith)
-some_spaced (w ∷ ws) some = ap (λ t. 32 ∷ t) (words_spaced w ws)
-
-outcomes_spaced : (outcomes : List KeyOutcome) → flat_map outcome_text outcomes ≡ flat_map spaced (map key_outcome_text (map meant_at_key outcomes))
-outcomes_spaced [] = refl
-outcomes_spaced (told ∷ outcomes) = ap (λ t. outcome_text told ++ t) (outcomes_spaced outcomes)
-
--- how a tick ended, and its outcomes
-pub ticked_words : (end : Text) (outcomes : List KeyOutcome) → end ++ flat_map outcome_text outcomes ≡ words (end ∷ map key_outcome_text (map meant_at_key outcomes))
-ticked_words end outcomes = ap (λ t. end ++ t) (outcomes_spaced outcomes) ∙ sym (words_spaced end (map key_outcome_text (map meant_at_key outcomes)))
-
 regroup : (a b c d : Text) (x y : ℕ) → a ++ (x ∷ []) ++ b ++ (y ∷ []) ++ c ++ d ≡ a ++ ((x ∷ b) ++ ((y ∷ c) ++ d))
 regroup a b c d x y = simp append_assoc
-
--- an operation that ended is told by three words
-pub finished_told : (finished : Option Finished) → finished_text finished ≡ flat_map spaced (report.ended_words shown_text (option_map finished_meant finished))
-finished_told None = refl
-finished_told (Some finished) =
-    let op = decimal finished.op in
-    let result = report.result_text shown_text (result_meant finished.result) in
-    ap (λ t. codes " finished " ++ t) (append_assoc op (codes " ") result ∙ ap (λ t. op ++ (32 ∷ t)) (sym (append-nil result)))
 
 pub answer_told : (a : Answer) (told : script.Answer Shown) → IsAnswer a told → answer_text a ≡ report.answer_text shown_text told
 answer_told (answer.Reply reply) told is = sym (ap (report.answer_text shown_text) is)

@@ -1,16 +1,13 @@
 -- The texts of events, as the lines of a report tell them.
 use Rattle.std.specs.Prelude.{ℕ, List, [], ◌∷◌, ◌++◌, codes, decimal, flat_map, Option, None, Some}
 use Rattle.model_history.specs.Texts.{Text}
-use Rattle.model_members.specs.Report.{words, slashed, link_text, line_of, reply_text, result_text, key_outcome_text}
+use Rattle.model_members.specs.Report.{words, slashed, link_text, line_of, reply_text}
 use Rattle.model_kinds.specs.ShownText.{shown_text}
 use Rattle.member_messages.specs.declared.sketch.MessageKind.{MessageKind}
 use Rattle.member_messages.specs.declared.sketch.MessageKind.TheVariants.{Deltas, Nack, Status, Gossip, Write, WriteAck, WriteNack, Read, ReadAnswer}
 use Rattle.member_messages.specs.declared.sketch.Sketch.{Sketch}
-use Rattle.member_node.specs.declared.operation.Finished.{Finished}
-use Rattle.member_node.specs.declared.outcome.KeyOutcome.{KeyOutcome}
 use Rattle.member_node.specs.Members.{meant}
-use Rattle.member_node.specs.Operations.{result_meant}
-use Rattle.member_node.specs.Replies.{meant_at_key}
+use Rattle.report_replies.specs.Replies.{finished_text}
 use Rattle.script_reading.specs.declared.ask.Ask.{Ask}
 use Rattle.script_reading.specs.declared.ask.Ask.TheVariants as asked
 use Rattle.world_members.specs.declared.client_line.ClientLine.{ClientLine}
@@ -62,10 +59,6 @@ head_words (head.Join place) = codes "join" ∷ decimal place ∷ []
 head_words (head.Restart id) = codes "restart" ∷ decimal id ∷ []
 head_words head.Settle = codes "settle" ∷ []
 
--- an outcome of a tick, after a space
-abbrev pub outcome_text : KeyOutcome → Text
-outcome_text told = codes " " ++ key_outcome_text (meant_at_key told)
-
 abbrev pub answer_text : Answer → Text
 answer_text (answer.Reply reply) = reply_text shown_text (meant reply)
 answer_text answer.Gone = codes "gone"
@@ -93,11 +86,6 @@ post_text sent = codes " " ++ decimal sent.to ++ codes ":" ++ sketch_text sent.s
 abbrev pub sent_text : List SentTo → Text
 sent_text [] = []
 sent_text (sent ∷ more) = codes " sent" ++ flat_map post_text (sent ∷ more)
-
--- the operation that ended, if one did, and its result
-abbrev pub finished_text : Option Finished → Text
-finished_text None = []
-finished_text (Some finished) = codes " finished " ++ decimal finished.op ++ codes " " ++ result_text shown_text (result_meant finished.result)
 
 -- what was sent, and what ended
 abbrev pub tails_text : Event → Text

@@ -1,15 +1,12 @@
-ghost use Rattle.std.specs.Prelude.{◌≡◌, ◌∷◌, ◌++◌, map, flat_map, codes, decimal, string_bytes, OnOk, IfSome, Some};
-ghost use Rattle.model_members.specs.Report.{words, link_text, reply_text, key_outcome_text};
-ghost use Rattle.model_kinds.specs.ShownText.{shown_text};
-ghost use Rattle.member_node.specs.Members.{meant};
-ghost use Rattle.member_node.specs.Replies.{meant_at_key};
-ghost use Rattle.report_lines.specs.Lines.{sketch_text, delivered_words, outcome_text, ask_words, head_words, answer_text, sent_text, finished_text, tails_text, event_text, ending_text, client_tails_text, client_line_text};
+ghost use Rattle.std.specs.Prelude.{◌≡◌, ◌<◌, [], ◌∷◌, ◌++◌, flat_map, codes, decimal, string_bytes, OnOk};
+ghost use Rattle.model_members.specs.Report.{words, link_text};
+ghost use Rattle.report_lines.specs.Lines.{sketch_text, delivered_words, ask_words, head_words, answer_text, sent_text, tails_text, event_text, ending_text, client_tails_text, client_line_text};
 
 use base_bytes::{Memory, Text};
 use base_vectors::Id;
 use itoa::Buffer;
-use member_node::{Finished, KeyOutcome, MessageKind, OperationResult, Outcome, Reply, Sketch};
-use report_texts::push_shown;
+use member_node::{MessageKind, Sketch};
+use report_replies::{push_finished, push_reply, push_result};
 use script_reading::Ask;
 use std::alloc::Global;
 use world_members::{Answer, ClientLine, Ended, Event, Head, SentTo};
@@ -23,24 +20,14 @@ fn push(text: &mut String, part: &str) -> Result<(), Memory>
     Ok(())
 }
 
-/// The digit of a number below ten.
+/// Adds a character of one byte.
 #[inline(always)]
-fn digit(number: usize) -> Option<&'static str>
-    ensures { IfSome result (λ digit. digit.now ≡ decimal number) }
+fn push_byte(text: &mut String, character: char) -> Result<(), Memory>
+    requires { character < 128 }
+    ensures { OnOk result (string_bytes text.new ≡ string_bytes text.old ++ character ∷ []) }
 {
-    match number {
-        0 => Some("0"),
-        1 => Some("1"),
-        2 => Some("2"),
-        3 => Some("3"),
-        4 => Some("4"),
-        5 => Some("5"),
-        6 => Some("6"),
-        7 => Some("7"),
-        8 => Some("8"),
-        9 => Some("9"),
-        _ => None,
-    }
+    text.push(character)?;
+    Ok(())
 }
 
 /// Adds a number. Most are identities and small counts, of one digit.
@@ -48,8 +35,8 @@ fn digit(number: usize) -> Option<&'static str>
 fn push_digits(text: &mut String, number: usize) -> Result<(), Memory>
     ensures { OnOk result (string_bytes text.new ≡ string_bytes text.old ++ decimal number) }
 {
-    if let Some(digit) = digit(number) {
-        return push(text, digit);
+    if number < 10 {
+        return push_byte(text, (b'0' + number as u8) as char);
     }
     let mut digits = Buffer::new();
     push(text, digits.format(number))
@@ -64,6 +51,16 @@ fn push_number(text: &mut String, before: &str, number: usize) -> Result<(), Mem
     push_digits(text, number)
 }
 
+/// Adds a character of one byte and a number behind it.
+#[inline(always)]
+fn push_next(text: &mut String, before: char, number: usize) -> Result<(), Memory>
+    requires { before < 128 }
+    ensures { OnOk result (string_bytes text.new ≡ string_bytes text.old ++ before ∷ decimal number) }
+{
+    push_byte(text, before)?;
+    push_digits(text, number)
+}
+
 /// Adds what is printed of a message.
 #[inline(always)]
 fn push_sketch(text: &mut String, sketch: Sketch) -> Result<(), Memory>
@@ -74,13 +71,13 @@ fn push_sketch(text: &mut String, sketch: Sketch) -> Result<(), Memory>
     match sketch.kind {
         MessageKind::Deltas => {
             push_number(text, "deltas/", first)?;
-            push_number(text, "/", second)
+            push_next(text, '/', second)
         }
         MessageKind::Nack => push_number(text, "nack/", first),
         MessageKind::Status => push_number(text, "status/", first),
         MessageKind::Gossip => {
             push_number(text, "gossip/", first)?;
-            push_number(text, "/", second)
+            push_next(text, '/', second)
         }
         MessageKind::Write => push(text, "write"),
         MessageKind::WriteAck => push(text, "write-ack"),
@@ -96,8 +93,8 @@ fn push_link(text: &mut String, before: &str, from: Id, to: Id, index: usize) ->
     ensures { OnOk result (string_bytes text.new ≡ string_bytes text.old ++ (before.now ++ link_text from to index)) }
 {
     push_number(text, before, usize::from(from.number()))?;
-    push_number(text, ">", usize::from(to.number()))?;
-    push_number(text, " ", index)
+    push_next(text, '>', usize::from(to.number()))?;
+    push_next(text, ' ', index)
 }
 
 /// Adds a member's identity and a key, behind a text.
@@ -106,7 +103,7 @@ fn push_at_key(text: &mut String, before: &str, at: Id, key: &Text) -> Result<()
     ensures { OnOk result (string_bytes text.new ≡ string_bytes text.old ++ (before.now ++ decimal at ++ codes " " ++ key.now)) }
 {
     push_number(text, before, usize::from(at.number()))?;
-    text.push_str(" ")?;
+    push_byte(text, ' ')?;
     push(text, key.as_str())
 }
 
@@ -115,7 +112,7 @@ fn push_delivered(text: &mut String, sketch: &Option<Sketch>) -> Result<(), Memo
     ensures { OnOk result (string_bytes text.new ≡ string_bytes text.old ++ flat_map (λ word. codes " " ++ word) (delivered_words sketch.now)) }
 {
     if let Some(sketch) = sketch {
-        text.push_str(" ")?;
+        push_byte(text, ' ')?;
         push_sketch(text, *sketch)?;
     }
     Ok(())
@@ -161,75 +158,6 @@ fn push_head(text: &mut String, head: &Head) -> Result<(), Memory>
     }
 }
 
-/// Adds what a tick made of the records of one identity that left, after a space.
-fn push_outcome(text: &mut String, told: &KeyOutcome) -> Result<(), Memory>
-    ensures { OnOk result (string_bytes text.new ≡ string_bytes text.old ++ outcome_text told.now) }
-{
-    write!(text, " {}/{}:", told.key.as_str(), told.removed.number())?;
-    match told.outcome {
-        Outcome::Marked => text.push_str("marked")?,
-        Outcome::Performed => text.push_str("performed")?,
-        Outcome::Waiting(unseen) => write!(text, "waiting-{}", unseen.number())?,
-        Outcome::Blocked {
-            owner_share,
-            removed_share,
-        } => write!(text, "blocked-{owner_share}-{removed_share}")?,
-        Outcome::Newer => text.push_str("newer")?,
-    }
-    Ok(())
-}
-
-/// Adds how a tick ended, and then its outcomes.
-fn push_ticked(text: &mut String, end: &str, outcomes: &[KeyOutcome]) -> Result<(), Memory>
-    ensures { OnOk result (string_bytes text.new ≡ string_bytes text.old ++ words (end.now ∷ map key_outcome_text (map meant_at_key outcomes.now))) }
-{
-    text.push_str(end)?;
-    for told in outcomes {
-        push_outcome(text, told)?;
-    }
-    Ok(())
-}
-
-/// Adds a member's reply.
-fn push_reply(alloc: Global, text: &mut String, reply: &Reply) -> Result<(), Memory>
-    ensures { OnOk result (string_bytes text.new ≡ string_bytes text.old ++ reply_text shown_text (meant reply.now)) }
-{
-    match reply {
-        Reply::Done => push(text, "done"),
-        Reply::Pending(op) => Ok(write!(text, "pending {op}")?),
-        Reply::Value(shown) => {
-            text.push_str("value ")?;
-            push_shown(alloc, text, shown)
-        }
-        Reply::Deleted => push(text, "deleted"),
-        Reply::NotFound => push(text, "not found"),
-        Reply::UnknownKey => push(text, "unknown key"),
-        Reply::WrongKind => push(text, "wrong kind"),
-        Reply::TooFew => push(text, "too few"),
-        Reply::Overflow { share, amount } => Ok(write!(text, "overflow {share} {amount}")?),
-        Reply::ClockSpent => push(text, "clock spent"),
-        Reply::SetFull => push(text, "set full"),
-        Reply::StoreFailed => push(text, "store failed"),
-        Reply::Taken => push(text, "taken"),
-        Reply::Already => push(text, "already"),
-        Reply::Gap(lacking) => {
-            let lacking = lacking.number();
-            Ok(write!(text, "gap {lacking}")?)
-        }
-        Reply::NotFromMember => push(text, "not from member"),
-        Reply::Installed => push(text, "installed"),
-        Reply::OldView => push(text, "old view"),
-        Reply::NotAPeer => push(text, "not a peer"),
-        Reply::Ticked(outcomes) => push_ticked(text, "done", outcomes.as_slice()),
-        Reply::TickedStoreFailed(outcomes) => {
-            push_ticked(text, "store failed", outcomes.as_slice())
-        }
-        Reply::NotLeader(leader) => Ok(write!(text, "not leader {}", leader.number())?),
-        Reply::TimedOut => push(text, "timed out"),
-        Reply::NoSuchOp => push(text, "no such op"),
-    }
-}
-
 /// Adds what came of an event.
 fn push_answer(alloc: Global, text: &mut String, answer: &Answer) -> Result<(), Memory>
     ensures { OnOk result (string_bytes text.new ≡ string_bytes text.old ++ answer_text answer.now) }
@@ -266,42 +194,11 @@ fn push_sent(text: &mut String, sent: &[SentTo]) -> Result<(), Memory>
     }
     text.push_str(" sent")?;
     for post in sent {
-        push_number(text, " ", usize::from(post.to.number()))?;
-        text.push_str(":")?;
+        push_next(text, ' ', usize::from(post.to.number()))?;
+        push_byte(text, ':')?;
         push_sketch(text, post.sketch)?;
     }
     Ok(())
-}
-
-/// Adds an operation that ended, with its result.
-fn push_result(alloc: Global, text: &mut String, finished: &Finished) -> Result<(), Memory>
-    ensures { OnOk result (string_bytes text.new ≡ string_bytes text.old ++ finished_text (Some finished.now)) }
-{
-    write!(text, " finished {} ", finished.op)?;
-    match &finished.result {
-        OperationResult::Wrote => text.push_str("done")?,
-        OperationResult::Read(shown) => {
-            text.push_str("value ")?;
-            push_shown(alloc, text, shown)?;
-        }
-        OperationResult::ReadDeleted => text.push_str("deleted")?,
-        OperationResult::ReadNothing => text.push_str("not found")?,
-    }
-    Ok(())
-}
-
-/// Adds the operation that ended, if one did, with its result.
-fn push_finished(
-    alloc: Global,
-    text: &mut String,
-    finished: &Option<Finished>,
-) -> Result<(), Memory>
-    ensures { OnOk result (string_bytes text.new ≡ string_bytes text.old ++ finished_text finished.now) }
-{
-    match finished {
-        Some(finished) => push_result(alloc, text, finished),
-        None => Ok(()),
-    }
 }
 
 /// Adds the messages that an event sent, and the operation that it ended.
@@ -317,9 +214,9 @@ fn push_event(alloc: Global, text: &mut String, number: usize, event: &Event) ->
     ensures { OnOk result (string_bytes text.new ≡ string_bytes text.old ++ event_text number event.now) }
 {
     push_digits(text, number)?;
-    text.push_str(" ")?;
+    push_byte(text, ' ')?;
     push_head(text, &event.head)?;
-    text.push_str(" ")?;
+    push_byte(text, ' ')?;
     push_answer(alloc, text, &event.answer)?;
     push_tails(alloc, text, event)?;
     text.push_str("\n")?;
@@ -373,7 +270,7 @@ fn push_client_line(
 {
     write!(text, "{number} client {} ", line.client)?;
     push_head(text, &line.head)?;
-    text.push_str(" ")?;
+    push_byte(text, ' ')?;
     push_answer(alloc, text, &line.answer)?;
     push_client_tails(alloc, text, line)?;
     text.push_str("\n")?;

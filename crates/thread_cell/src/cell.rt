@@ -17,6 +17,9 @@ use thread_machine::machine::Machine;
 /// The greatest number of entries of a history.
 pub const MOST: usize = 16384;
 
+/// A history begins with room for so many entries.
+const PIECE: usize = 1024;
+
 /// Why a call was not made.
 #[derive(Drop)]
 pub enum CellError<R> {
@@ -271,12 +274,26 @@ impl<M: Machine, N: Name, P: Spot> Cell<M, N, P> {
     }
 }
 
-// Takes the memory of an entry more and of a call more, where there is none, and tells whether it was there. It is taken in
-// pieces that grow.
+// Takes the memory of an entry more and of a call more, where there is none, and tells whether it was there.
 fn make_room<E>(history: &mut Vec<E>, calls: &mut Vec<(usize, usize)>) -> bool
     ensures history { history.new.items ≡ history.old.items }
     ensures calls { calls.new.items ≡ calls.old.items }
     ensures room { IsTrue result → (vec_len history.new < vec_capacity history.new) × (vec_len calls.new < vec_capacity calls.new) }
 {
-    history.reserve(1).is_ok() && calls.reserve(1).is_ok()
+    make_place(history) && make_place(calls)
+}
+
+// Takes the memory of an item more, where there is none, and tells whether it was there. It is taken in pieces: the first has
+// room for `PIECE` items, or for one where there is no memory for as many, and each further one for at least as many as there are.
+fn make_place<X>(items: &mut Vec<X>) -> bool
+    ensures same { items.new.items ≡ items.old.items }
+    ensures room { IsTrue result → vec_len items.new < vec_capacity items.new }
+{
+    if items.len() < items.capacity() {
+        return true;
+    }
+    if items.is_empty() && items.reserve(PIECE).is_ok() {
+        return true;
+    }
+    items.reserve(1).is_ok()
 }

@@ -1,5 +1,5 @@
 -- What follows an answer.
-use Rattle.std.proofs.Common.{◌≡◌, ℕ, List, [], false, Option, Some, None, refl, sym, subst, inl, inr}
+use Rattle.std.proofs.Common.{◌≡◌, ℕ, List, [], ◌∷◌, ◌++◌, false, Option, Some, None, refl, sym, subst, inl, inr}
 use Rattle.std.specs.Prelude.{◌⊎◌}
 use Rattle.model_kinds.specs.declared.operation.Op.{Op}
 use Rattle.data_lattice.specs.declared.replica.Replica.{Ghosts as Data}
@@ -21,7 +21,15 @@ use Rattle.thread_clients.specs.Sessions.{Session, Receipted, Meaning}
 use Rattle.thread_clients.specs.Calls.{IsMade, IsCalled}
 use Rattle.thread_clients.specs.Turns.{IsHeardOrFull}
 use Rattle.thread_clients.specs.Endings.{Ends}
-use Rattle.thread_clients.specs.Answers.{IsQuiet, Settles, IsAnsweredBy, HasMade, IsLineOf, IsRefusal, IsRefusalLine}
+use Rattle.thread_clients.specs.Answers.{IsQuiet, Settles, IsAnsweredBy, HasMade, IsLineOf, IsRefusal, IsRefusalLine, AddsLine}
+
+-- a line more
+pub adds_one : {P : ClientLine → Type 0} {before after : List ClientLine} (line : ClientLine) → after ≡ before ++ line ∷ [] → P line → AddsLine P before after
+adds_one line added is = record { line = line; added = added; is = is }
+
+-- and one of which one thing is so and with it another
+pub adds_line : {P Q : ClientLine → Type 0} (before after : List ClientLine) → AddsLine P before after → ((line : ClientLine) → P line → Q line) → AddsLine Q before after
+adds_line before after adds so = record { line = adds.line; added = adds.added; is = so adds.line adds.is }
 
 module _ {T K Kind Delta : Type 0} {data_of : Data T Kind Op Delta} {keeping : Keeping K} (meaning : Meaning data_of keeping) (ids : ℕ → Option ℕ) where
   -- what was opened has ended

@@ -83,3 +83,8 @@ module _ {T K Kind Delta : Type 0} {data_of : Data T Kind Op Delta} {keeping : K
   path_whole xs ys k first a lines same whole path =
       let enough : length xs ≤ k = let e = ap length same in omega arith in
       subst (λ (zs : List Repeated). IsPath meaning ids views client first (commands_of zs) lines a) (take_whole xs k enough) path
+
+  pub path_told : (xs ys : List Repeated) (k : ℕ) (first a : Session data_of keeping) (lines told : List ClientLine) → ys ≡ xs → length ys ≤ k → IsPath meaning ids views client first (commands_of (take k xs)) lines a → told ≡ lines
+      → IsPath meaning ids views client first (commands_of xs) told a
+  path_told xs ys k first a lines told same whole path is =
+      subst (λ (ls : List ClientLine). IsPath meaning ids views client first (commands_of xs) ls a) (sym is) (path_whole xs ys k first a lines same whole path)

@@ -3,7 +3,8 @@
 --     IsReplied, IsUnmade, IsAnsweredBy        by the answer
 --     HasMade        the line of a command
 --     IsLineOf, IsRefusalLine        the same by its parts
-use Rattle.std.specs.Prelude.{◌≡◌, ℕ, ◌⊎◌, List, [], map, false, Option, None, Some}
+--     AddsLine        a line more, of which something is so
+use Rattle.std.specs.Prelude.{◌≡◌, ℕ, ◌⊎◌, List, [], ◌∷◌, ◌++◌, map, false, Option, None, Some}
 use Rattle.model_kinds.specs.declared.operation.Op.{Op}
 use Rattle.data_lattice.specs.declared.replica.Replica.{Ghosts as Data}
 use Rattle.member_keeper.specs.declared.keeper.Keeper.{Ghosts as Keeping}
@@ -94,3 +95,9 @@ pub record IsRefusalLine (command : Command) (error : CallError) (client : ℕ) 
   pub answer_is : IsRefusal error line.answer
   pub sent : line.sent ≡ []
   pub ended : line.ended ≡ None
+
+-- there is one line more, and this is so of it
+pub record AddsLine (Is : ClientLine → Type 0) (before after : List ClientLine) : Type 0 where
+  pub line : ClientLine
+  pub added : after ≡ before ++ line ∷ []
+  pub is : Is line

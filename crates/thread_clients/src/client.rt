@@ -1,9 +1,9 @@
-ghost use Rattle.std.specs.Prelude.{◌≡◌, [], true, false, IfOk, OnOk, OnErr};
+ghost use Rattle.std.specs.Prelude.{◌≡◌, ◌<◌, [], true, false, vec_len, vec_capacity, IfOk, OnOk, OnErr};
 ghost use Rattle.thread_cluster.specs.Knowing.{GoesOn, IsNowhere};
 ghost use Rattle.script_reading.specs.declared.clients.Command.{Command};
 ghost use Rattle.thread_clients.specs.Sessions.{Session};
 ghost use Rattle.thread_clients.specs.Commands.{all_of, commands_of, has_turn};
-ghost use Rattle.thread_clients.specs.Answers.{Settles, HasMade, IsLineOf, IsRefusalLine};
+ghost use Rattle.thread_clients.specs.Answers.{Settles, HasMade, IsLineOf, IsRefusalLine, AddsLine};
 ghost use Rattle.thread_clients.specs.Paths.{IsPath, GoesFurther};
 ghost use Rattle.thread_clients.specs.Stopping.{IsLeftOff, IsBegun, StopsWithin, WasStopped};
 
@@ -31,6 +31,23 @@ const MOST_NUMBER: usize = 4_294_967_295;
 /// The lines of a client's commands, in order.
 pub type Lines = Items<ClientLine>;
 
+/// No lines, with the memory for those of commands.
+///
+/// # Errors
+///
+/// Memory was refused.
+fn lines_for(alloc: Global, commands: &[Repeated]) -> Result<Vec<ClientLine>, Memory>
+    ensures { IfOk result (λ lines. lines.items ≡ []) }
+{
+    let mut count: usize = 0;
+    for repeated in commands {
+        count = count.saturating_add(repeated.times as usize);
+    }
+    let mut lines = Vec::new(alloc);
+    lines.reserve(count)?;
+    Ok(lines)
+}
+
 /// Whether nothing was sent, and no turn follows.
 fn is_quiet<T: Replica>(command: &Command, posts: &[Post<T>]) -> bool
     ensures { result ≡ true → (has_turn command.now.ask ≡ false) × (posts.now ≡ []) }
@@ -38,7 +55,7 @@ fn is_quiet<T: Replica>(command: &Command, posts: &[Post<T>]) -> bool
     !has_turn(command) && posts.is_empty()
 }
 
-/// The line of a command that made no step.
+/// Adds the line of a command that made no step.
 ///
 /// # Errors
 ///
@@ -48,8 +65,10 @@ fn refused(
     client: u32,
     command: &Command,
     error: CallError,
-) -> Result<ClientLine, Memory>
-    ensures { IfOk result (IsRefusalLine command.now error client) }
+    lines: &mut Vec<ClientLine>,
+) -> Result<(), Memory>
+    requires { vec_len lines.old < vec_capacity lines.old }
+    ensures { OnOk result (AddsLine (IsRefusalLine command.now error client) lines.old.items lines.new.items) }
 {
     let answer = match error {
         CallError::Gone => Answer::Gone,
@@ -57,7 +76,7 @@ fn refused(
         CallError::HistoryFull => Answer::HistoryFull,
         CallError::Memory => return Err(Memory),
     };
-    Ok(ClientLine {
+    lines.push_reserved(ClientLine {
         client,
         head: Head::Asked {
             at: command.at,
@@ -66,7 +85,8 @@ fn refused(
         answer,
         sent: Items::new(alloc),
         ended: None,
-    })
+    });
+    Ok(())
 }
 
 impl<'a, T: SpelledData<Op = Op>, K: Keeper + Drop, N: Section, R: Wait, G: Gate> Desk<
@@ -105,7 +125,7 @@ impl<'a, T: SpelledData<Op = Op>, K: Keeper + Drop, N: Section, R: Wait, G: Gate
         Ok(None)
     }
 
-    /// The line of a command that was answered, once what it opened has ended.
+    /// Adds the line of a command that was answered, once what it opened has ended.
     ///
     /// # Errors
     ///
@@ -116,17 +136,19 @@ impl<'a, T: SpelledData<Op = Op>, K: Keeper + Drop, N: Section, R: Wait, G: Gate
         client: u32,
         command: &Command,
         output: Output<T>,
-    ) -> Result<ClientLine, Memory>
+        lines: &mut Vec<ClientLine>,
+    ) -> Result<(), Memory>
         requires table { session.old.seen.table ≡ N.table }
         requires runs { ¬ IsNowhere N.ids command.now.at }
+        requires room { vec_len lines.old < vec_capacity lines.old }
         ensures table { session.new.seen.table ≡ N.table }
-        ensures ok { IfOk result (IsLineOf ⟦<Node<T, K> as Machine>⟧ N.ids command.now output session.old session.new client) }
+        ensures ok { OnOk result (AddsLine (IsLineOf ⟦<Node<T, K> as Machine>⟧ N.ids command.now output session.old session.new client) lines.old.items lines.new.items) }
         ensures err { OnErr result (IsLeftOff ⟦<Node<T, K> as Machine>⟧ N.ids command.now.at output.reply session.old session.new) }
         ensures goes_on { GoesOn session.old session.new }
     {
         let sent = sketches(self.alloc, output.posts.as_slice())?;
         let ended = self.settle(session, command, &output)?;
-        Ok(ClientLine {
+        lines.push_reserved(ClientLine {
             client,
             head: Head::Asked {
                 at: command.at,
@@ -135,10 +157,11 @@ impl<'a, T: SpelledData<Op = Op>, K: Keeper + Drop, N: Section, R: Wait, G: Gate
             answer: Answer::Reply(output.reply),
             sent,
             ended,
-        })
+        });
+        Ok(())
     }
 
-    /// One command of a client, and its line.
+    /// One command of a client. Its line goes behind those that there are.
     ///
     /// # Errors
     ///
@@ -149,10 +172,12 @@ impl<'a, T: SpelledData<Op = Op>, K: Keeper + Drop, N: Section, R: Wait, G: Gate
         client: u32,
         number: u32,
         command: &Command,
-    ) -> Result<ClientLine, Memory>
-        requires { session.old.seen.table ≡ N.table }
+        lines: &mut Vec<ClientLine>,
+    ) -> Result<(), Memory>
+        requires table { session.old.seen.table ≡ N.table }
+        requires room { vec_len lines.old < vec_capacity lines.old }
         ensures table { session.new.seen.table ≡ N.table }
-        ensures ok { IfOk result (λ line. HasMade ⟦<Node<T, K> as Machine>⟧ N.ids self.now.cluster.now.views command.now session.old session.new line client) }
+        ensures ok { OnOk result (AddsLine (λ line. HasMade ⟦<Node<T, K> as Machine>⟧ N.ids self.now.cluster.now.views command.now session.old session.new line client) lines.old.items lines.new.items) }
         ensures err { OnErr result (IsBegun ⟦<Node<T, K> as Machine>⟧ N.ids self.now.cluster.now.views command.now session.old session.new) }
         ensures goes_on { GoesOn session.old session.new }
     {
@@ -162,14 +187,14 @@ impl<'a, T: SpelledData<Op = Op>, K: Keeper + Drop, N: Section, R: Wait, G: Gate
         match result {
             Ok(receipt) => {
                 let Receipt { output, .. } = receipt;
-                let line = self.answered(session, client, command, output)?;
+                self.answered(session, client, command, output, lines)?;
                 session.facts();
-                Ok(line)
+                Ok(())
             }
             Err(error) => {
-                let line = refused(self.alloc, client, command, error)?;
+                refused(self.alloc, client, command, error, lines)?;
                 session.facts();
-                Ok(line)
+                Ok(())
             }
         }
     }
@@ -184,18 +209,18 @@ impl<'a, T: SpelledData<Op = Op>, K: Keeper + Drop, N: Section, R: Wait, G: Gate
         session: &mut Session<Node<T, K>>,
         client: u32,
         repeated: &Repeated,
-        lines: &mut Lines,
+        lines: &mut Vec<ClientLine>,
     ) -> Result<(), Memory>
         requires { session.old.seen.table ≡ N.table }
         ensures table { session.new.seen.table ≡ N.table }
-        ensures ok { OnOk result (GoesFurther ⟦<Node<T, K> as Machine>⟧ N.ids self.now.cluster.now.views client (all_of repeated.now) session.old session.new lines.old lines.new) }
-        ensures err { OnErr result (StopsWithin ⟦<Node<T, K> as Machine>⟧ N.ids self.now.cluster.now.views client (all_of repeated.now) session.old session.new lines.old) }
+        ensures ok { OnOk result (GoesFurther ⟦<Node<T, K> as Machine>⟧ N.ids self.now.cluster.now.views client (all_of repeated.now) session.old session.new lines.old.items lines.new.items) }
+        ensures err { OnErr result (StopsWithin ⟦<Node<T, K> as Machine>⟧ N.ids self.now.cluster.now.views client (all_of repeated.now) session.old session.new lines.old.items) }
         ensures goes_on { GoesOn session.old session.new }
     {
         for _time in 0..repeated.times {
+            lines.reserve(1)?;
             let number = lines.len().min(MOST_NUMBER) as u32;
-            let line = self.run_command(session, client, number, &repeated.command)?;
-            lines.push(line)?;
+            self.run_command(session, client, number, &repeated.command, lines)?;
         }
         Ok(())
     }
@@ -217,10 +242,10 @@ impl<'a, T: SpelledData<Op = Op>, K: Keeper + Drop, N: Section, R: Wait, G: Gate
         ensures err { OnErr result (WasStopped ⟦<Node<T, K> as Machine>⟧ N.ids self.now.cluster.now.views client (commands_of commands.now) session.old session.new) }
         ensures goes_on { GoesOn session.old session.new }
     {
-        let mut lines = Items::new(self.alloc);
+        let mut lines = lines_for(self.alloc, commands.as_slice())?;
         for repeated in commands.as_slice() {
             self.run_times(session, client, repeated, &mut lines)?;
         }
-        Ok(lines)
+        Ok(Items::from_vec(lines))
     }
 }

@@ -1,5 +1,5 @@
 -- Calls of a cluster, from what its locks answer.
-use Rattle.std.proofs.Common.{◌≡◌, ℕ, Bool, true, false, List, Option, Some, None, slice_get, refl, inl, inr}
+use Rattle.std.proofs.Common.{◌≡◌, ℕ, Bool, true, false, List, Option, Some, None, slice_get, refl, sym, subst, inl, inr}
 use Rattle.std.specs.Prelude.{Result, Ok, Err, ◌↔◌}
 use Rattle.data_lattice.specs.declared.replica.Replica.{Ghosts as Data}
 use Rattle.member_keeper.specs.declared.keeper.Keeper.{Ghosts as Keeping}
@@ -15,7 +15,7 @@ use Rattle.member_node.specs.declared.node.Node.{Node}
 use Rattle.member_node.specs.declared.reply.Output.{Output}
 use Rattle.member_node.specs.declared.reply.StepError.{StepError}
 use Rattle.member_node.specs.declared.reply.StepError.TheVariants as step
-use Rattle.thread_cluster.specs.Knowing.{Sees, IsNowhere, IsReceipt, IsRefusedAt, IsCause, IsCauseOf}
+use Rattle.thread_cluster.specs.Knowing.{Sees, IsNowhere, IsReceipt, IsAnswered, IsRefusedAt, IsCause, IsCauseOf}
 use Rattle.thread_cluster.specs.Turning.{IsCauseSomewhere}
 use Rattle.thread_cluster.specs.Messages.{messages_to, messages_of}
 use Rattle.thread_cluster.specs.declared.error.CallError.{CallError}
@@ -61,6 +61,12 @@ module _ {T K Kind Op Delta I F O : Type 0} {data_of : Data T Kind Op Delta} {ke
       gone = (λ e. absurd cc, λ n. absurd (n.nowhere receipt.place answered.here));
       full = λ e. absurd cc;
     }
+
+    pub call_answered : (p : ℕ) → ids p ≡ Some id → (receipt : Answer) → IsAnswered meaning p input old new receipt → IsCall meaning ids id input old new (Ok receipt)
+    call_answered p here receipt answered = call_ok receipt (record {
+      here = subst (λ q. ids q ≡ Some id) (sym answered.place) here;
+      answered = subst (λ q. IsAnswered meaning q input old new receipt) (sym answered.place) answered;
+    })
 
     pub call_gone : IsNowhere ids id → Sees old new → IsCall meaning ids id input old new (Err call.Gone)
     call_gone nowhere sees = record {

@@ -3,7 +3,6 @@ ghost use Rattle.thread_cluster.specs.declared.error.CallError.TheVariants as Ca
 ghost use Rattle.thread_cluster.specs.Messages.{messages_of};
 ghost use Rattle.thread_cluster.specs.Refusals.{IsCall, IsInstall};
 
-use crate::call::Unmade;
 use crate::cluster::Cluster;
 use crate::error::CallError;
 use crate::section::Section;
@@ -39,10 +38,12 @@ where
         ensures call { IsCall ⟦<Node<T, K> as Machine>⟧ N.ids id input session.old session.new result }
         ensures no_view { result ≢ Err CallError.NoSuchView }
     {
-        match self.call_at(rt, session, id, input) {
+        let Some(site) = self.find(id) else {
+            return Err(CallError::Gone);
+        };
+        match site.call(rt, &self.table, session, input) {
             Ok(receipt) => Ok(receipt),
-            Err(Unmade::Gone) => Err(CallError::Gone),
-            Err(Unmade::Stopped(error)) => Err(stopped(error)),
+            Err(error) => Err(stopped(error)),
         }
     }
 

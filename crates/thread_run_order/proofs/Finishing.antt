@@ -14,13 +14,15 @@ use Rattle.data_lattice.specs.declared.replica.Replica.{Ghosts}
 use Rattle.member_keeper.specs.declared.keeper.Keeper.{Ghosts as Keeping}
 use Rattle.member_messages.specs.declared.message.Message.{Message}
 use Rattle.member_messages.specs.declared.message.Post.{Post}
+use Rattle.member_node.specs.declared.input.Input.{Input}
+use Rattle.member_node.specs.declared.input.Input.TheVariants as form
 use Rattle.member_views.specs.Sound.{IsView}
 use Rattle.member_views.proofs.Others.{pairs_head, pairs_tail}
 use Rattle.world_members.specs.Channels.{Channel, Channels, channel_at, extended, due_from, next_on, count_on, ChangesOne}
 use Rattle.world_members.specs.Places.{seat_of}
 use Rattle.world_members.specs.Sending.{messages_to, Sends}
 use Rattle.thread_run_order.specs.Images.{EntryOf}
-use Rattle.thread_run_order.specs.Section.{takes_of, sent_to, taken_from, history_of}
+use Rattle.thread_run_order.specs.Section.{takes_of, sent_to, taken_from, history_of, TakesNothing}
 use Rattle.thread_run_order.specs.Finishing.{after_taken, is_id, IsSent, AreSentByAll, ArePassedTo, ArePassed}
 use Rattle.thread_run_order.proofs.Refusals.{below}
 
@@ -326,6 +328,32 @@ passes_idle from to n m next old new is idle same changes a b = changes a b ∙ 
       let f : ((a == from) && (b == to)) ≡ false = ap (λ t. t && (b == to)) other.0 in
       ap (λ t. if t then option_map (due_from (next + n)) (channel_at old a b) else channel_at old a b) f ∙ sym (ap (λ t. if t then option_map (after_taken m) (channel_at old a b) else channel_at old a b) f)
 ]
+
+-- A HISTORY THAT TAKES NOTHING
+
+taken_nothing : {M : Type 0} (o : Option (Channel M)) → o ≡ option_map (after_taken 0) o
+taken_nothing None = refl
+taken_nothing (Some c) = ap (λ n. Some (record { messages = c.messages; next = n })) (same (c.next == length c.messages))
+  where
+    same : (t : Bool) → c.next ≡ (if t then c.next + 0 else c.next)
+    same true = omega arith
+    same false = refl
+
+pub takes_nothing : {T Kind Delta : Type 0} {ghosts : Ghosts T Kind Op Delta} (input : Input T Kind Op Delta ghosts) → ((from : ℕ) (message : Message T Kind Op Delta ghosts) → input ≡ form.Take from message → ⊥) → (from : ℕ) → takes_of from input ≡ []
+takes_nothing (form.Take sender message) other from = absurd (other sender message refl)
+takes_nothing input other from = refl
+
+module _ {T K Kind Delta : Type 0} {ghosts : Ghosts T Kind Op Delta} {keeping : Keeping K} where
+  none_taken : (es : List (EntryOf ghosts keeping)) → All (TakesNothing {keeping = keeping}) es → (from : ℕ) → taken_from from es ≡ []
+  none_taken [] all from = refl
+  none_taken (e ∷ es) all from = ap (λ ms. ms ++ taken_from from es) ((All-head (TakesNothing {keeping = keeping}) e es all).none from) ∙ none_taken es (All-tail (TakesNothing {keeping = keeping}) e es all) from
+
+  pub passed_none : (view : View) (to : ℕ) (es : List (EntryOf ghosts keeping)) (l : Channels (Message T Kind Op Delta ghosts)) → All (TakesNothing {keeping = keeping}) es → ArePassedTo view to es l l
+  passed_none view to es l all a b = go ((b == to) && is_member view a)
+    where
+      go : (t : Bool) → channel_at l a b ≡ (if t then option_map (after_taken (length (taken_from a es))) (channel_at l a b) else channel_at l a b)
+      go true = taken_nothing (channel_at l a b) ∙ ap (λ ms. option_map (after_taken (length ms)) (channel_at l a b)) (sym (none_taken es all a))
+      go false = refl
 
 pub passes_not : {M : Type 0} (from to m next : ℕ) (old : Channels M) → next ≡ next_on (channel_at old from to) → next ≢ count_on (channel_at old from to) → ChangesOne (after_taken m) from to old old
 passes_not from to m next old is pending a b = elim (eqb_tells a from) [

@@ -50,6 +50,10 @@ module _ {T K Kind Delta : Type 0} {ghosts : Ghosts T Kind Op Delta} {keeping : 
   abbrev pub taken_from : ℕ → List (EntryOf ghosts keeping) → List (Message T Kind Op Delta ghosts)
   taken_from from es = flat_map (λ (e : EntryOf ghosts keeping). takes_of from e.input) es
 
+  -- an entry that takes no message
+  pub record TakesNothing (e : EntryOf ghosts keeping) : Type 0 where
+    pub none : (from : ℕ) → takes_of from e.input ≡ []
+
   -- the same, each message with the stamp of its entry
   abbrev pub posts_to : ℕ → List (EntryOf ghosts keeping) → List (Message T Kind Op Delta ghosts × ℕ)
   posts_to to es = flat_map (λ (e : EntryOf ghosts keeping). stamped e.stamp (messages_to e.output.posts to)) es

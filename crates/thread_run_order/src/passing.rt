@@ -1,14 +1,14 @@
-ghost use Rattle.std.specs.Prelude.{◌≡◌, ◌≤◌, ◌<◌, ◌^◌, length, OnOk};
+ghost use Rattle.std.specs.Prelude.{◌≡◌, ◌≤◌, ◌<◌, ◌^◌, true, false, All, length, OnOk};
 ghost use Rattle.thread_cell.specs.Entries.{history_at};
 ghost use Rattle.world_members.specs.Channels.{ChangesOne};
-ghost use Rattle.thread_run_order.specs.Section.{takes_of, taken_from};
+ghost use Rattle.thread_run_order.specs.Section.{takes_of, taken_from, TakesNothing};
 ghost use Rattle.thread_run_order.specs.Finishing.{after_taken, ArePassedTo, ArePassed};
 
 use base_bytes::Memory;
 use base_vectors::Id;
 use data_lattice::SpelledData;
 use member_keeper::Keeper;
-use member_node::{Message, Node};
+use member_node::{Input, Message, Node};
 use member_views::View;
 use model_kinds::Op;
 use thread_cell::histories::Histories;
@@ -31,6 +31,28 @@ fn takes_one<T: SpelledData<Op = Op>, K: Keeper + Drop>(
     } else {
         0
     }
+}
+
+/// Whether an entry takes a message.
+fn takes_some<T: SpelledData<Op = Op>, K: Keeper + Drop>(entry: &Entry<Node<T, K>>) -> bool
+    ensures { result ≡ false → TakesNothing entry.now }
+{
+    match &entry.input {
+        Input::Take { .. } => true,
+        _ => false,
+    }
+}
+
+/// Whether a history takes no message at all, as one of updates alone does.
+fn takes_none<T: SpelledData<Op = Op>, K: Keeper + Drop>(history: &[Entry<Node<T, K>>]) -> bool
+    ensures { result ≡ true → All TakesNothing history.now }
+{
+    for entry in history {
+        if takes_some(entry) {
+            return false;
+        }
+    }
+    true
 }
 
 /// How many messages of an identity a history takes.
@@ -75,6 +97,9 @@ fn pass_to<T: SpelledData<Op = Op>, K: Keeper + Drop>(
 ) -> Result<(), Memory>
     ensures { OnOk result (ArePassedTo view.now to history.now links.old links.new) }
 {
+    if takes_none(history) {
+        return Ok(());
+    }
     for member in view.members() {
         pass_on(links, member.id, to, history)?;
     }

@@ -34,16 +34,26 @@ pub(crate) fn parted<T: SpelledData<Op = Op>, K: Keeper + Drop>(
     (sessions, lines)
 }
 
+/// How many lines there are.
+fn count(lines: &[Lines]) -> usize {
+    let mut count: usize = 0;
+    for one in lines {
+        count = count.saturating_add(one.len());
+    }
+    count
+}
+
 /// Puts lines behind those that there are.
 ///
 /// # Errors
 ///
 /// Memory was refused.
-fn append(all: &mut Lines, lines: Lines) -> Result<(), Memory>
-    ensures { OnOk result (all.new ≡ all.old ++ lines) }
+fn append(all: &mut Vec<ClientLine>, lines: Vec<ClientLine>) -> Result<(), Memory>
+    ensures { OnOk result (all.new.items ≡ all.old.items ++ lines.items) }
 {
-    for line in lines.into_vec() {
-        all.push(line)?;
+    all.reserve(lines.len())?;
+    for line in lines {
+        all.push_reserved(line);
     }
     Ok(())
 }
@@ -56,9 +66,10 @@ fn append(all: &mut Lines, lines: Lines) -> Result<(), Memory>
 pub(crate) fn joined(alloc: Global, lines: Vec<Lines>) -> Result<Lines, Memory>
     ensures { IfOk result (λ all. all ≡ all_lines lines.items) }
 {
-    let mut all = Items::new(alloc);
+    let mut all = Vec::new(alloc);
+    all.reserve(count(lines.as_slice()))?;
     for one in lines {
-        append(&mut all, one)?;
+        append(&mut all, one.into_vec())?;
     }
-    Ok(all)
+    Ok(Items::from_vec(all))
 }

@@ -44,3 +44,13 @@ fn a_turn_hears_what_was_flushed(rt: HostRuntime) -> Result<(), Fail> {
     assert_eq!(rt; turns(&rt, alloc, world, &key, 100), Some((100, 0)));
     Ok(())
 }
+
+/// So are three hundred.
+#[test]
+fn a_turn_hears_three_hundred_flushes(rt: HostRuntime) -> Result<(), Fail> {
+    let alloc = rt.alloc();
+    let key = Text::new("n")?;
+    let world = two_members(alloc, key.copied())?;
+    assert_eq!(rt; turns(&rt, alloc, world, &key, 300), Some((300, 0)));
+    Ok(())
+}

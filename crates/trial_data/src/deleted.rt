@@ -59,7 +59,7 @@ fn fill<T: Replica<Kind = Kind, Op = Op>>(
 }
 
 /// A set that is full.
-fn full<T: Replica<Kind = Kind, Op = Op>>(
+pub(crate) fn full<T: Replica<Kind = Kind, Op = Op>>(
     alloc: Global,
     kind: Kind,
     id: Id,
@@ -93,7 +93,7 @@ fn spelled<T: SpelledData<Kind = Kind, Op = Op>>(
 }
 
 /// How many pages of memory this process has.
-fn pages(rt: &HostRuntime) -> Result<u64, Fail> {
+pub(crate) fn pages(rt: &HostRuntime) -> Result<u64, Fail> {
     let sizes = fs::read_to_string(rt, "/proc/self/statm")?;
     let resident = sizes.as_str().split(' ').nth(1).ok_or("sizes")?;
     Ok(resident.parse::<u64>()?)

@@ -11,7 +11,11 @@ mod cluster;
 #[cfg(test)]
 mod deleted;
 #[cfg(test)]
+mod digest_times;
+#[cfg(test)]
 mod digests;
+#[cfg(test)]
+mod forgotten;
 #[cfg(test)]
 mod member;
 #[cfg(test)]

@@ -15,6 +15,12 @@ const OTHER_COMMANDS: &str =
 {"do":"update","at":0,"key":"n","op":"increment","by":2},{"do":"flush","at":0},{"do":"get","at":1,"key":"n"},
 {"do":"gossip","at":1,"to":0},{"do":"tick","at":0},{"do":"install","at":0,"view":0}]]}]}"#;
 
+// Member 0 answers the gossip in the turn that follows it, and member 1 hears that in the next turn.
+const LATER_TURN: &str =
+    r#"{"members":2,"keys":[{"key":"n","kind":"gcounter"}],"steps":[{"do":"threads","clients":[[
+{"do":"update","at":0,"key":"n","op":"increment","by":2},{"do":"gossip","at":1,"to":0},{"do":"get","at":1,"key":"n"},
+{"do":"get","at":1,"key":"n"},{"do":"flush","at":1},{"do":"get","at":1,"key":"n"}]]}]}"#;
+
 const FAILING_STORE: &str =
     r#"{"members":2,"keys":[{"key":"d","kind":"gcounter","durable":true}],"steps":[{"do":"threads","clients":[[
 {"do":"update","at":0,"key":"d","op":"increment","by":1,"level":"majority"}]]}]}"#;
@@ -59,6 +65,21 @@ fn other_commands_in_a_thread(rt: HostRuntime) -> Result<(), Fail> {
         "1 client 0 update 0 n done\n1 client 0 flush 0 done sent 1:deltas/1/0\n1 client 0 get 1 n value 2\n\
         1 client 0 gossip 1 0 done sent 0:status/1\n1 client 0 tick 0 done\n\
         1 client 0 install 0 view 0 old view\nfinal view 0\nmember 0 place 0 view 0\nn 2 known 0:1 marks -\n\
+        member 1 place 1 view 0\nn 2 known 0:1 marks -\n",
+    )
+}
+
+// A turn follows a command that sent something or may have, and only one; none follows a get that sent nothing.
+#[test]
+fn one_turn_follows_what_was_sent(rt: HostRuntime) -> Result<(), Fail> {
+    compare(
+        &rt,
+        rt.alloc(),
+        LATER_TURN,
+        &[],
+        "1 client 0 update 0 n done\n1 client 0 gossip 1 0 done sent 0:status/0\n1 client 0 get 1 n not found\n\
+        1 client 0 get 1 n not found\n1 client 0 flush 1 done\n1 client 0 get 1 n value 2\n\
+        final view 0\nmember 0 place 0 view 0\nn 2 known 0:1 marks -\n\
         member 1 place 1 view 0\nn 2 known 0:1 marks -\n",
     )
 }

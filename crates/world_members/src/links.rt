@@ -1,11 +1,13 @@
-ghost use Rattle.std.specs.Prelude.{◌≡◌, ℕ, ◌<◌, ◌^◌, ◌&&◌, ◌==◌, nat_lt, if◌then◌else◌, [], ◌∷◌, length, map, replicate, slice_get, Some, None, IfOk, OnOk, OnErr, option_copied, option_map};
+ghost use Rattle.std.specs.Prelude.{◌≡◌, ℕ, ◌<◌, ◌≤◌, ◌^◌, ◌&&◌, ◌==◌, nat_lt, if◌then◌else◌, [], ◌∷◌, length, map, replicate, slice_get, Some, None, IfOk, OnOk, OnErr, option_copied, option_map, vec_capacity};
 ghost use Rattle.model_history.specs.Table.{identity_limit};
 ghost use Rattle.world_members.specs.Channels.{channel_at, channel_of, row_of, channels_in, no_messages, next_on, count_on, message_on, passed, extended, due_from, ChangesIn, ChangesOne};
 
+use crate::event::{SentTo, Sketches};
 use base_bytes::{Items, Memory};
 use base_vectors::{IDENTITIES, Id};
 use std::alloc::Global;
 use std::marker::Model;
+use std::mem;
 
 /// All messages ever sent from one identity to another, and the number of the next one due.
 #[derive(Drop)]
@@ -19,6 +21,8 @@ pub(crate) struct Link<M> {
 pub struct Links<M> {
     alloc: Global,
     pub(crate) rows: Vec<Vec<Link<M>>>,
+    /// Room for what is told of the next message that is taken. Contracts see the rows alone.
+    spare: Vec<SentTo>,
 }
 
 impl<M> Model for Links<M> {
@@ -45,7 +49,36 @@ impl<M: Drop> Links<M> {
         Ok(Links {
             alloc,
             rows: rows.into_vec(),
+            spare: Vec::new(alloc),
         })
+    }
+
+    /// An empty list with room for what is told of one message: the one that was kept, if it has room.
+    ///
+    /// # Errors
+    ///
+    /// Memory was refused.
+    pub(crate) fn room(&mut self) -> Result<Vec<SentTo>, Memory>
+        ensures same { self.new ≡ self.old }
+        ensures empty { IfOk result (λ room. room.items ≡ []) }
+        ensures room { IfOk result (λ room. 1 ≤ vec_capacity room) }
+    {
+        let mut room = mem::replace(&mut self.spare, Vec::new(self.alloc));
+        room.clear();
+        room.reserve(1)?;
+        Ok(room)
+    }
+
+    /// What was told, as it is. Where it is nothing, its room is kept for the next message.
+    pub(crate) fn keep_room(&mut self, told: Sketches) -> Sketches
+        ensures same { self.new ≡ self.old }
+        ensures told { result ≡ told }
+    {
+        if !told.is_empty() {
+            return told;
+        }
+        self.spare = told.into_vec();
+        Items::new(self.alloc)
     }
 
     /// The link from one identity to another, if it is made.

@@ -17,6 +17,21 @@ use member_node::{Finished, Input, Level, Message, Node, Output, Post, Reply, St
 use member_views::View;
 use std::alloc::Global;
 
+/// Makes room for so many more messages behind those that were sent. Where there is none yet, room is taken for three times as
+/// many as were sent, so that few are moved.
+fn grow<M: Drop>(messages: &mut Vec<M>, room: usize) -> Result<(), Memory>
+    ensures items { messages.new.items ≡ messages.old.items }
+    ensures len { vec_len messages.new ≡ vec_len messages.old }
+    ensures ok { OnOk result (vec_len messages.new + room ≤ vec_capacity messages.new) }
+    ensures capacity { vec_capacity messages.old ≤ vec_capacity messages.new }
+{
+    let sent = messages.len();
+    if room <= messages.capacity() - sent {
+        return Ok(());
+    }
+    Ok(messages.reserve(room.max(sent.saturating_mul(3)))?)
+}
+
 /// Makes room for so many more messages on the link to an identity.
 fn reserve_on<M: Drop>(row: &mut Vec<Link<M>>, to: Id, room: usize) -> Result<(), Memory>
     ensures same { row_of row.new ≡ row_of row.old }
@@ -28,7 +43,7 @@ fn reserve_on<M: Drop>(row: &mut Vec<Link<M>>, to: Id, room: usize) -> Result<()
         return Ok(());
     }
     let link = &mut row[index];
-    Ok(link.messages.reserve(room)?)
+    grow(&mut link.messages, room)
 }
 
 /// Makes room for so many more messages on the link to each member of a view.
@@ -210,7 +225,35 @@ pub(crate) fn step_on<T: SpelledData, K: Keeper + Drop>(
 }
 
 /// The member of an identity takes the message of a number on a link to it, where it lies: its messages go to the ends of
-/// its links, and are told.
+/// its links, and are told in an empty list that has room for one.
+#[inline(always)]
+fn take_in_room<T: SpelledData, K: Keeper + Drop>(
+    alloc: Global,
+    node: &mut Node<T, K>,
+    links: &mut Links<Message<T>>,
+    from: Id,
+    at: Id,
+    index: usize,
+    sent: Vec<SentTo>,
+) -> Result<Answered, StepError>
+    requires message { is_some (message_on (channel_at links.old from at) index) ≡ true }
+    requires empty { sent.items ≡ [] }
+    requires room { 1 ≤ vec_capacity sent }
+    ensures ok { IfOk result (λ answered. TakesOnLinks T.SpelledData.own node.old from index answered node.new at links.old links.new) }
+    ensures full { result ≡ Err failed.HistoryFull → node.old.steps ≡ 16384 }
+    ensures err { OnErr result (IsUnchanged node.old node.new × (links.new ≡ links.old)) }
+{
+    let sender = usize::from(at.number());
+    reserve_made(alloc, &mut links.rows[sender], from, 1)?;
+    let Some(message) = message_in(&links.rows, usize::from(from.number()), sender, index) else {
+        unreachable!();
+    };
+    let output = node.take(from, message)?;
+    Ok(posted(&mut links.rows[sender], output, sent))
+}
+
+/// The member of an identity takes the message of a number on a link to it: its messages go to the ends of its links, and
+/// are told.
 #[inline(always)]
 pub(crate) fn take_on<T: SpelledData, K: Keeper + Drop>(
     alloc: Global,
@@ -225,14 +268,19 @@ pub(crate) fn take_on<T: SpelledData, K: Keeper + Drop>(
     ensures full { result ≡ Err failed.HistoryFull → node.old.steps ≡ 16384 }
     ensures err { OnErr result (IsUnchanged node.old node.new × (links.new ≡ links.old)) }
 {
-    let sent = list_for(alloc, 1)?;
-    let sender = usize::from(at.number());
-    reserve_made(alloc, &mut links.rows[sender], from, 1)?;
-    let Some(message) = message_in(&links.rows, usize::from(from.number()), sender, index) else {
-        unreachable!();
-    };
-    let output = node.take(from, message)?;
-    Ok(posted(&mut links.rows[sender], output, sent))
+    let room = links.room()?;
+    let answered = take_in_room(alloc, node, links, from, at, index, room)?;
+    let Answered {
+        reply,
+        sent,
+        finished,
+    } = answered;
+    let sent = links.keep_room(sent);
+    Ok(Answered {
+        reply,
+        sent,
+        finished,
+    })
 }
 
 /// The event of what a member answered.

@@ -3,8 +3,11 @@ use Rattle.model_members.specs.View.{Member}
 use Rattle.world_members.specs.Channels.{ChangesOne}
 use Rattle.thread_run_order.specs.Section.{taken_from}
 use Rattle.thread_run_order.specs.Finishing.{after_taken}
-use Rattle.thread_run_order.proofs.Finishing.{passed_first, passed_more, passed_whole, read_at}
+use Rattle.thread_run_order.proofs.Finishing.{passed_none, passed_first, passed_more, passed_whole, read_at}
 use Rattle.thread_run_order.proofs.passing.pass_to.Goals as goal
+
+pub returns-then-takes_none : goal.returns-then-takes_none
+returns-then-takes_none g c = passed_none {keeping = g.K.Keeper} c.args.view.now c.args.to c.args.history.now c.args.links.now (c.takes_none.ensures c.if-takes_none.true)
 
 pub loop-member-init : goal.loop-member-init
 loop-member-init g c = passed_first {keeping = g.K.Keeper} c.args.view.now c.members-member-items.ensures.sound c.args.to c.args.history.now c.args.links.now

@@ -12,14 +12,15 @@ lines_more [] x = append-nil x
 lines_more (y ∷ xs) x = ap (λ ls. y ++ ls) (lines_more xs x) ∙ sym (append_assoc y (all_lines xs) x)
 
 pub loop-one-init : goal.loop-one-init
-loop-one-init c = c.new-all.ensures
+loop-one-init c = c.reserve.ensures.items ∙ c.new-all.ensures.items
 
 pub loop-one-preserved : goal.loop-one-preserved
-loop-one-preserved c = c.in_ok-append.ensures ∙ ap (λ all. all ++ c.in-Some.one) c.loop-one.invariant ∙ sym (lines_more c.loop-one.yielded c.in-Some.one)
+loop-one-preserved c =
+    c.in_ok-append.ensures ∙ ap (λ ls. c.loop-one.all.items ++ ls) c.into_vec.ensures ∙ ap (λ all. all ++ c.in-Some.one) c.loop-one.invariant ∙ sym (lines_more c.loop-one.yielded c.in-Some.one)
 
 pub returns : goal.returns
 returns c =
     let items = c.args.lines.items in
     let ends = YieldsList-end (YieldsList-from_vec items c.into_iter-one-iterator.ensures.into_iter_gives.0 (c.into_iter-one-iterator.ensures.into_iter_gives.1 ∙ c.args.lines.ok.0)) c.loop-one.yielded c.loop-one.one-iterator c.loop-one.yielded_by c.next.result c.next.new.self c.in-None.is c.next.ensures.steps in
     let whole : c.loop-one.yielded ≡ items = all_yielded c.loop-one.yielded items ends.0 in
-    c.loop-one.invariant ∙ ap all_lines whole
+    c.from_vec.ensures ∙ c.loop-one.invariant ∙ ap all_lines whole

@@ -3,4 +3,4 @@ use Rattle.thread_section.specs.Lines.{all_lines}
 use Rattle.thread_section.proofs.lines.joined.Given as goal
 
 abbrev pub invariant-loop-one : goal.invariant-loop-one
-invariant-loop-one l = l.all ≡ all_lines l.yielded
+invariant-loop-one l = l.all.items ≡ all_lines l.yielded

@@ -3,6 +3,7 @@ use Rattle.world_members.specs.Sending.{told_of}
 use Rattle.world_members.specs.declared.event.Head.TheVariants.{Asked}
 use Rattle.thread_cluster.proofs.Lists.{on_err_always}
 use Rattle.thread_cluster.proofs.Growing.{goes_on_self}
+use Rattle.thread_clients.proofs.Settled.{adds_one}
 use Rattle.thread_clients.proofs.Stopped.{left_here}
 use Rattle.thread_clients.proofs.client.Desk+Node+T+K+N+R+G.answered.Goals as goal
 
@@ -16,10 +17,12 @@ pub returns-in_err-ended-clause-err : goal.returns-in_err-ended-clause-err
 returns-in_err-ended-clause-err g c = on_err_always _ _ c.in_err-ended.ensures.err
 
 pub returns-clause-ok : goal.returns-clause-ok
-returns-clause-ok g c = record {
-  client_is = refl;
-  head_is = ap (Asked c.args.command.now.at) c.copied.ensures;
-  answer_is = refl;
-  sent = c.in_ok-sent.ensures ∙ ap (map told_of) c.as_slice.ensures;
-  settles = c.in_ok-ended.ensures.ok;
-}
+returns-clause-ok g c =
+    adds_one _ c.push_reserved.ensures.items
+    (record {
+      client_is = refl;
+      head_is = ap (Asked c.args.command.now.at) c.copied.ensures;
+      answer_is = refl;
+      sent = c.in_ok-sent.ensures ∙ ap (map told_of) c.as_slice.ensures;
+      settles = c.in_ok-ended.ensures.ok;
+    })

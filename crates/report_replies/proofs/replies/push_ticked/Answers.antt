@@ -1,8 +1,8 @@
 use Rattle.std.proofs.Common.{◌≤◌, ◌++◌, length, flat_map, string_bytes, ap, ◌∙◌, arith, append_assoc}
 use Rattle.std.proofs.lemmas.List.{take_all}
-use Rattle.report_lines.specs.Lines.{outcome_text}
-use Rattle.report_lines.proofs.Told.{ticked_words}
-use Rattle.report_lines.proofs.lines.push_ticked.Goals as goal
+use Rattle.report_replies.specs.Replies.{outcome_text}
+use Rattle.report_replies.proofs.Words.{ticked_words}
+use Rattle.report_replies.proofs.replies.push_ticked.Goals as goal
 
 pub returns : goal.returns
 returns c =

@@ -1,0 +1,117 @@
+-- The run of the model that the processes of a cluster make.
+--     events_of, all_events        the events of the model that something is
+--     Tells        what a step tells is what an event puts out
+--     StandFor        the processes stand for a world
+--     AreOneRun        what happened is a run, the processes stand for the world that it leads to, and what is told next is the model's
+--     HoldHistories        what the members hold
+use Rattle.std.specs.Prelude.{◌≡◌, ℕ, List, [], ◌∷◌, Some, map, flat_map, option_map, ⊤, All}
+use Rattle.std.specs.List.{AllZip, AllByRecursion}
+use Rattle.model_history.specs.Texts.{Text}
+use Rattle.model_history.specs.History.{History, at, union, IsHistory, IsExactlyPruned}
+use Rattle.model_members.specs.Entry.{Entry}
+use Rattle.model_members.specs.Node as nodes
+use Rattle.model_members.specs.View.{place_of}
+use Rattle.model_members.specs.World as worlds
+use Rattle.model_members.specs.World.{Event, start, run, output_of, views_of, IsRun}
+use Rattle.model_members.specs.World.Event.{InputAt, Delivery, Removal, Joining, Restart}
+use Rattle.theorem_runs.specs.Logs.{AreLogsOf}
+use Rattle.model_kinds.specs.declared.operation.Op.{Op}
+use Rattle.model_kinds.specs.declared.shown.Shown.{Shown}
+use Rattle.data_lattice.specs.declared.replica.Replica.{Ghosts}
+use Rattle.data_lattice.specs.declared.spelled.SpelledData.{Ghosts as Spelling}
+use Rattle.data_delta_codec.specs.declared.spelled_delta.SpelledDelta.{Ghosts as DeltaSpelling}
+use Rattle.member_keeper.specs.declared.keeper.Keeper.{Ghosts as Keeping}
+use Rattle.member_quorum.specs.Levels.{level_meant}
+use Rattle.member_node.specs.declared.node.Node.{Node}
+use Rattle.member_node.specs.declared.key.KeyDecl.{KeyDecl}
+use Rattle.member_node.specs.declared.key.KeyState.{KeyState}
+use Rattle.member_node.specs.declared.input.Input.{Input}
+use Rattle.member_node.specs.declared.input.Input.TheVariants as input
+use Rattle.member_node.specs.declared.reply.Output.{Output}
+use Rattle.member_node.specs.Keys.{declared}
+use Rattle.member_node.specs.Members.{StandsForMessage, StandsForEntry}
+use Rattle.member_node.specs.Operations.{finished_meant}
+use Rattle.member_node.specs.Replies.{meant, meant_fate}
+use Rattle.member_node.specs.Steps.{replication}
+use Rattle.world_members.specs.Standing.{StandsForRunning, TellsStore}
+use Rattle.theorem_processes.specs.Processes.{Processes, Happening, MayHappen}
+use Rattle.theorem_processes.specs.Processes.Happening.{Steps, Takes, Refuses, Leaves, Joins, Returns}
+
+-- WHAT HAPPENS, AS EVENTS OF THE MODEL
+
+-- an input of a process. It takes no message
+abbrev pub given_inputs : {T Kind Delta : Type 0} {ghosts : Ghosts T Kind Op Delta} → Input T Kind Op Delta ghosts → List (nodes.Input Op)
+given_inputs (input.Update key op level) = nodes.Input.Update key op (level_meant level) ∷ []
+given_inputs (input.Get key level) = nodes.Input.Get key (level_meant level) ∷ []
+given_inputs (input.Take from message) = []
+given_inputs (input.Install view) = nodes.Input.Install view ∷ []
+given_inputs input.Flush = nodes.Input.Flush ∷ []
+given_inputs (input.GossipTo to) = nodes.Input.GossipTo to ∷ []
+given_inputs input.PruneTick = nodes.Input.PruneTick ∷ []
+given_inputs (input.Timeout op) = nodes.Input.Timeout op ∷ []
+
+module _ {T K Kind Delta : Type 0} {ghosts : Ghosts T Kind Op Delta} {keeping : Keeping K} where
+  -- one event each, but a refused step is none
+  abbrev pub events_of : Happening ghosts keeping → List (Event Op)
+  events_of (Steps at given fate output after) = map (λ sent. InputAt at sent (meant_fate fate)) (given_inputs given)
+  events_of (Takes from to index bytes read fate output after) = Delivery from to index (meant_fate fate) ∷ []
+  events_of (Refuses at after) = []
+  events_of (Leaves i) = Removal i ∷ []
+  events_of (Joins place new) = Joining place ∷ []
+  events_of (Returns i keeper new) = Restart i ∷ []
+
+  abbrev pub all_events : List (Happening ghosts keeping) → List (Event Op)
+  all_events = flat_map events_of
+
+-- WHAT IS TOLD
+
+-- the reply to a step, and the operation that ended, are what the event puts out in the world
+pub record Tells {T Kind Delta : Type 0} {ghosts : Ghosts T Kind Op Delta} (spelling : Spelling T Kind Op Delta) (world : worlds.World Kind Op Shown) (output : Output T Kind Op Delta ghosts) (event : Event Op) : Type 0 where
+  pub meaning : nodes.Output Op Shown
+  pub put_out : output_of (replication ghosts spelling) world event ≡ Some meaning
+  pub reply : meaning.reply ≡ meant output.reply
+  pub ended : meaning.ended ≡ option_map finished_meant output.finished
+
+-- WHAT PROCESSES STAND FOR
+
+module _ {T K Kind Delta : Type 0} {ghosts : Ghosts T Kind Op Delta} {keeping : Keeping K} (spelling : Spelling T Kind Op Delta) (kinds : Text → Kind) (decls : List (KeyDecl T Kind Op Delta)) where
+  -- the views, the keys, each running member, what each posted to each, and what the keepers of running members tell
+  pub record StandFor (logs : Text → History Op) (ps : Processes ghosts keeping) (world : worlds.World Kind Op Shown) : Type 0 where
+    pub views : views_of world ≡ ps.views
+    pub keys : world.keys ≡ map declared decls
+    pub running : (i : ℕ) → StandsForRunning spelling kinds logs (ps.members i) (world.nodes i)
+    pub links : (from to : ℕ) → AllZip (StandsForMessage ghosts.kind_of ghosts.IsDataOf kinds logs) (ps.posted from to) (world.links from to).messages
+    pub stores : (i : ℕ) (member : Node T K Kind Op Delta ghosts keeping) → ps.members i ≡ Some member
+        → TellsStore ghosts keeping spelling kinds logs (Some member.keeper) (world.stores (place_of world.view i))
+
+  -- of a step, that; else nothing is told
+  abbrev pub IsTold : worlds.World Kind Op Shown → Happening ghosts keeping → Type 0
+  IsTold world (Steps at given fate output after) = AllByRecursion (Tells spelling world output) (events_of {ghosts = ghosts} {keeping = keeping} (Steps at given fate output after))
+  IsTold world (Takes from to index bytes read fate output after) = Tells spelling world output (Delivery from to index (meant_fate fate))
+  IsTold world _ = ⊤
+
+  -- WHAT HAPPENED IS ONE RUN
+  pub record AreOneRun (deltas : DeltaSpelling T Kind Op Delta) (count : ℕ) (happenings : List (Happening ghosts keeping)) (ps : Processes ghosts keeping) : Type 0 where
+    pub world : worlds.World Kind Op Shown
+    pub is_run : IsRun (replication ghosts spelling) count (map declared decls) (all_events happenings) world
+    pub stand : (logs : Text → History Op) → AreLogsOf (replication ghosts spelling) count (map declared decls) (all_events happenings) logs → StandFor logs ps world
+    pub told : (next : Happening ghosts keeping) → MayHappen spelling deltas decls ps next → IsTold world next
+
+  -- WHAT MEMBERS HOLD
+
+  -- a member holds of each key an image of this history
+  abbrev pub HoldsImages : (Text → History Op) → Node T K Kind Op Delta ghosts keeping → (Text → History Op) → Type 0
+  HoldsImages logs member held = All (λ (state : KeyState T Kind Op Delta). (entry : Entry Op) × (entry.history ≡ held state.name) × StandsForEntry ghosts.kind_of ghosts.IsDataOf kinds logs state.name state.entry entry) member.keys.items
+
+  -- two running members
+  abbrev pub AreMembers : Processes ghosts keeping → ℕ → ℕ → Node T K Kind Op Delta ghosts keeping → Node T K Kind Op Delta ghosts keeping → Type 0
+  AreMembers ps i j a b = (ps.members i ≡ Some a) × (ps.members j ≡ Some b)
+
+  -- each running member has taken a history of each key, and holds an image of it. The union of any two is exactly pruned, and they are the same where they count as many records of each identity
+  pub record HoldHistories (ps : Processes ghosts keeping) : Type 0 where
+    pub logs : Text → History Op
+    pub taken : ℕ → Text → History Op
+    pub images : (i : ℕ) (member : Node T K Kind Op Delta ghosts keeping) → ps.members i ≡ Some member → HoldsImages logs member (taken i)
+    pub histories : (i : ℕ) (member : Node T K Kind Op Delta ghosts keeping) (key : Text) → ps.members i ≡ Some member → IsHistory (taken i key)
+    pub pruned : (i j : ℕ) (a b : Node T K Kind Op Delta ghosts keeping) (key : Text) → AreMembers ps i j a b → IsExactlyPruned (union (taken i key) (taken j key))
+    pub alike : (i j : ℕ) (a b : Node T K Kind Op Delta ghosts keeping) (key : Text) → AreMembers ps i j a b → ((origin : ℕ) → at (taken i key) origin ≡ at (taken j key) origin) → taken i key ≡ taken j key

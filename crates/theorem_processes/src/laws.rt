@@ -1,0 +1,38 @@
+ghost use Rattle.std.specs.Prelude.{ℕ, List};
+ghost use Rattle.model_history.specs.Texts.{Text};
+ghost use Rattle.model_kinds.specs.declared.operation.Op as operation;
+ghost use Rattle.member_node.specs.declared.key.KeyDecl.{KeyDecl};
+ghost use Rattle.member_node.specs.Keys.{AreOfKinds};
+ghost use Rattle.theorem_processes.specs.Processes.{Processes, Happening, Begin, AllHappen, after_all};
+ghost use Rattle.theorem_processes.specs.Runs.{AreOneRun, HoldHistories};
+
+use data_delta_codec::SpelledDelta;
+use member_codec::{one_spelling, stands_as_sent};
+use member_keeper::Keeper;
+use model_kinds::Op;
+
+/// Members in processes, each making steps of its contract, and taking of bytes what a transport hands over that guarantees one
+/// thing: as from a member it hands over only bytes that spell what this member posted to that one. Then what happened is one
+/// run of the model, whatever the order was, and whatever was handed over again, late or never: the members stand for those of
+/// the world that the run leads to, what they posted is what lies on its links, and what each step tells is what its event
+/// puts out. So whatever is proved of every run holds of them.
+pub fn processes_are_one_run<T: SpelledDelta<Op = Op>, K: Keeper>()
+    ensures { (kinds : Text → T.Kind) (decls : List (KeyDecl T T.Kind operation.Op T.Delta)) (count : ℕ) (first : Processes T.Replica K.Keeper) (happenings : List (Happening T.Replica K.Keeper))
+        → AreOfKinds kinds decls → Begin decls count first → AllHappen T.SpelledData.own T.SpelledDelta.own decls first happenings
+        → AreOneRun T.SpelledData.own kinds decls T.SpelledDelta.own count happenings (after_all first happenings) }
+{
+    one_spelling::<T>();
+    stands_as_sent::<T>();
+}
+
+/// What the members of such processes hold: of each key an image of a history of their run, whose meaning is what they show.
+/// Any two of these histories are exactly pruned together, so no update is lost by a prune or counted twice; and members that
+/// have taken as many records of each identity have taken the same.
+pub fn processes_hold_histories<T: SpelledDelta<Op = Op>, K: Keeper>()
+    ensures { (kinds : Text → T.Kind) (decls : List (KeyDecl T T.Kind operation.Op T.Delta)) (count : ℕ) (first : Processes T.Replica K.Keeper) (happenings : List (Happening T.Replica K.Keeper))
+        → AreOfKinds kinds decls → Begin decls count first → AllHappen T.SpelledData.own T.SpelledDelta.own decls first happenings
+        → HoldHistories T.SpelledData.own kinds decls (after_all first happenings) }
+{
+    one_spelling::<T>();
+    stands_as_sent::<T>();
+}

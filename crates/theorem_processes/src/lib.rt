@@ -1,0 +1,23 @@
+//! Members in several processes are members of one run.
+//!
+//! # What is promised, and by which contract
+//!
+//! - Let members make steps of their contract, each in its process, and let each message that one takes
+//!   be read of bytes that spell a post of the sender to it: in any order, again or never. Members
+//!   may leave, join, and come back over what their keeper holds. Then what happened, in the order of
+//!   time, is a run of the model: the members stand for those of its world, what they posted is what
+//!   lies on its links, and what each step told is what its event puts out
+//!   (`processes_are_one_run` (`AreOneRun`, over `AllHappen`)).
+//! - So each member holds images of histories of that run, of which any two together are exactly
+//!   pruned; members that count as many records hold the same (`processes_hold_histories`).
+//! - Real calls meet the premises: two members, of which one posts, and the other takes the bytes of
+//!   the post twice (`a_post_is_taken_twice` (`AreMet`)).
+#![tactic(auto)]
+
+mod laws;
+#[cfg(test)]
+mod tests;
+mod worked;
+
+pub use laws::{processes_are_one_run, processes_hold_histories};
+pub use worked::a_post_is_taken_twice;

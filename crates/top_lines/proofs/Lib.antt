@@ -1,0 +1,4 @@
+pub mod Lasting
+pub mod Readings
+pub mod Served
+pub mod Words

@@ -1,0 +1,8 @@
+pub mod Answering
+pub mod Asking
+pub mod Rows
+pub mod Saying
+pub mod Serving
+pub mod Stops
+pub mod Tellings
+pub mod Texts
