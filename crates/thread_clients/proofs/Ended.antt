@@ -57,4 +57,4 @@ module _ {T K Kind Delta : Type 0} {data_of : Data T Kind Op Delta} {keeping : K
   waited_some old new told result is waited = subst (HasWaited meaning ids id op old new) is waited
 
   pub waited_none : (old new : Session data_of keeping) (told : Option OperationResult) → told ≡ None → HasWaited meaning ids id op old new told → HasHeardAnswers meaning ids id op old new ⊎ WasFull meaning ids old new
-  waited_none old new told is waited = subst (HasWaited meaning ids id op old new) is waited
+  waited_none old new told is waited = (subst (HasWaited meaning ids id op old new) is waited).waited

@@ -1,5 +1,5 @@
 -- What a client knows after some turns for its operation, each with a look that did not find it finished.
-use Rattle.std.proofs.Common.{◌≡◌, ℕ, ◌+◌, ◌≤◌, Option, None, refl, subst, arith, inl, inr}
+use Rattle.std.proofs.Common.{◌≡◌, ◌⊎◌, ℕ, ◌+◌, ◌≤◌, Option, None, refl, subst, arith, inl, inr}
 use Rattle.model_kinds.specs.declared.operation.Op.{Op}
 use Rattle.data_lattice.specs.declared.replica.Replica.{Ghosts as Data}
 use Rattle.member_keeper.specs.declared.keeper.Keeper.{Ghosts as Keeping}
@@ -9,7 +9,7 @@ use Rattle.member_node.specs.declared.operation.OperationResult.{OperationResult
 use Rattle.thread_cluster.specs.Knowing.{IsShownBy}
 use Rattle.thread_cluster.specs.Messages.{Looks}
 use Rattle.thread_clients.specs.Sessions.{Session, Meaning}
-use Rattle.thread_clients.specs.Turns.{TakesOn, HasHeard, WasFull, IsHeardOrFull, IsUnfinished, HasHeardAnswers, HasFound, HasWaited}
+use Rattle.thread_clients.specs.Turns.{TakesOn, HasHeard, WasFull, IsHeardOrFull, IsUnfinished, HasHeardAnswers, HasFound, HasLooked, HasWaited, most_turns}
 use Rattle.thread_clients.proofs.Turned.{takes_self, takes_seen, takes_trans, heard_wider, full_wider, heard_takes}
 
 pub is_unfinished : (seen : Look) → ((result : OperationResult) → seen ≡ look.Finished result → ⊥) → IsUnfinished seen
@@ -42,11 +42,16 @@ module _ {T K Kind Delta : Type 0} {data_of : Data T Kind Op Delta} {keeping : K
   waited_more turns a b c d seen before (inr was) shown unfinished waited = full (full_wider meaning ids a b c d before was (takes_seen ids c d shown.shown.sees))
 
   -- after two turns or more
-  pub waited_long : (turns : ℕ) (old new : Session data_of keeping) → 2 ≤ turns → Waited turns old new → HasWaited meaning ids id op old new None
-  waited_long turns old new long (not_yet none) = absurd (omega arith)
-  waited_long turns old new long (once one heard) = absurd (omega arith)
-  waited_long turns old new long (answered all) = inl all
-  waited_long turns old new long (full was) = inr was
+  answered_or_full : (turns : ℕ) (old new : Session data_of keeping) → 2 ≤ turns → Waited turns old new → HasHeardAnswers meaning ids id op old new ⊎ WasFull meaning ids old new
+  answered_or_full turns old new long (not_yet none) = absurd (omega arith)
+  answered_or_full turns old new long (once one heard) = absurd (omega arith)
+  answered_or_full turns old new long (answered all) = inl all
+  answered_or_full turns old new long (full was) = inr was
+
+  -- after all turns
+  pub waited_long : (turns : ℕ) (old new : Session data_of keeping) → turns ≡ most_turns → HasLooked meaning ids id op old turns new → Waited turns old new → HasWaited meaning ids id op old new None
+  waited_long turns old new long looked waited =
+      record { looked = subst (λ (n : ℕ). HasLooked meaning ids id op old n new) long looked; waited = answered_or_full turns old new (omega (long, arith)) waited }
 
   -- a turn, with a look that found it finished
   pub found_now : (a b c d : Session data_of keeping) (seen : Look) (result : OperationResult) → TakesOn ids a b → IsHeardOrFull meaning ids b c → IsShownBy meaning ids id Looks op c d seen → seen ≡ look.Finished result → HasFound meaning ids id op a d result

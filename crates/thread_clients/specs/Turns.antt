@@ -3,7 +3,8 @@
 --     HasHeard, WasFull, IsHeardOrFull        a turn among them; or one that found a history full
 --     HasFound        a look found an operation finished
 --     IsUnfinished, HasHeardAnswers, MayGiveUp        what a client knows of an operation when it calls its timeout
-use Rattle.std.specs.Prelude.{ℕ, ◌⊎◌, Option, None, Some}
+--     HasLooked, HasWaited        how many turns a client makes for an operation before it gives it up
+use Rattle.std.specs.Prelude.{ℕ, ◌+◌, ◌⊎◌, Option, None, Some}
 use Rattle.model_kinds.specs.declared.operation.Op.{Op}
 use Rattle.data_lattice.specs.declared.replica.Replica.{Ghosts as Data}
 use Rattle.member_keeper.specs.declared.keeper.Keeper.{Ghosts as Keeping}
@@ -17,6 +18,10 @@ use Rattle.thread_cluster.specs.Turning.{HasBegun, HasTurnedAll}
 use Rattle.thread_cluster.specs.Messages.{messages_to, messages_of, Looks}
 use Rattle.thread_cluster.specs.Refusals.{IsFullSomewhere}
 use Rattle.thread_clients.specs.Sessions.{Session, Meaning}
+
+-- how many turns a client makes for an operation
+abbrev pub most_turns : ℕ
+most_turns = 64
 
 -- the look did not find the operation finished
 abbrev pub IsUnfinished : Look → Type 0
@@ -60,10 +65,21 @@ module _ {T K Kind Delta : Type 0} {data_of : Data T Kind Op Delta} {keeping : K
     pub heard : IsHeardOrFull old before
     pub shown : IsShownBy meaning ids id Looks op before new (look.Finished result)
 
-  -- a look found the operation finished; or none did, though all that was asked was answered, or a history was full
+  -- so many turns, each with a look after it that did not find the operation finished
+  pub data HasLooked (id op : ℕ) (first : Session data_of keeping) : ℕ → Session data_of keeping → Type 0 where
+    none_yet : HasLooked id op first 0 first
+    once_more : (turns : ℕ) (old heard new : Session data_of keeping) (seen : Look)
+        → HasLooked id op first turns old → IsHeardOrFull old heard → IsShownBy meaning ids id Looks op heard new seen → IsUnfinished seen → HasLooked id op first (turns + 1) new
+
+  -- all that was asked was answered, or a history was full, and still none of the most turns that a client makes found the operation finished
+  pub record HasWaitedLong (id op : ℕ) (old new : Session data_of keeping) : Type 0 where
+    pub looked : HasLooked id op old most_turns new
+    pub waited : HasHeardAnswers id op old new ⊎ WasFull old new
+
+  -- a look found the operation finished, or none did
   abbrev pub HasWaited : ℕ → ℕ → Session data_of keeping → Session data_of keeping → Option OperationResult → Type 0
   HasWaited id op old new (Some result) = HasFound id op old new result
-  HasWaited id op old new None = HasHeardAnswers id op old new ⊎ WasFull old new
+  HasWaited id op old new None = HasWaitedLong id op old new
 
   -- WHEN A CLIENT CALLS A TIMEOUT
   pub record MayGiveUp (id op : ℕ) (old new : Session data_of keeping) : Type 0 where
