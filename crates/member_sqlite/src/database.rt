@@ -86,12 +86,6 @@ impl Database {
     {
         clear_rows(&mut self.conn)
     }
-
-    /// Runs any statement.
-    #[cfg(test)]
-    pub(crate) fn run(&mut self, sql: &str) -> Result<usize, Refusal> {
-        run(&mut self.conn, sql)
-    }
 }
 
 /// Makes the table, and prepares the two statements that put an entry.

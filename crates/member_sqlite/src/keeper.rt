@@ -44,15 +44,6 @@ impl SqliteKeeper {
             faults: 0,
         }
     }
-
-    /// Runs a statement on the database behind the keeper, and answers whether it was run.
-    #[cfg(test)]
-    pub(crate) fn run(&mut self, sql: &str) -> bool {
-        match &mut self.database {
-            Some(database) => database.run(sql).is_ok(),
-            None => false,
-        }
-    }
 }
 
 impl Keeper for SqliteKeeper {

@@ -25,8 +25,6 @@ mod opening;
 mod rows;
 mod statements;
 mod store_keeper;
-#[cfg(test)]
-mod tests;
 mod together;
 mod told;
 mod writes;

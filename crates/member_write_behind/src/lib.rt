@@ -13,8 +13,6 @@
 #![tactic(auto)]
 
 mod calls;
-#[cfg(test)]
-mod tests;
 mod write_behind;
 
 pub use calls::{Answered, Answers, StoreCall, StoredList};

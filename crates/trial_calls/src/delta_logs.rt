@@ -2,12 +2,12 @@
 
 ghost use Rattle.std.specs.Prelude.{◌≡◌, ◌≤◌, IfSome};
 
+use crate::same::same;
 use base_bytes::Memory;
 use base_vectors::{Id, Seq, VersionVector};
 use data_counters::{Amount, GCounter, Share};
 use data_deltalog::{DeltaLog, Grouped};
 use std::alloc::Global;
-use std::process::Abort;
 use std::test::Fail;
 
 /// What the maker of the records had before one of them: its earlier ones, and of another two more each time.
@@ -77,44 +77,36 @@ fn makers() -> Option<(Id, Id)> {
     Some((Id::new(3)?, Id::new(0)?))
 }
 
-/// What a log answers after a number.
-fn answer(
-    alloc: Global,
-    log: &DeltaLog<GCounter>,
-    after: Seq,
-) -> Result<(&'static str, [u64; 5]), Fail> {
-    let (origin, other) = makers().ok_or("identities")?;
-    let grouped = log.group(alloc, after)?;
-    Ok(spelled(&grouped, origin, other))
-}
+/// A number, and what a log answers after it.
+type Row = (Seq, &'static str, [u64; 5]);
 
-/// A log answers so after each of these numbers.
-fn check_answers(
-    rt: &impl Abort,
+/// A log answers so after this number.
+fn check_answer(
     alloc: Global,
     log: &DeltaLog<GCounter>,
-    rows: &[(Seq, &str, [u64; 5])],
+    origin: Id,
+    other: Id,
+    row: &Row,
 ) -> Result<(), Fail> {
-    for (after, wanted, numbers) in rows {
-        let answer = answer(alloc, log, *after)?;
-        assert_eq!(rt; answer, (*wanted, *numbers), "after {after}");
-    }
-    Ok(())
+    let (after, wanted, numbers) = row;
+    let grouped = log.group(alloc, *after)?;
+    same(
+        &spelled(&grouped, origin, other),
+        &(*wanted, *numbers),
+        "the answer of a log",
+    )
 }
 
 /// A log of so many records, of which one number is a prune, answers so after each of these numbers.
-fn check_groups(
-    rt: &impl Abort,
-    alloc: Global,
-    last: Seq,
-    prune: Seq,
-    rows: &[(Seq, &str, [u64; 5])],
-) -> Result<(), Fail>
+fn check_groups(alloc: Global, last: Seq, prune: Seq, rows: &[Row]) -> Result<(), Fail>
     requires { last ≤ 1000 }
 {
     let (origin, other) = makers().ok_or("identities")?;
     let log = filled(alloc, origin, other, last, prune)?;
-    check_answers(rt, alloc, &log, rows)
+    for row in rows {
+        check_answer(alloc, &log, origin, other, row)?;
+    }
+    Ok(())
 }
 
 #[test]
@@ -124,17 +116,17 @@ fn fifty_records_go_as_one_group(rt: HostRuntime) -> Result<(), Fail> {
         (49, "group", [49, 50, 49, 100, 50]),
         (50, "nothing", [0; 5]),
     ];
-    check_groups(&rt, rt.alloc(), 50, 0, &rows)
+    check_groups(rt.alloc(), 50, 0, &rows)
 }
 
 #[test]
 fn of_fifty_one_records_the_first_is_gone(rt: HostRuntime) -> Result<(), Fail> {
     let rows = [(0, "too old", [0; 5]), (1, "group", [1, 51, 1, 102, 51])];
-    check_groups(&rt, rt.alloc(), 51, 0, &rows)
+    check_groups(rt.alloc(), 51, 0, &rows)
 }
 
 #[test]
 fn a_prune_goes_in_no_group(rt: HostRuntime) -> Result<(), Fail> {
     let rows = [(3, "no delta", [0; 5]), (4, "group", [4, 9, 4, 18, 9])];
-    check_groups(&rt, rt.alloc(), 9, 4, &rows)
+    check_groups(rt.alloc(), 9, 4, &rows)
 }

@@ -1,5 +1,6 @@
 //! Generated scripts and their text.
 
+use crate::same::{holds, same};
 use script_generated::{generated, generated_text};
 use script_reading::{RunStep, Script, Step};
 use std::test::Fail;
@@ -23,8 +24,11 @@ const EIGHT: &str = r#"{"at":1,"by":1,"do":"update","key":"hits","op":"increment
 #[test]
 fn writes_the_script_of_one_step(rt: HostRuntime) -> Result<(), Fail> {
     let text = generated_text(rt.alloc(), 1)?;
-    assert_eq!(rt; text.strip_suffix("\n"), Some(ONE));
-    Ok(())
+    same(
+        &text.strip_suffix("\n"),
+        &Some(ONE),
+        "the script of one step",
+    )
 }
 
 #[test]
@@ -32,8 +36,7 @@ fn writes_each_form_of_step(rt: HostRuntime) -> Result<(), Fail> {
     let text = generated_text(rt.alloc(), 8)?;
     let steps = EIGHT.replace(rt.alloc(), "\n", ",")?;
     let end = format!(in rt.alloc(); "\"steps\":[{steps}]}}\n")?;
-    assert!(rt; text.ends_with(end.as_str()));
-    Ok(())
+    holds(text.ends_with(end.as_str()), "the steps of eight")
 }
 
 /// How many members, keys and steps a script has, and whether its last step is a settle.
@@ -53,6 +56,5 @@ fn shape(script: &Script) -> (u8, usize, usize, bool) {
 #[test]
 fn makes_the_steps_that_it_writes(rt: HostRuntime) -> Result<(), Fail> {
     let script = generated(rt.alloc(), 8)?;
-    assert_eq!(rt; shape(&script), (5, 4, 10, true));
-    Ok(())
+    same(&shape(&script), &(5, 4, 10, true), "the script of eight")
 }

@@ -2,11 +2,11 @@
 
 ghost use Rattle.member_keeper.specs.Calls.{IsCaused};
 
+use crate::same::{holds, same};
 use base_bytes::{Items, Text};
 use member_keeper::{Keeper, KeeperError, MemoryKeeper, Stored};
 use std::alloc::Global;
 use std::mem;
-use std::process::Abort;
 use std::test::Fail;
 
 fn entry(alloc: Global, key: &str, bytes: &[u8]) -> Result<Stored, Fail> {
@@ -20,7 +20,7 @@ fn entry(alloc: Global, key: &str, bytes: &[u8]) -> Result<Stored, Fail> {
 }
 
 /// Under each key one byte.
-fn entries(alloc: Global, rows: &[(&str, u8)]) -> Result<Vec<Stored>, Fail> {
+pub(crate) fn entries(alloc: Global, rows: &[(&str, u8)]) -> Result<Vec<Stored>, Fail> {
     let mut entries = Vec::new(alloc);
     for (key, byte) in rows {
         let entry = entry(alloc, key, &[*byte])?;
@@ -30,8 +30,8 @@ fn entries(alloc: Global, rows: &[(&str, u8)]) -> Result<Vec<Stored>, Fail> {
 }
 
 /// A call of a keeper, and the entries that it is to store.
-#[derive(Clone, Copy, Debug)]
-enum Call<'a> {
+#[derive(Clone, Copy)]
+pub(crate) enum Call<'a> {
     Store(&'a [(&'a str, u8)]),
     Load,
     Clear,
@@ -58,37 +58,42 @@ fn answer<K: Keeper>(
 }
 
 /// A keeper answers these calls so, one after the other.
-fn check_answers<K: Keeper>(
-    rt: &impl Abort,
+pub(crate) fn check_answers<K: Keeper>(
     alloc: Global,
     keeper: &mut K,
     rows: &[(Call, Result<(), KeeperError>)],
 ) -> Result<(), Fail> {
     for (call, wanted) in rows {
-        let answer = answer(alloc, keeper, *call)?;
-        assert_eq!(rt; answer, *wanted, "to {call:?}");
+        same(
+            &answer(alloc, keeper, *call)?,
+            wanted,
+            "what a keeper answers",
+        )?;
     }
     Ok(())
 }
 
 /// An entry has this key, and this one byte.
-fn check_entry(rt: &impl Abort, entry: &Stored, key: &str, byte: u8) {
-    assert_eq!(rt; entry.key.as_str(), key);
-    assert_eq!(rt; entry.bytes.as_slice(), [byte].as_slice());
+fn check_entry(entry: &Stored, key: &str, byte: u8) -> Result<(), Fail> {
+    same(
+        &(entry.key.as_str(), entry.bytes.as_slice()),
+        &(key, [byte].as_slice()),
+        "an entry that is loaded",
+    )
+}
+
+/// The entries are these bytes under these keys.
+pub(crate) fn check_entries(entries: &[Stored], wanted: &[(&str, u8)]) -> Result<(), Fail> {
+    holds(entries.len() == wanted.len(), "how many are loaded")?;
+    for ((key, byte), entry) in wanted.iter().zip(entries) {
+        check_entry(entry, key, *byte)?;
+    }
+    Ok(())
 }
 
 /// A load gives these bytes under these keys.
-fn check_load<K: Keeper>(
-    rt: &impl Abort,
-    keeper: &mut K,
-    wanted: &[(&str, u8)],
-) -> Result<(), Fail> {
-    let loaded = keeper.load()?;
-    assert_eq!(rt; loaded.len(), wanted.len());
-    for ((key, byte), entry) in wanted.iter().zip(&loaded) {
-        check_entry(rt, entry, key, *byte);
-    }
-    Ok(())
+pub(crate) fn check_load<K: Keeper>(keeper: &mut K, wanted: &[(&str, u8)]) -> Result<(), Fail> {
+    check_entries(&keeper.load()?, wanted)
 }
 
 /// Stores under each key one byte.
@@ -100,7 +105,6 @@ fn store<K: Keeper>(alloc: Global, keeper: &mut K, rows: &[(&str, u8)]) -> Resul
 
 /// After `a` was stored with 1, and then `b` with 3 and `a` with 2, a load gives the first entries, and one after a clear the others.
 fn check_loads<K: Keeper>(
-    rt: &impl Abort,
     alloc: Global,
     keeper: &mut K,
     filled: &[(&str, u8)],
@@ -108,9 +112,9 @@ fn check_loads<K: Keeper>(
 ) -> Result<(), Fail> {
     store(alloc, keeper, &[("a", 1)])?;
     store(alloc, keeper, &[("b", 3), ("a", 2)])?;
-    check_load(rt, keeper, filled)?;
+    check_load(keeper, filled)?;
     keeper.clear()?;
-    check_load(rt, keeper, cleared)
+    check_load(keeper, cleared)
 }
 
 /// Fails at every call.
@@ -188,11 +192,11 @@ impl Keeper for Late {
 fn keeps_the_last_bytes_of_each_key(rt: HostRuntime) -> Result<(), Fail> {
     let alloc = rt.alloc();
     let mut keeper = MemoryKeeper::new(alloc, Vec::new(alloc));
-    check_loads(&rt, alloc, &mut keeper, &[("a", 2), ("b", 3)], &[])
+    check_loads(alloc, &mut keeper, &[("a", 2), ("b", 3)], &[])
 }
 
 /// A keeper that fails at three of its first six calls answers so, and keeps what the others stored.
-fn check_named(rt: &impl Abort, alloc: Global, keeper: &mut MemoryKeeper) -> Result<(), Fail> {
+fn check_named(alloc: Global, keeper: &mut MemoryKeeper) -> Result<(), Fail> {
     let rows = [
         (Call::Clear, Ok(())),
         (Call::Store(&[("b", 1)]), Ok(())),
@@ -201,16 +205,15 @@ fn check_named(rt: &impl Abort, alloc: Global, keeper: &mut MemoryKeeper) -> Res
         (Call::Store(&[("a", 2)]), Ok(())),
         (Call::Clear, Err(KeeperError::Failed)),
     ];
-    check_answers(rt, alloc, keeper, &rows)?;
-    assert_eq!(rt; keeper.entries().len(), 2);
-    Ok(())
+    check_answers(alloc, keeper, &rows)?;
+    holds(keeper.entries().len() == 2, "what the keeper has")
 }
 
 #[test]
 fn fails_at_the_calls_named(rt: HostRuntime) -> Result<(), Fail> {
     let failing = vec![in rt.alloc(); 3, 2, 5]?;
     let mut keeper = MemoryKeeper::new(rt.alloc(), failing);
-    check_named(&rt, rt.alloc(), &mut keeper)
+    check_named(rt.alloc(), &mut keeper)
 }
 
 #[test]
@@ -221,9 +224,8 @@ fn a_broken_keeper_takes_nothing(rt: HostRuntime) -> Result<(), Fail> {
         (Call::Load, Err(KeeperError::Failed)),
         (Call::Clear, Err(KeeperError::Failed)),
     ];
-    check_answers(&rt, rt.alloc(), &mut keeper, &rows)?;
-    assert_eq!(rt; keeper.faults, 3);
-    Ok(())
+    check_answers(rt.alloc(), &mut keeper, &rows)?;
+    holds(keeper.faults == 3, "how often a keeper failed")
 }
 
 #[test]
@@ -233,5 +235,5 @@ fn a_late_keeper_gives_what_it_had(rt: HostRuntime) -> Result<(), Fail> {
         taken: MemoryKeeper::new(alloc, Vec::new(alloc)),
         shown: Vec::new(alloc),
     };
-    check_loads(&rt, alloc, &mut keeper, &[], &[("a", 2), ("b", 3)])
+    check_loads(alloc, &mut keeper, &[], &[("a", 2), ("b", 3)])
 }

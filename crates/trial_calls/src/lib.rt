@@ -8,6 +8,8 @@ mod delta_logs;
 #[cfg(test)]
 mod fields;
 #[cfg(test)]
+mod gathering;
+#[cfg(test)]
 mod generated;
 #[cfg(test)]
 mod keepers;
@@ -17,6 +19,8 @@ mod levels;
 mod markers;
 #[cfg(test)]
 mod meanings;
+#[cfg(test)]
+mod same;
 #[cfg(test)]
 mod scripts;
 #[cfg(test)]

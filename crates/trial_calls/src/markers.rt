@@ -2,10 +2,10 @@
 
 ghost use Rattle.std.specs.Prelude.{◌≡◌};
 
+use crate::same::{holds, same};
 use base_vectors::{Id, IdSet};
 use data_markers::{Marker, Markers};
 use std::alloc::Global;
-use std::process::Abort;
 use std::test::Fail;
 
 /// The owner of the marks, another member, and the identity that was removed.
@@ -34,34 +34,36 @@ fn put_both(marks: &mut Markers, theirs: &mut Markers) -> Result<(), Fail> {
 }
 
 /// The mark of view 2, which only its owner has seen, wins.
-fn check_begun(rt: &impl Abort, marks: &Markers) -> Result<(), Fail> {
+fn check_begun(marks: &Markers) -> Result<(), Fail> {
     let (owner, other, removed) = identities().ok_or("identities")?;
     let newer = Marker::Initialized {
         view: 2,
         owner,
         seen: IdSet::empty().with(owner),
     };
-    assert_eq!(rt; marks.get(removed), Some(newer));
-    assert_eq!(rt; marks.first_unseen(removed, &[owner, other]), Some(other));
-    Ok(())
+    if marks.get(removed) != Some(newer) {
+        return Err("the mark of view 2".into());
+    }
+    same(
+        &marks.first_unseen(removed, &[owner, other]),
+        &Some(other),
+        "who has not seen it",
+    )
 }
 
 /// The other member sees the mark of view 2, and not one of view 1.
-fn check_seen(rt: &impl Abort, marks: &mut Markers, theirs: &Markers) -> Result<(), Fail> {
+fn check_seen(marks: &mut Markers, theirs: &Markers) -> Result<(), Fail> {
     let (_, other, removed) = identities().ok_or("identities")?;
-    assert!(rt; !marks.add_seen(other, 1));
-    assert!(rt; marks.add_seen(other, 2));
-    assert!(rt; !marks.same_begun(theirs, removed));
-    Ok(())
+    let before = marks.add_seen(other, 1);
+    let seen = marks.add_seen(other, 2);
+    holds(
+        !before && seen && !marks.same_begun(theirs, removed),
+        "who has seen which mark",
+    )
 }
 
 /// The mark of a prune wins over what was there.
-fn check_performed(
-    rt: &impl Abort,
-    alloc: Global,
-    marks: &mut Markers,
-    theirs: &mut Markers,
-) -> Result<(), Fail> {
+fn check_performed(alloc: Global, marks: &mut Markers, theirs: &mut Markers) -> Result<(), Fail> {
     let (owner, _, removed) = identities().ok_or("identities")?;
     let done = Marker::Performed {
         owner,
@@ -70,9 +72,12 @@ fn check_performed(
     };
     theirs.put(removed, done)?;
     marks.merge(theirs)?;
-    assert_eq!(rt; marks.copy(alloc)?.get(removed), Some(done));
-    assert!(rt; marks.performed(removed));
-    Ok(())
+    holds(marks.performed(removed), "a prune that was performed")?;
+    same(
+        &marks.copy(alloc)?.get(removed),
+        &Some(done),
+        "the mark of the prune",
+    )
 }
 
 #[test]
@@ -81,7 +86,7 @@ fn the_greater_view_wins_and_then_the_prune(rt: HostRuntime) -> Result<(), Fail>
     let mut marks = Markers::new(alloc);
     let mut theirs = Markers::new(alloc);
     put_both(&mut marks, &mut theirs)?;
-    check_begun(&rt, &marks)?;
-    check_seen(&rt, &mut marks, &theirs)?;
-    check_performed(&rt, alloc, &mut marks, &mut theirs)
+    check_begun(&marks)?;
+    check_seen(&mut marks, &theirs)?;
+    check_performed(alloc, &mut marks, &mut theirs)
 }

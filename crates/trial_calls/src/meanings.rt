@@ -1,5 +1,6 @@
 //! Meanings of lists of records.
 
+use crate::same::holds;
 use base_bytes::Text;
 use base_vectors::{Id, VersionVector};
 use data_meaning::{Action, Record, meaning};
@@ -122,9 +123,9 @@ fn elements_after_prune(alloc: Global, seen: Counts) -> Result<usize, Fail> {
 #[test]
 fn a_prune_adds_again_what_was_live_and_nothing_else(rt: HostRuntime) -> Result<(), Fail> {
     let alloc = rt.alloc();
-    assert_eq!(rt; elements_after_prune(alloc, NOTHING)?, 1);
-    assert_eq!(rt; elements_after_prune(alloc, FIRST_ADD)?, 0);
-    Ok(())
+    let live = elements_after_prune(alloc, NOTHING)?;
+    let gone = elements_after_prune(alloc, FIRST_ADD)?;
+    holds(live == 1 && gone == 0, "elements after a prune")
 }
 
 #[test]
@@ -133,6 +134,5 @@ fn of_two_writes_at_one_timestamp_the_least_origin_wins(rt: HostRuntime) -> Resu
         (3, 1, Act::Assign("high", 7), NOTHING),
         (2, 1, Act::Assign("low", 7), NOTHING),
     ];
-    assert!(rt; shows(rt.alloc(), &rows, "low")?);
-    Ok(())
+    holds(shows(rt.alloc(), &rows, "low")?, "which write wins")
 }

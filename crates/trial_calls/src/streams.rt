@@ -2,12 +2,12 @@
 
 ghost use Rattle.std.specs.Prelude.{◌≤◌, ◌<◌};
 
+use crate::same::{holds, same};
 use base_outside::{
     MemorySink, MemorySource, ReadAllError, StdSink, StdSource, WriteFailed, read_all, write_all_of,
 };
 use std::alloc::Global;
 use std::io::Write;
-use std::process::Abort;
 use std::test::Fail;
 
 const TEXT: &[u8] = b"0123456789";
@@ -23,7 +23,6 @@ fn source(alloc: Global, piece: usize, failing: &[u64]) -> Result<MemorySource, 
 
 /// Of such a source this is read, within so many bytes.
 fn check_read(
-    rt: &impl Abort,
     alloc: Global,
     piece: usize,
     failing: &[u64],
@@ -39,8 +38,7 @@ fn check_read(
         Ok(bytes) => Ok(bytes.as_slice()),
         Err(error) => Err(*error),
     };
-    assert_eq!(rt; told, wanted, "at piece {piece} and limit {limit}");
-    Ok(())
+    same(&told, &wanted, "what is read in pieces")
 }
 
 #[test]
@@ -59,14 +57,13 @@ fn reads_to_the_end(rt: HostRuntime) -> Result<(), Fail> {
         (3, third, 5, Err(ReadAllError::TooLong)),
     ];
     for (piece, failing, limit, wanted) in rows {
-        check_read(&rt, rt.alloc(), piece, failing, limit, wanted)?;
+        check_read(rt.alloc(), piece, failing, limit, wanted)?;
     }
     Ok(())
 }
 
 /// So much of the text is written to a sink that takes so many bytes a call and fails at these calls.
 fn check_write(
-    rt: &impl Abort,
     alloc: Global,
     piece: usize,
     failing: &[u64],
@@ -77,8 +74,11 @@ fn check_write(
 {
     let mut sink = MemorySink::new(alloc, piece, Vec::from_slice(alloc, failing)?);
     let answer = write_all_of(&mut sink, TEXT);
-    assert_eq!(rt; (answer, sink.bytes()), (wanted, written));
-    Ok(())
+    same(
+        &(answer, sink.bytes()),
+        &(wanted, written),
+        "what is written in pieces",
+    )
 }
 
 #[test]
@@ -92,7 +92,7 @@ fn writes_in_pieces(rt: HostRuntime) -> Result<(), Fail> {
         (9, second, Err(WriteFailed), b"012345678"),
     ];
     for (piece, failing, wanted, written) in rows {
-        check_write(&rt, rt.alloc(), piece, failing, wanted, written)?;
+        check_write(rt.alloc(), piece, failing, wanted, written)?;
     }
     Ok(())
 }
@@ -101,24 +101,30 @@ fn writes_in_pieces(rt: HostRuntime) -> Result<(), Fail> {
 fn goes_on_after_a_failed_call(rt: HostRuntime) -> Result<(), Fail> {
     let alloc = rt.alloc();
     let mut source = source(alloc, 4, &[1])?;
-    assert_eq!(rt;
-        read_all(alloc, &mut source, 10).err(),
-        Some(ReadAllError::ReadFailed)
-    );
-    let rest = read_all(alloc, &mut source, 10)?;
-    assert_eq!(rt; rest.as_slice(), b"456789".as_slice());
-    Ok(())
+    let failed = read_all(alloc, &mut source, 10).err();
+    holds(
+        failed == Some(ReadAllError::ReadFailed),
+        "a call that fails",
+    )?;
+    same(
+        &read_all(alloc, &mut source, 10)?.as_slice(),
+        &b"456789".as_slice(),
+        "what is read after it",
+    )
 }
 
 /// A sink over a writer answers so, handed these bytes.
 fn check_std_sink<W: Write + Drop>(
-    rt: &impl Abort,
     writer: W,
     bytes: &[u8],
     wanted: Result<(), WriteFailed>,
-) {
+) -> Result<(), Fail> {
     let mut sink = StdSink::new(writer);
-    assert_eq!(rt; write_all_of(&mut sink, bytes), wanted);
+    same(
+        &write_all_of(&mut sink, bytes),
+        &wanted,
+        "a sink over a writer",
+    )
 }
 
 #[test]
@@ -126,9 +132,8 @@ fn adapts_the_standard_library(rt: HostRuntime) -> Result<(), Fail> {
     let alloc = rt.alloc();
     let mut source = StdSource::new(TEXT);
     let bytes = read_all(alloc, &mut source, 10)?;
-    assert_eq!(rt; bytes.as_slice(), TEXT);
-    check_std_sink(&rt, Vec::new(alloc), &bytes, Ok(()));
+    same(&bytes.as_slice(), &TEXT, "a source over a reader")?;
+    check_std_sink(Vec::new(alloc), &bytes, Ok(()))?;
     let mut room = [0u8; 4];
-    check_std_sink(&rt, room.as_mut_slice(), &bytes, Err(WriteFailed));
-    Ok(())
+    check_std_sink(room.as_mut_slice(), &bytes, Err(WriteFailed))
 }

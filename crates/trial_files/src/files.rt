@@ -1,5 +1,6 @@
 //! Files of a test, in a folder of its own.
 
+use crate::calls::{Call, told};
 use member_sqlite::{FileKeeper, OpenError};
 use sqlite::{Connection, Error};
 use std::fs;
@@ -16,14 +17,20 @@ pub(crate) fn leave(rt: &HostRuntime, name: &str) -> Result<(), Fail> {
     Ok(fs::remove_dir_all(rt, name)?)
 }
 
-/// A keeper over the file at a path.
-pub(crate) fn open(rt: &HostRuntime, path: &str) -> Result<FileKeeper, Fail> {
-    Ok(FileKeeper::open(rt, path)?)
+/// Opens the file at a path, makes calls of the keeper, drops it, and tells what was answered.
+pub(crate) fn played(rt: &HostRuntime, path: &str, calls: &[Call]) -> Result<String, Fail> {
+    match FileKeeper::open(rt, path) {
+        Ok(keeper) => told(rt.alloc(), keeper, calls),
+        Err(why) => Err(why.into()),
+    }
 }
 
-/// Why there is no keeper over the file at a path.
-pub(crate) fn refusal(rt: &HostRuntime, path: &str) -> Option<OpenError> {
-    FileKeeper::open(rt, path).err()
+/// Opens the file at a path and closes it: it has by itself then what its log had.
+pub(crate) fn close(rt: &HostRuntime, path: &str) -> Result<(), OpenError> {
+    match FileKeeper::open(rt, path) {
+        Ok(keeper) => keeper.close(),
+        Err(why) => Err(why),
+    }
 }
 
 /// Has the database at a path run statements, as another program would.
@@ -31,10 +38,4 @@ pub(crate) fn run(rt: &HostRuntime, path: &str, sql: &str) -> Result<(), Error> 
     let mut conn = Connection::open(rt, path)?;
     conn.execute_batch(sql)?;
     conn.close()
-}
-
-/// What the database at a path answers to a query for a number.
-pub(crate) fn number(rt: &HostRuntime, path: &str, sql: &str) -> Result<i64, Error> {
-    let mut conn = Connection::open(rt, path)?;
-    conn.query_row(sql, &[])?.get(0)
 }

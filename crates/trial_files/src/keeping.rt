@@ -1,64 +1,62 @@
-//! What was stored is there after the file was opened again.
+//! What was stored is loaded, and what was stored in a file is there after it was opened again.
 
-use crate::entries::{entry, kept, store};
-use crate::files::{folder, leave, open};
-use member_keeper::Keeper;
+use crate::calls::{Call, told};
+use crate::files::{close, folder, leave, played};
+use member_sqlite::SqliteKeeper;
 use std::fs;
 use std::test::Fail;
 
-/// What a keeper has that is opened at a path.
-fn found(rt: &HostRuntime, path: &str) -> Result<String, Fail> {
-    let mut keeper = open(rt, path)?;
-    kept(rt.alloc(), &mut keeper)
-}
-
-/// Stores one entry, and then two in one call, and drops the keeper: the log stays beside the file.
-fn fill(rt: &HostRuntime, path: &str) -> Result<(), Fail> {
-    let mut keeper = open(rt, path)?;
-    store(rt.alloc(), &mut keeper, "b", 3)?;
-    let both = [
-        entry(rt.alloc(), "a", 1, 300)?,
-        entry(rt.alloc(), "b", 2, 5000)?,
+#[test]
+fn keeps_the_last_bytes_of_each_key(rt: HostRuntime) -> Result<(), Fail> {
+    let calls = [
+        Call::Store(&[("b", 3, 3)]),
+        Call::Store(&[("b", 2, 5000), ("a", 1, 300)]),
+        Call::Load,
+        Call::Clear,
+        Call::Load,
     ];
-    Ok(keeper.store(&both)?)
+    let told = told(rt.alloc(), SqliteKeeper::in_memory(rt.alloc()), &calls)?;
+    assert_eq!(rt; told.as_str(), "done;done;a=1*300 b=2*5000 ;done;;");
+    Ok(())
 }
 
-/// Stores one more and closes the keeper: the file alone has all.
-fn close(rt: &HostRuntime, path: &str) -> Result<(), Fail> {
-    let mut keeper = open(rt, path)?;
-    store(rt.alloc(), &mut keeper, "c", 7)?;
-    Ok(keeper.close()?)
-}
-
-/// Clears, and stores one.
-fn begin_again(rt: &HostRuntime, path: &str) -> Result<(), Fail> {
-    let mut keeper = open(rt, path)?;
-    keeper.clear()?;
-    store(rt.alloc(), &mut keeper, "d", 4)
+/// What the file at a path has.
+fn loaded(rt: &HostRuntime, path: &str) -> Result<String, Fail> {
+    played(rt, path, &[Call::Load])
 }
 
 #[test]
 fn what_was_stored_is_there_again(rt: HostRuntime) -> Result<(), Fail> {
     folder(&rt, "kept_files")?;
-    fill(&rt, "kept_files/a.db")?;
-    assert_eq!(rt; found(&rt, "kept_files/a.db")?.as_str(), "a1b2");
+    let path = "kept_files/a.db";
+    played(
+        &rt,
+        path,
+        &[
+            Call::Store(&[("b", 3, 3)]),
+            Call::Store(&[("a", 1, 300), ("b", 2, 5000)]),
+        ],
+    )?;
+    assert_eq!(rt; loaded(&rt, path)?.as_str(), "a=1*300 b=2*5000 ;");
     leave(&rt, "kept_files")
 }
 
 #[test]
 fn a_closed_file_has_all_by_itself(rt: HostRuntime) -> Result<(), Fail> {
     folder(&rt, "closed_files")?;
+    played(&rt, "closed_files/a.db", &[Call::Store(&[("c", 7, 3)])])?;
     close(&rt, "closed_files/a.db")?;
     fs::copy(&rt, "closed_files/a.db", "closed_files/b.db")?;
-    assert_eq!(rt; found(&rt, "closed_files/b.db")?.as_str(), "c7");
+    assert_eq!(rt; loaded(&rt, "closed_files/b.db")?.as_str(), "c=7*3 ;");
     leave(&rt, "closed_files")
 }
 
 #[test]
 fn what_was_cleared_is_gone(rt: HostRuntime) -> Result<(), Fail> {
     folder(&rt, "cleared_files")?;
-    fill(&rt, "cleared_files/a.db")?;
-    begin_again(&rt, "cleared_files/a.db")?;
-    assert_eq!(rt; found(&rt, "cleared_files/a.db")?.as_str(), "d4");
+    let path = "cleared_files/a.db";
+    played(&rt, path, &[Call::Store(&[("a", 1, 3), ("b", 2, 3)])])?;
+    played(&rt, path, &[Call::Clear, Call::Store(&[("d", 4, 3)])])?;
+    assert_eq!(rt; loaded(&rt, path)?.as_str(), "d=4*3 ;");
     leave(&rt, "cleared_files")
 }

@@ -1,8 +1,8 @@
-//! Trials: keepers over files, and what they say of files that are damaged, cut, of another version, in use, or none of theirs.
+//! Trials: keepers over sqlite, in memory and over files, that are opened again, in use, or over a database that refuses.
 #![tactic(auto)]
 
 #[cfg(test)]
-mod entries;
+mod calls;
 #[cfg(test)]
 mod files;
 #[cfg(test)]
