@@ -223,7 +223,7 @@ type Twenty<'a> = (u64, u8, &'a str, &'a [(u8, u64, u64)]);
 const ALL: &str = "d 20 known 0:8 1:7 2:5 marks -";
 
 // Three stores are handed on together: with those of steps 3, 6, 10, 13, 16 and 20, unless one fails, with the next then. Loads are made at 9 and 17.
-const TWENTY: [Twenty; 10] = [
+const TWENTY: &[Twenty] = &[
     (1, 3, ALL, &[(0, 8, 8), (1, 7, 7), (2, 5, 5)]),
     (2, 6, ALL, &[(0, 8, 8), (1, 7, 7), (2, 5, 5)]),
     (3, 9, "d 8 known 0:8 marks -", &[(0, 8, 8)]),
@@ -246,10 +246,10 @@ fn each_call_of_the_keeper_inside_fails(rt: HostRuntime) -> Result<(), Fail> {
     let alloc = rt.alloc();
     let script = twenty(alloc)?;
     for (call, failed, line, counts) in TWENTY {
-        let keepers = keepers(alloc, 0, &[call])?;
+        let keepers = keepers(alloc, 0, &[*call])?;
         let answer = called_for(alloc, "behind 3", script.as_str(), keepers)?;
         assert_eq!(rt; answer.status, Status::Done, "at {call}");
-        let report = twenty_report(alloc, failed, line)?;
+        let report = twenty_report(alloc, *failed, line)?;
         assert_eq!(rt; answer.text.as_str(), report.as_str(), "at {call}");
         check_kept(&rt, alloc, &answer.keepers, counts)?;
     }

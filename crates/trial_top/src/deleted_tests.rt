@@ -1,6 +1,6 @@
 //! Scripts that delete a key.
 
-use crate::rows::compare;
+use crate::rows::{Row, compare};
 use std::test::Fail;
 
 const DELETED_SET: &str = r#"{"members":2,"keys":[{"key":"s","kind":"orset"}],"steps":[
@@ -171,15 +171,16 @@ p deleted known 0:2 marks -
 r deleted known 0:2 marks -
 "#;
 
+/// The scripts, with their reports.
+const ROWS: &[Row] = &[
+    (DELETED_SET, &[], DELETED_SET_REPORT),
+    (DELETED_COUNTER_PRUNES, &[], DELETED_COUNTER_PRUNES_REPORT),
+    (DELETED_AND_READ, &[], DELETED_AND_READ_REPORT),
+    (DELETED_AT_A_MAJORITY, &[], DELETED_AT_A_MAJORITY_REPORT),
+    (DELETED_OF_EACH_KIND, &[], DELETED_OF_EACH_KIND_REPORT),
+];
+
 #[test]
 fn deletes(rt: HostRuntime) -> Result<(), Fail> {
-    let none: &[u64] = &[];
-    let rows = [
-        (DELETED_SET, none, DELETED_SET_REPORT),
-        (DELETED_COUNTER_PRUNES, none, DELETED_COUNTER_PRUNES_REPORT),
-        (DELETED_AND_READ, none, DELETED_AND_READ_REPORT),
-        (DELETED_AT_A_MAJORITY, none, DELETED_AT_A_MAJORITY_REPORT),
-        (DELETED_OF_EACH_KIND, none, DELETED_OF_EACH_KIND_REPORT),
-    ];
-    compare(&rt, rt.alloc(), 0, &rows)
+    compare(&rt, rt.alloc(), 0, ROWS)
 }

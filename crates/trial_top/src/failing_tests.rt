@@ -104,21 +104,23 @@ member 3 place 1 view 2
 d 8 known 1:2 2:1 marks -
 "#;
 
+/// A call that fails, and what is then answered and printed.
+const CALLS: &[(u64, Status, &str)] = &[
+    (0, Status::ClearFailed, NOT_CLEARED),
+    (1, Status::Done, FIRST_STORE_FAILS),
+    (2, Status::Done, SECOND_STORE_FAILS),
+    (3, Status::Done, FIRST_LOAD_FAILS),
+    (4, Status::Done, THIRD_STORE_FAILS),
+    (5, Status::Done, SECOND_LOAD_FAILS),
+    (6, Status::Done, NONE_FAILS),
+];
+
 #[test]
 fn each_call_of_a_keeper_fails(rt: HostRuntime) -> Result<(), Fail> {
     let alloc = rt.alloc();
-    let rows = [
-        (0, Status::ClearFailed, NOT_CLEARED),
-        (1, Status::Done, FIRST_STORE_FAILS),
-        (2, Status::Done, SECOND_STORE_FAILS),
-        (3, Status::Done, FIRST_LOAD_FAILS),
-        (4, Status::Done, THIRD_STORE_FAILS),
-        (5, Status::Done, SECOND_LOAD_FAILS),
-        (6, Status::Done, NONE_FAILS),
-    ];
-    for (call, status, report) in rows {
-        let answer = printed(alloc, SCRIPT, keepers(alloc, 1, &[call])?)?;
-        check(&rt, &answer, status, report.as_bytes(), call);
+    for (call, status, report) in CALLS {
+        let answer = printed(alloc, SCRIPT, keepers(alloc, 1, &[*call])?)?;
+        check(&rt, &answer, *status, report.as_bytes(), *call);
     }
     Ok(())
 }

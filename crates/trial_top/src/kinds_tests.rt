@@ -1,6 +1,6 @@
 //! Scripts of each kind of values, of delta groups and of gossip.
 
-use crate::rows::{MANY, Section, compare, compare_built};
+use crate::rows::{MANY, Row, Section, compare, compare_built};
 use std::test::Fail;
 
 pub(crate) const EMPTY: &str =
@@ -263,31 +263,32 @@ n - known - marks -
 r "d" known 0:1 marks -
 "#;
 
+/// The scripts, with their reports.
+const ROWS: &[Row] = &[
+    (EMPTY, &[], EMPTY_REPORT),
+    (ONE_MEMBER, &[], ONE_MEMBER_REPORT),
+    (TWO_MEMBERS, &[], TWO_MEMBERS_REPORT),
+    (THREE_MEMBERS, &[], THREE_MEMBERS_REPORT),
+    (OTHER_KINDS, &[], OTHER_KINDS_REPORT),
+    (FLUSHED_REGISTER, &[], FLUSHED_REGISTER_REPORT),
+    (REPEATS, &[], REPEATS_REPORT),
+    (ADD_WINS, &[], ADD_WINS_REPORT),
+    (
+        DELTA_OVERTAKES_ITS_CAUSE,
+        &[],
+        DELTA_OVERTAKES_ITS_CAUSE_REPORT,
+    ),
+    (GOSSIP, &[], GOSSIP_REPORT),
+    (GOSSIP_TO_NO_PEER, &[], GOSSIP_TO_NO_PEER_REPORT),
+    (REFUSED, &[], REFUSED_REPORT),
+];
+
 #[test]
 fn prints_the_report(rt: HostRuntime) -> Result<(), Fail> {
-    let none: &[u64] = &[];
-    let rows = [
-        (EMPTY, none, EMPTY_REPORT),
-        (ONE_MEMBER, none, ONE_MEMBER_REPORT),
-        (TWO_MEMBERS, none, TWO_MEMBERS_REPORT),
-        (THREE_MEMBERS, none, THREE_MEMBERS_REPORT),
-        (OTHER_KINDS, none, OTHER_KINDS_REPORT),
-        (FLUSHED_REGISTER, none, FLUSHED_REGISTER_REPORT),
-        (REPEATS, none, REPEATS_REPORT),
-        (ADD_WINS, none, ADD_WINS_REPORT),
-        (
-            DELTA_OVERTAKES_ITS_CAUSE,
-            none,
-            DELTA_OVERTAKES_ITS_CAUSE_REPORT,
-        ),
-        (GOSSIP, none, GOSSIP_REPORT),
-        (GOSSIP_TO_NO_PEER, none, GOSSIP_TO_NO_PEER_REPORT),
-        (REFUSED, none, REFUSED_REPORT),
-    ];
-    compare(&rt, rt.alloc(), 0, &rows)
+    compare(&rt, rt.alloc(), 0, ROWS)
 }
 
-const FIFTY: [Section; 3] = [
+const FIFTY: &[Section] = &[
     (
         1,
         r#"{"members":2,"keys":[{"key":"n","kind":"gcounter"}],"steps":["#,
@@ -301,7 +302,7 @@ const FIFTY: [Section; 3] = [
     (1, r#"{"do":"flush","at":0}]}"#, &[]),
 ];
 
-const FIFTY_REPORT: [Section; 2] = [
+const FIFTY_REPORT: &[Section] = &[
     (
         50,
         r#"# update 0 n done
@@ -321,7 +322,7 @@ n - known - marks -
     ),
 ];
 
-const FIFTY_ONE: [Section; 3] = [
+const FIFTY_ONE: &[Section] = &[
     (
         1,
         r#"{"members":2,"keys":[{"key":"n","kind":"gcounter"}],"steps":["#,
@@ -335,7 +336,7 @@ const FIFTY_ONE: [Section; 3] = [
     (1, r#"{"do":"flush","at":0}]}"#, &[]),
 ];
 
-const FIFTY_ONE_REPORT: [Section; 2] = [
+const FIFTY_ONE_REPORT: &[Section] = &[
     (
         51,
         r#"# update 0 n done
@@ -357,6 +358,6 @@ n - known - marks -
 
 #[test]
 fn fifty_records_go_as_a_group_and_fifty_one_as_the_entry(rt: HostRuntime) -> Result<(), Fail> {
-    compare_built(&rt, rt.alloc(), &FIFTY, &FIFTY_REPORT)?;
-    compare_built(&rt, rt.alloc(), &FIFTY_ONE, &FIFTY_ONE_REPORT)
+    compare_built(&rt, rt.alloc(), FIFTY, FIFTY_REPORT)?;
+    compare_built(&rt, rt.alloc(), FIFTY_ONE, FIFTY_ONE_REPORT)
 }

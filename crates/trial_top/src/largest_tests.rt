@@ -4,7 +4,7 @@ use crate::rows::{MANY, Section, compare_built};
 use std::test::Fail;
 
 /// Eight members take turns at 4,087 updates, and after each turn comes the next of 16 keys; with a flush of each and a round these are 4,096 steps. Each update adds one more than the one before it.
-const LARGEST: [Section; 4] = [
+const LARGEST: &[Section] = &[
     (
         1,
         r#"{"members":8,"keys":[{"key":"k10","kind":"gcounter"},{"key":"k11","kind":"gcounter"},{"key":"k12","kind":"gcounter"},{"key":"k13","kind":"gcounter"},{"key":"k14","kind":"gcounter"},{"key":"k15","kind":"gcounter"},{"key":"k16","kind":"gcounter"},{"key":"k17","kind":"gcounter"},{"key":"k18","kind":"gcounter"},{"key":"k19","kind":"gcounter"},{"key":"k20","kind":"gcounter"},{"key":"k21","kind":"gcounter"},{"key":"k22","kind":"gcounter"},{"key":"k23","kind":"gcounter"},{"key":"k24","kind":"gcounter"},{"key":"k25","kind":"gcounter"}],"steps":["#,
@@ -20,7 +20,7 @@ const LARGEST: [Section; 4] = [
 ];
 
 /// At the end all members know all.
-const LARGEST_REPORT: [Section; 4] = [
+const LARGEST_REPORT: &[Section] = &[
     (
         4087,
         r#"# update # k# done
@@ -127,7 +127,7 @@ k25 507036 known 0:31 1:31 2:31 3:31 4:31 5:31 6:31 7:31 marks -
 ];
 
 /// 257 adds to one set, each of another element, and of the first one again.
-const ADDS: [Section; 3] = [
+const ADDS: &[Section] = &[
     (
         1,
         r#"{"members":1,"keys":[{"key":"s","kind":"orset"}],"steps":["#,
@@ -146,7 +146,7 @@ const ADDS: [Section; 3] = [
 ];
 
 /// The last of the elements is refused, and the first may be added again.
-const ADDS_REPORT: [Section; 4] = [
+const ADDS_REPORT: &[Section] = &[
     (
         256,
         r#"# update 0 s done
@@ -177,10 +177,10 @@ s {"#,
 
 #[test]
 fn runs_the_most_steps_at_the_most_members_and_keys(rt: HostRuntime) -> Result<(), Fail> {
-    compare_built(&rt, rt.alloc(), &LARGEST, &LARGEST_REPORT)
+    compare_built(&rt, rt.alloc(), LARGEST, LARGEST_REPORT)
 }
 
 #[test]
 fn takes_no_new_element_into_a_set_of_256(rt: HostRuntime) -> Result<(), Fail> {
-    compare_built(&rt, rt.alloc(), &ADDS, &ADDS_REPORT)
+    compare_built(&rt, rt.alloc(), ADDS, ADDS_REPORT)
 }

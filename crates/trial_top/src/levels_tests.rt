@@ -1,6 +1,6 @@
 //! Updates and gets with levels, and timeouts.
 
-use crate::rows::{MANY, Section, compare, compare_built};
+use crate::rows::{MANY, Row, Section, compare, compare_built};
 use std::test::Fail;
 
 const A_MAJORITY_WRITE_AND_READ: &str =
@@ -128,25 +128,25 @@ member 1 place 1 view 0
 d 3 known 0:1 1:1 marks -
 "#;
 
+/// The scripts, with their reports.
+const ROWS: &[Row] = &[
+    (
+        A_MAJORITY_WRITE_AND_READ,
+        &[],
+        A_MAJORITY_WRITE_AND_READ_REPORT,
+    ),
+    (A_TIMEOUT, &[], A_TIMEOUT_REPORT),
+    (LEVELS, &[], LEVELS_REPORT),
+    (A_FAILING_STORE, &[1, 2], A_FAILING_STORE_REPORT),
+];
+
 #[test]
 fn operations_wait_for_as_many_members_as_their_level_needs(rt: HostRuntime) -> Result<(), Fail> {
-    let alloc = rt.alloc();
-    let none: &[u64] = &[];
-    let rows = [
-        (
-            A_MAJORITY_WRITE_AND_READ,
-            none,
-            A_MAJORITY_WRITE_AND_READ_REPORT,
-        ),
-        (A_TIMEOUT, none, A_TIMEOUT_REPORT),
-        (LEVELS, none, LEVELS_REPORT),
-        (A_FAILING_STORE, &[1, 2], A_FAILING_STORE_REPORT),
-    ];
-    compare(&rt, alloc, 1, &rows)
+    compare(&rt, rt.alloc(), 1, ROWS)
 }
 
 /// Eight members take turns, each with a majority write and then a majority read: 4,000 operations, a round that brings them to all, and one that brings the answers back.
-const OPERATIONS: [Section; 3] = [
+const OPERATIONS: &[Section] = &[
     (
         1,
         r#"{"members":8,"keys":[{"key":"n","kind":"gcounter"}],"steps":["#,
@@ -161,7 +161,7 @@ const OPERATIONS: [Section; 3] = [
 ];
 
 /// Of the second round the fourth answer ends an operation, and at the end all members know all.
-const OPERATIONS_REPORT: [Section; 31] = [
+const OPERATIONS_REPORT: &[Section] = &[
     (
         250,
         r#"# update 0 n pending # sent 1:write 2:write 3:write 4:write 5:write 6:write 7:write
@@ -573,5 +573,5 @@ n 2000 known 0:250 1:250 2:250 3:250 4:250 5:250 6:250 7:250 marks -
 
 #[test]
 fn runs_4_000_operations_at_the_most_members(rt: HostRuntime) -> Result<(), Fail> {
-    compare_built(&rt, rt.alloc(), &OPERATIONS, &OPERATIONS_REPORT)
+    compare_built(&rt, rt.alloc(), OPERATIONS, OPERATIONS_REPORT)
 }

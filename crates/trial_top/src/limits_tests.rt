@@ -53,7 +53,7 @@ fn refuses_what_cannot_be_done(rt: HostRuntime) -> Result<(), Fail> {
 }
 
 /// Adds up to a full set and beyond, an add that needs a member too many, and restarts until no identity is left.
-const LIMITS: [Section; 5] = [
+const LIMITS: &[Section] = &[
     (
         1,
         r#"{"members":3,"keys":[{"key":"s","kind":"gset"}],"steps":["#,
@@ -73,7 +73,7 @@ const LIMITS: [Section; 5] = [
     (1, r#"]}"#, &[]),
 ];
 
-const LIMITS_REPORT: [Section; 6] = [
+const LIMITS_REPORT: &[Section] = &[
     (
         256,
         r#"# update 0 s done
@@ -126,5 +126,5 @@ s - known - marks -
 
 #[test]
 fn stops_at_the_limits(rt: HostRuntime) -> Result<(), Fail> {
-    compare_built(&rt, rt.alloc(), &LIMITS, &LIMITS_REPORT)
+    compare_built(&rt, rt.alloc(), LIMITS, LIMITS_REPORT)
 }

@@ -1,7 +1,7 @@
 ghost use Rattle.std.specs.Prelude.{◌≡◌, length, IfOk};
 
 use crate::loading::loading_keepers;
-use crate::rows::{MANY, Section, check, compare, compare_built, keepers, printed};
+use crate::rows::{MANY, Row, Section, check, compare, compare_built, keepers, printed};
 use member_sqlite::SqliteKeeper;
 use std::alloc::Global;
 use std::test::Fail;
@@ -206,24 +206,24 @@ member 2 place 1 view 2
 d - known - marks -
 "#;
 
+/// The scripts, with their reports.
+const ROWS: &[Row] = &[
+    (
+        LATE_MESSAGES_OF_THE_REMOVED,
+        &[],
+        LATE_MESSAGES_OF_THE_REMOVED_REPORT,
+    ),
+    (RESTART, &[], RESTART_REPORT),
+    (COMING_BACK, &[], COMING_BACK_REPORT),
+    (REFUSALS, &[], REFUSALS_REPORT),
+    (FAILING_STORE, &[2], STORE_FAILED_REPORT),
+    (FAILING_STORE, &[3], LOAD_FAILED_REPORT),
+    (FAILING_CLEAR, &[1], CLEAR_FAILED_REPORT),
+];
+
 #[test]
 fn members_leave_join_and_restart(rt: HostRuntime) -> Result<(), Fail> {
-    let alloc = rt.alloc();
-    let none: &[u64] = &[];
-    let rows = [
-        (
-            LATE_MESSAGES_OF_THE_REMOVED,
-            none,
-            LATE_MESSAGES_OF_THE_REMOVED_REPORT,
-        ),
-        (RESTART, none, RESTART_REPORT),
-        (COMING_BACK, none, COMING_BACK_REPORT),
-        (REFUSALS, none, REFUSALS_REPORT),
-        (FAILING_STORE, &[2], STORE_FAILED_REPORT),
-        (FAILING_STORE, &[3], LOAD_FAILED_REPORT),
-        (FAILING_CLEAR, &[1], CLEAR_FAILED_REPORT),
-    ];
-    compare(&rt, alloc, 1, &rows)
+    compare(&rt, rt.alloc(), 1, ROWS)
 }
 
 /// A keeper over a database in memory for each place, as the program has.
@@ -270,7 +270,7 @@ fn a_place_that_is_not_cleared_ends_the_run(rt: HostRuntime) -> Result<(), Fail>
 }
 
 /// Three members and as many restarts of the last one as there are identities, and what comes then.
-const RESTARTS: [Section; 3] = [
+const RESTARTS: &[Section] = &[
     (
         1,
         r#"{"members":3,"keys":[{"key":"n","kind":"gcounter"}],"steps":["#,
@@ -284,7 +284,7 @@ const RESTARTS: [Section; 3] = [
     ),
 ];
 
-const RESTARTS_REPORT: [Section; 2] = [
+const RESTARTS_REPORT: &[Section] = &[
     (
         252,
         r#"# restart # id # view #
@@ -314,5 +314,5 @@ n - known - marks -
 
 #[test]
 fn identities_are_given_once(rt: HostRuntime) -> Result<(), Fail> {
-    compare_built(&rt, rt.alloc(), &RESTARTS, &RESTARTS_REPORT)
+    compare_built(&rt, rt.alloc(), RESTARTS, RESTARTS_REPORT)
 }

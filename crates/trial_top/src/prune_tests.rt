@@ -1,4 +1,4 @@
-use crate::rows::compare;
+use crate::rows::{Row, compare};
 use std::test::Fail;
 
 pub(crate) const A_PRUNE: &str = r#"{"members":3,"keys":[{"key":"n","kind":"gcounter"}],"steps":[
@@ -265,21 +265,21 @@ member 2 place 0 view 2
 d 3 known 1:1 2:1 marks 1>2@1
 "#;
 
+/// The scripts, with their reports.
+const ROWS: &[Row] = &[
+    (A_PRUNE, &[], A_PRUNE_REPORT),
+    (A_BLOCKED_PRUNE, &[], A_BLOCKED_PRUNE_REPORT),
+    (A_REPLACED_DOT, &[], A_REPLACED_DOT_REPORT),
+    (AN_OWNER_DEPARTS, &[], AN_OWNER_DEPARTS_REPORT),
+    (A_SECOND_PRUNE, &[], A_SECOND_PRUNE_REPORT),
+    (
+        A_PRUNE_BESIDE_A_FAILING_STORE,
+        &[3],
+        A_PRUNE_BESIDE_A_FAILING_STORE_REPORT,
+    ),
+];
+
 #[test]
 fn members_prune_what_is_left_of_others(rt: HostRuntime) -> Result<(), Fail> {
-    let alloc = rt.alloc();
-    let none: &[u64] = &[];
-    let rows = [
-        (A_PRUNE, none, A_PRUNE_REPORT),
-        (A_BLOCKED_PRUNE, none, A_BLOCKED_PRUNE_REPORT),
-        (A_REPLACED_DOT, none, A_REPLACED_DOT_REPORT),
-        (AN_OWNER_DEPARTS, none, AN_OWNER_DEPARTS_REPORT),
-        (A_SECOND_PRUNE, none, A_SECOND_PRUNE_REPORT),
-        (
-            A_PRUNE_BESIDE_A_FAILING_STORE,
-            &[3],
-            A_PRUNE_BESIDE_A_FAILING_STORE_REPORT,
-        ),
-    ];
-    compare(&rt, alloc, 0, &rows)
+    compare(&rt, rt.alloc(), 0, ROWS)
 }

@@ -10,7 +10,7 @@ use std::test::Fail;
 use top_call::Status;
 
 // A text that breaks each rule, and what is printed. In the last of rule 4 and the first of rule 7 a later step breaks a rule of a lower number or a higher.
-const BROKEN: [(&str, &str); 39] = [
+const BROKEN: &[(&str, &str)] = &[
     (r#"[]"#, "not a script: step 0 rule 1\n"),
     (r#"{"members":1}"#, "not a script: step 0 rule 1\n"),
     (
@@ -216,7 +216,7 @@ fn tells_the_first_broken_rule(rt: HostRuntime) -> Result<(), Fail> {
     let alloc = rt.alloc();
     for (script, text) in BROKEN {
         let answer = printed(alloc, script, keepers(alloc, 0, &[])?)?;
-        check(&rt, &answer, Status::NotAScript, text.as_bytes(), script);
+        check(&rt, &answer, Status::NotAScript, text.as_bytes(), *script);
     }
     Ok(())
 }
@@ -269,7 +269,7 @@ fn bounds_keys_and_steps(rt: HostRuntime) -> Result<(), Fail> {
 }
 
 /// The last step that a script may have is none.
-const LAST_BROKEN: [Section; 3] = [
+const LAST_BROKEN: &[Section] = &[
     (
         1,
         r#"{"members":1,"keys":[{"key":"n","kind":"flag"}],"steps":["#,
@@ -282,7 +282,7 @@ const LAST_BROKEN: [Section; 3] = [
 #[test]
 fn tells_the_rule_that_the_last_step_breaks(rt: HostRuntime) -> Result<(), Fail> {
     let alloc = rt.alloc();
-    let script = build(alloc, &LAST_BROKEN)?;
+    let script = build(alloc, LAST_BROKEN)?;
     let answer = printed(alloc, script.as_str(), keepers(alloc, 0, &[])?)?;
     let text = b"not a script: step 4096 rule 5\n";
     check(&rt, &answer, Status::NotAScript, text, "the last step");
@@ -345,24 +345,26 @@ fn spaces(alloc: Global, length: usize) -> Result<Streams, Fail> {
     ))
 }
 
+/// Words, how many spaces are read, and what is answered and printed.
+const LENGTHS: &[(&str, usize, Status, &str)] = &[
+    ("plain", 8_388_608, Status::NotJson, "not json\n"),
+    ("plain", 8_388_609, Status::TooLong, "too long\n"),
+    (
+        "upgrade",
+        8_388_608,
+        Status::NotAnEnvelope,
+        "not an envelope: place 0\n",
+    ),
+    ("upgrade", 8_388_609, Status::TooLong, "too long\n"),
+];
+
 #[test]
 fn bounds_what_is_read(rt: HostRuntime) -> Result<(), Fail> {
     let alloc = rt.alloc();
-    let rows = [
-        ("plain", 8_388_608, Status::NotJson, "not json\n"),
-        ("plain", 8_388_609, Status::TooLong, "too long\n"),
-        (
-            "upgrade",
-            8_388_608,
-            Status::NotAnEnvelope,
-            "not an envelope: place 0\n",
-        ),
-        ("upgrade", 8_388_609, Status::TooLong, "too long\n"),
-    ];
-    for (line, length, outcome, text) in rows {
-        let streams = spaces(alloc, length)?;
+    for (line, length, outcome, text) in LENGTHS {
+        let streams = spaces(alloc, *length)?;
         let answer = answered(alloc, line, streams, keepers(alloc, 0, &[])?)?;
-        check(&rt, &answer, outcome, text.as_bytes(), length);
+        check(&rt, &answer, *outcome, text.as_bytes(), *length);
     }
     Ok(())
 }
@@ -379,83 +381,85 @@ fn streams_of_eight(
     Ok((source, MemorySink::new(alloc, 8, writes)))
 }
 
+/// Words, a script, the calls of the source, of the sink and of the first keeper that fail, and what is answered and printed.
+type Cause = (
+    &'static str,
+    &'static str,
+    &'static [u64],
+    &'static [u64],
+    &'static [u64],
+    Status,
+    &'static str,
+);
+
+const CAUSES: &[Cause] = &[
+    (
+        "plain",
+        "{\"members\":1",
+        &[],
+        &[],
+        &[],
+        Status::NotJson,
+        "not json\n",
+    ),
+    ("plain", "", &[], &[], &[], Status::NotJson, "not json\n"),
+    (
+        "plain",
+        EMPTY,
+        &[],
+        &[1],
+        &[],
+        Status::WriteFailed,
+        "final vi",
+    ),
+    ("gen 1", EMPTY, &[], &[0], &[], Status::WriteFailed, ""),
+    (
+        "sum 1",
+        EMPTY,
+        &[],
+        &[1],
+        &[],
+        Status::WriteFailed,
+        "final vi",
+    ),
+    ("gen 0", EMPTY, &[0], &[], &[], Status::Usage, "bad words\n"),
+    (
+        "gen 0",
+        EMPTY,
+        &[],
+        &[1],
+        &[],
+        Status::WriteFailed,
+        "bad word",
+    ),
+    ("plain", EMPTY, &[0], &[], &[], Status::ReadFailed, ""),
+    (
+        "plain",
+        EMPTY,
+        &[],
+        &[],
+        &[0],
+        Status::ClearFailed,
+        "store failed at 0\n",
+    ),
+    (
+        "sum 1",
+        EMPTY,
+        &[],
+        &[],
+        &[0],
+        Status::ClearFailed,
+        "store failed at 0\n",
+    ),
+];
+
 #[test]
 fn answers_by_cause(rt: HostRuntime) -> Result<(), Fail> {
     let alloc = rt.alloc();
-    let none: &[u64] = &[];
-    let first: &[u64] = &[0];
-    let rows = [
-        (
-            "plain",
-            "{\"members\":1",
-            none,
-            none,
-            none,
-            Status::NotJson,
-            "not json\n",
-        ),
-        ("plain", "", none, none, none, Status::NotJson, "not json\n"),
-        (
-            "plain",
-            EMPTY,
-            none,
-            &[1],
-            none,
-            Status::WriteFailed,
-            "final vi",
-        ),
-        ("gen 1", EMPTY, none, first, none, Status::WriteFailed, ""),
-        (
-            "sum 1",
-            EMPTY,
-            none,
-            &[1],
-            none,
-            Status::WriteFailed,
-            "final vi",
-        ),
-        (
-            "gen 0",
-            EMPTY,
-            first,
-            none,
-            none,
-            Status::Usage,
-            "bad words\n",
-        ),
-        (
-            "gen 0",
-            EMPTY,
-            none,
-            &[1],
-            none,
-            Status::WriteFailed,
-            "bad word",
-        ),
-        ("plain", EMPTY, first, none, none, Status::ReadFailed, ""),
-        (
-            "plain",
-            EMPTY,
-            none,
-            none,
-            first,
-            Status::ClearFailed,
-            "store failed at 0\n",
-        ),
-        (
-            "sum 1",
-            EMPTY,
-            none,
-            none,
-            first,
-            Status::ClearFailed,
-            "store failed at 0\n",
-        ),
-    ];
-    for (line, script, reads, writes, clears, outcome, text) in rows {
+    for (line, script, reads, writes, clears, outcome, text) in CAUSES {
         let streams = streams_of_eight(alloc, script, reads, writes)?;
         let answer = answered(alloc, line, streams, keepers(alloc, 0, clears)?)?;
-        check(&rt, &answer, outcome, text.as_bytes(), line);
+        check(&rt, &answer, *outcome, text.as_bytes(), *line);
     }
     Ok(())
 }

@@ -1,6 +1,6 @@
 //! Scripts that settle.
 
-use crate::rows::compare;
+use crate::rows::{Row, compare};
 use std::test::Fail;
 
 pub(crate) const A_RESTART: &str =
@@ -143,14 +143,15 @@ cart-eve {"rice 1 kg"} known 0:1 3:1 marks 3>0@1
 hits - known - marks -
 "#;
 
+/// The scripts, with their reports.
+const ROWS: &[Row] = &[
+    (A_RESTART, &[], A_RESTART_REPORT),
+    (A_TIMEOUT, &[], A_TIMEOUT_REPORT),
+    (A_REGISTER, &[], A_REGISTER_REPORT),
+    (CARTS, &[], CARTS_REPORT),
+];
+
 #[test]
 fn members_settle(rt: HostRuntime) -> Result<(), Fail> {
-    let none: &[u64] = &[];
-    let rows = [
-        (A_RESTART, none, A_RESTART_REPORT),
-        (A_TIMEOUT, none, A_TIMEOUT_REPORT),
-        (A_REGISTER, none, A_REGISTER_REPORT),
-        (CARTS, none, CARTS_REPORT),
-    ];
-    compare(&rt, rt.alloc(), 1, &rows)
+    compare(&rt, rt.alloc(), 1, ROWS)
 }

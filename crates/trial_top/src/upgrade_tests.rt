@@ -18,7 +18,7 @@ const SECOND: &[u8] =
     b"\x02\x01\0\x01\0\0\0\0\0\0\0\0\x01\x01\0\0\0\0\0\0\0\0\x05\xdf\0\x86\xbf\xa4\xf5\xfc\xab\x7b\x03\x22\x9e\x9e\x67\x9a\x12\x29\xd1\xc7\x5a";
 
 /// Where the fault of `SECOND` is once one of its bytes is raised by one, if not at its last field.
-const FAULTS: [(usize, usize); 5] = [(0, 0), (1, 25), (2, 10), (3, 14), (13, 32)];
+const FAULTS: &[(usize, usize)] = &[(0, 0), (1, 25), (2, 10), (3, 14), (13, 32)];
 
 /// The start of its last field.
 const SEAL: usize = 23;
@@ -46,8 +46,8 @@ fn raised(alloc: Global, index: usize) -> Result<Vec<u8>, Fail> {
 /// The place of the fault once this byte is raised.
 fn place_of(index: usize) -> usize {
     for (byte, place) in FAULTS {
-        if byte == index {
-            return place;
+        if *byte == index {
+            return *place;
         }
     }
     SEAL

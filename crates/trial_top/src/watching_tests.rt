@@ -251,7 +251,7 @@ n 1 known 0:1 marks -
 "#;
 
 /// The scripts, with their reports.
-const ROWS: [(&str, &str); 10] = [
+const ROWS: &[(&str, &str)] = &[
     (NOTICES, NOTICES_REPORT),
     (REFUSALS, REFUSALS_REPORT),
     (MERGE, MERGE_REPORT),
@@ -275,7 +275,7 @@ fn clients_are_told_of_changes(rt: HostRuntime) -> Result<(), Fail> {
     let alloc = rt.alloc();
     for (script, report) in ROWS {
         let answer = watched(alloc, script)?;
-        check(&rt, &answer, Status::Done, report.as_bytes(), script);
+        check(&rt, &answer, Status::Done, report.as_bytes(), *script);
     }
     Ok(())
 }
@@ -292,7 +292,7 @@ fn a_script_without_subscriptions_is_played_as_by_plain(rt: HostRuntime) -> Resu
 }
 
 /// Scripts that `watch` refuses, each with the rule that is told.
-const REFUSED: [(&str, &str); 6] = [
+const REFUSED: &[(&str, &str)] = &[
     (
         r#"{"do":"threads","clients":[[{"do":"flush","at":0}]]}"#,
         "not a script: step 1 rule 14\n",
@@ -332,7 +332,7 @@ fn rules_of_requests_are_told_in_order(rt: HostRuntime) -> Result<(), Fail> {
     for (step, told) in REFUSED {
         let script = of_step(alloc, step)?;
         let answer = watched(alloc, script.as_str())?;
-        check(&rt, &answer, Status::NotAScript, told.as_bytes(), step);
+        check(&rt, &answer, Status::NotAScript, told.as_bytes(), *step);
     }
     Ok(())
 }

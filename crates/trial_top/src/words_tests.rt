@@ -5,7 +5,7 @@ use std::alloc::Global;
 use std::test::Fail;
 use top_call::Status;
 
-const BAD_WORDS: [&str; 37] = [
+const BAD_WORDS: &[&str] = &[
     "",
     "plain ",
     "plain extra",
@@ -101,7 +101,7 @@ fn refuses_other_words(rt: HostRuntime) -> Result<(), Fail> {
     let alloc = rt.alloc();
     for line in BAD_WORDS {
         let answer = answer(alloc, line, &[0])?;
-        check(&rt, &answer, Status::Usage, b"bad words\n", line);
+        check(&rt, &answer, Status::Usage, b"bad words\n", *line);
     }
     Ok(())
 }

@@ -50,7 +50,7 @@ fn compare<R: Abort>(rt: &R, alloc: Global, inputs: &[Input]) -> Result<(), Fail
 }
 
 // Texts that are no JSON.
-const NO_JSON: [Input; 7] = [
+const NO_JSON: &[Input] = &[
     Input {
         text: r#"{"members":2,"keys":[{"key":"n","kind":"gcounter"},{"key":"s","kind":"orset"},{"key":"r","kind":"lwwregister"}],"steps":[{"do":"flush","at":0}
 "#,
@@ -104,7 +104,7 @@ const NO_JSON: [Input; 7] = [
 ];
 
 // What breaks a rule of the script as a whole, or of its keys.
-const WHOLES: [Input; 13] = [
+const WHOLES: &[Input] = &[
     Input {
         text: r#"{"member":2,"keys":[{"key":"n","kind":"gcounter"},{"key":"s","kind":"orset"},{"key":"r","kind":"lwwregister"}],"steps":[]}"#,
         written: "not a script: step 0 rule 1\n",
@@ -177,7 +177,7 @@ const WHOLES: [Input; 13] = [
 ];
 
 // What breaks a rule of the names of steps.
-const NAMES: [Input; 12] = [
+const NAMES: &[Input] = &[
     Input {
         text: r#"{"members":2,"keys":[{"key":"n","kind":"gcounter"},{"key":"s","kind":"orset"},{"key":"r","kind":"lwwregister"}],"steps":[{"do":"flush","at":0},
 {"do":"flush","at":0},
@@ -289,7 +289,7 @@ const NAMES: [Input; 12] = [
 ];
 
 // What breaks a rule of the values of steps.
-const VALUES: [Input; 17] = [
+const VALUES: &[Input] = &[
     Input {
         text: r#"{"members":2,"keys":[{"key":"n","kind":"gcounter"},{"key":"s","kind":"orset"},{"key":"r","kind":"lwwregister"}],"steps":[{"do":"flush","at":0},
 {"do":"flush","at":0},
@@ -446,7 +446,7 @@ const VALUES: [Input; 17] = [
 ];
 
 // What breaks a rule of clients.
-const CLIENTS: [Input; 3] = [
+const CLIENTS: &[Input] = &[
     Input {
         text: r#"{"members":2,"keys":[{"key":"n","kind":"gcounter"},{"key":"s","kind":"orset"},{"key":"r","kind":"lwwregister"}],"steps":[{"do":"flush","at":0},
 {"do":"flush","at":0},
@@ -477,7 +477,7 @@ const CLIENTS: [Input; 3] = [
 ];
 
 // What breaks no rule.
-const SLIPS: [Input; 5] = [
+const SLIPS: &[Input] = &[
     Input {
         text: r#"{"members":2,"keys":[{"key":"n","kind":"gcounter"},{"key":"s","kind":"orset"},{"key":"r","kind":"lwwregister"}],"steps":[{"do":"flush","at":0},
 {"do":"flush","at":0},
@@ -592,32 +592,32 @@ s - known - marks -
 
 #[test]
 fn tells_a_person_of_no_json(rt: HostRuntime) -> Result<(), Fail> {
-    compare(&rt, rt.alloc(), &NO_JSON)
+    compare(&rt, rt.alloc(), NO_JSON)
 }
 
 #[test]
 fn tells_a_person_of_scripts_as_a_whole(rt: HostRuntime) -> Result<(), Fail> {
-    compare(&rt, rt.alloc(), &WHOLES)
+    compare(&rt, rt.alloc(), WHOLES)
 }
 
 #[test]
 fn tells_a_person_of_names_of_steps(rt: HostRuntime) -> Result<(), Fail> {
-    compare(&rt, rt.alloc(), &NAMES)
+    compare(&rt, rt.alloc(), NAMES)
 }
 
 #[test]
 fn tells_a_person_of_values_of_steps(rt: HostRuntime) -> Result<(), Fail> {
-    compare(&rt, rt.alloc(), &VALUES)
+    compare(&rt, rt.alloc(), VALUES)
 }
 
 #[test]
 fn tells_a_person_of_clients(rt: HostRuntime) -> Result<(), Fail> {
-    compare(&rt, rt.alloc(), &CLIENTS)
+    compare(&rt, rt.alloc(), CLIENTS)
 }
 
 #[test]
 fn tells_a_person_of_slips(rt: HostRuntime) -> Result<(), Fail> {
-    compare(&rt, rt.alloc(), &SLIPS)
+    compare(&rt, rt.alloc(), SLIPS)
 }
 
 // An element in Latin-1.
