@@ -219,8 +219,7 @@ fn push_event(alloc: Global, text: &mut String, number: usize, event: &Event) ->
     push_byte(text, ' ')?;
     push_answer(alloc, text, &event.answer)?;
     push_tails(alloc, text, event)?;
-    text.push_str("\n")?;
-    Ok(())
+    push_byte(text, '\n')
 }
 
 /// Adds the lines of the step with this number.
@@ -268,13 +267,14 @@ fn push_client_line(
 ) -> Result<(), Memory>
     ensures { OnOk result (string_bytes text.new ≡ string_bytes text.old ++ client_line_text number line.now) }
 {
-    write!(text, "{number} client {} ", line.client)?;
+    push_digits(text, number)?;
+    push_number(text, " client ", line.client as usize)?;
+    push_byte(text, ' ')?;
     push_head(text, &line.head)?;
     push_byte(text, ' ')?;
     push_answer(alloc, text, &line.answer)?;
     push_client_tails(alloc, text, line)?;
-    text.push_str("\n")?;
-    Ok(())
+    push_byte(text, '\n')
 }
 
 /// Adds the lines of the clients of the step with this number.
