@@ -3,9 +3,9 @@
 #![tactic(auto)]
 
 use member_embedding::{
-    CodecError, Data, Desk, Id, Input, Items, KeyDecl, Kind, Level, Memory, MemoryKeeper, Node,
-    Notice, Notices, Op, Output, Post, Posts, Reply, StepError, Text, TooLong, View, ViewList,
-    accepts, are_distinct, push_shown, read_message, spell_message,
+    CodecError, Data, Desk, Got, Id, Items, KeyDecl, Kind, Level, Memory, MemoryKeeper, Node,
+    Notice, Notices, Op, Post, Posts, StepError, Text, TooLong, Updated, View, ViewList, accepts,
+    are_distinct, push_shown, read_message, spell_message,
 };
 use std::alloc::{AllocError, Global};
 use std::process::ExitCode;
@@ -25,6 +25,8 @@ enum Stopped {
     Misused,
     #[error("what was received is no message, or none that the other member sends")]
     Garbled,
+    #[error("a cart was not changed, or what changed was not kept")]
+    Unchanged,
 }
 
 impl From<Memory> for Stopped {
@@ -82,18 +84,13 @@ fn member(
     }
 }
 
-/// Makes a step of a member.
-fn step(member: &mut Member, input: Input<Data>) -> Result<Output<Data>, StepError> {
-    member.step(&input)
-}
-
 /// What a member sends for bytes that came as from another.
 fn receive(alloc: Global, from: Id, bytes: &[u8], to: &mut Member) -> Result<Posts<Data>, Stopped> {
     let message = read_message::<Data>(alloc, bytes)?;
     if !accepts(to.view(), to.id(), from, &message) {
         return Err(Stopped::Garbled);
     }
-    Ok(step(to, Input::Take { from, message })?.posts)
+    Ok(to.receive(from, &message)?.posts)
 }
 
 /// Hands the bytes of a message to its receiver, and answers what this sends. A service would send and receive them.
@@ -123,15 +120,14 @@ fn exchange(
 }
 
 /// What a member answers to a question for the value of a key.
-fn ask(member: &mut Member, key: Text) -> Result<Reply, Stopped> {
-    let level = Level::Local;
-    Ok(step(member, Input::Get { key, level })?.reply)
+fn ask(member: &mut Member, key: Text) -> Result<Got, Stopped> {
+    Ok(member.get(key, Level::Local)?.answer)
 }
 
 /// What a member shows of a key.
 fn shown(alloc: Global, member: &mut Member, key: Text) -> Result<String, Stopped> {
     let mut text = String::new(alloc);
-    if let Reply::Value(value) = ask(member, key)? {
+    if let Got::Value(value) = ask(member, key)? {
         push_shown(alloc, &mut text, &value)?;
     }
     Ok(text)
@@ -154,30 +150,25 @@ fn keys(alloc: Global) -> Result<Items<KeyDecl<Data>>, Stopped> {
     Ok(keys)
 }
 
-/// Something is put into the cart.
-fn addition(element: &str) -> Result<Input<Data>, Stopped> {
+/// What came of an own operation on the cart of a member.
+fn change(member: &mut Member, op: Op) -> Result<Updated, Stopped> {
     let key = cart()?;
-    let op = Op::Add(Text::new(element)?);
-    let level = Level::Local;
-    Ok(Input::Update { key, op, level })
+    Ok(member.update(key, op, Level::Local)?.answer)
 }
 
 /// A member puts something into its cart.
 fn add(member: &mut Member, element: &str) -> Result<(), Stopped> {
-    let addition = addition(element)?;
-    step(member, addition)?;
-    Ok(())
-}
-
-/// What a member sends of its own accord.
-fn flush(member: &mut Member) -> Result<Posts<Data>, Stopped> {
-    Ok(step(member, Input::Flush)?.posts)
+    let op = Op::Add(Text::new(element)?);
+    match change(member, op)? {
+        Updated::Done => Ok(()),
+        _ => Err(Stopped::Unchanged),
+    }
 }
 
 /// One of the two members adds milk and sends what it has, and the other shows its cart.
 fn shop(alloc: Global, first: &mut Member, second: &mut Member) -> Result<String, Stopped> {
     add(first, "milk")?;
-    let posts = flush(first)?;
+    let posts = first.flush()?;
     exchange(alloc, first, second, posts)?;
     shown(alloc, second, cart()?)
 }
@@ -211,7 +202,7 @@ fn lines(alloc: Global, notices: &Notices) -> Result<String, Memory> {
 
 /// What the clients of a member are told after a flush of it. A service would send what is flushed.
 fn told(alloc: Global, member: &mut Member, desk: &mut Desk) -> Result<String, Stopped> {
-    flush(member)?;
+    member.flush()?;
     let notices = desk.notices(member)?;
     Ok(lines(alloc, &notices)?)
 }

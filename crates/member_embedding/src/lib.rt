@@ -22,12 +22,13 @@ pub use member_codec::{CodecError, read_message, read_view, spell_message, spell
 pub use member_desk::{Desk, Notice, Notices, Subscribed};
 pub use member_keeper::{Keeper, KeeperError, MemoryKeeper, Stored};
 pub use member_node::{
-    Fate, Finished, FromKeeperError, Input, KeyDecl, KeyOutcome, KeyState, Level, LoadError, Look,
-    MOST_STEPS, Message, Node, OperationResult, Outcome, Outcomes, Output, Post, Posts, Reply,
-    StepError,
+    Answered, Closed, Fate, Finished, FromKeeperError, Gossiped, Got, HIGHEST_LIMIT, Input,
+    Installed, KeyDecl, KeyOutcome, KeyState, Level, LoadError, Look, MOST_STEPS, Message, Node,
+    OperationResult, Outcome, Outcomes, Output, Post, Posts, Pruned, Received, Reply, StepError,
+    UpdateRefusal, Updated,
 };
 pub use member_sqlite::{FileKeeper, OpenError, SqliteKeeper, StoreKeeper, Unknown, Wary};
-pub use member_views::{Member, View, ViewError, ViewList};
+pub use member_views::{Member as Seat, View, ViewError, ViewList};
 pub use member_write_behind::WriteBehind;
 pub use model_kinds::{Kind, Moment, Op, Shown};
 pub use report_texts::push_shown;

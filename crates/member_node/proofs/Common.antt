@@ -37,7 +37,7 @@ pub use Rattle.member_node.specs.Keys.{declared_by, AreDistinct, AreDistinctKeys
 pub use Rattle.member_node.specs.Loading.{AreSound}
 pub use Rattle.member_node.specs.Members.{StandsForKey, StandsForNode}
 pub use Rattle.member_node.specs.Opening.{IsOpened}
-pub use Rattle.member_node.specs.Operations.{changed_operations, StandForOperations, result_meant}
+pub use Rattle.member_node.specs.Operations.{known, changed_operations, StandForOperations, result_meant}
 pub use Rattle.member_node.specs.Outputs.{is_pending}
 pub use Rattle.member_node.specs.Own.{AreOfTheirKinds, AreLogged, HasFewOwn, IsUnpruned}
 pub use Rattle.member_node.specs.Planning.{IsPrepared, ticked, LeadsOn, AreOwned, IsSoundPlan, recorded}

@@ -2,6 +2,7 @@ pub mod Common
 pub mod Lists
 pub mod Sparse
 pub mod Operating
+pub mod Forgetting
 pub mod Standing
 pub mod Sendings
 pub mod Planned
@@ -15,3 +16,4 @@ pub mod Updates
 pub mod Restorings
 pub mod FromKeepers
 pub mod Ticks
+pub mod Answerings

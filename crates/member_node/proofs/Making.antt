@@ -5,7 +5,7 @@
 use Rattle.std.proofs.Common.{◌≡◌, ℕ, zero, suc, ◌+◌, ◌-◌, ◌<◌, ◌≤◌, take, take_all, Option, None, List, [], ◌∷◌, ◌++◌, length, get_or, refl, sym, ap, ◌∙◌, subst, arith, append_assoc, Bool, true, false, not, append-nil, map, filter, All, ◌&&◌, if◌then◌else◌, ◌≢◌, Some, unwrap_or, IsFalse}
 use Rattle.std.proofs.lemmas.List.{map-append, take_more}
 use Rattle.std.proofs.lemmas.List.Elements.{All-append}
-use Rattle.member_node.proofs.Common.{Text, History, VersionVector, IsTakenFrom, is_unchanged, is_unchanged-same, Envelope, StandsAfter, state_of, Stepped, step, Shown, Ghosts, Keeping, StandsForMessage, StandsForPosts, KeyState, declared_by, AreSpelled, Reply, meant, is_pending, Node, Prepared, Put, StandsForKey, StandsForNode, replication, StandsForOutput, IsStepOf, IsPrepared, IsSoundFor, Prepares, changed_operations, StandForOperations}
+use Rattle.member_node.proofs.Common.{known, Text, History, VersionVector, IsTakenFrom, is_unchanged, is_unchanged-same, Envelope, StandsAfter, state_of, Stepped, step, Shown, Ghosts, Keeping, StandsForMessage, StandsForPosts, KeyState, declared_by, AreSpelled, Reply, meant, is_pending, Node, Prepared, Put, StandsForKey, StandsForNode, replication, StandsForOutput, IsStepOf, IsPrepared, IsSoundFor, Prepares, changed_operations, StandForOperations}
 use Rattle.model_history.specs.History.{IsExactlyPruned}
 use Rattle.model_members.specs.Entry as model
 use Rattle.model_members.specs.Entry.{Entry}
@@ -222,15 +222,15 @@ map_none f [] e = refl
 map_none f (x ∷ xs) e = absurd (cc e)
 
 module _ {T K Kind Op Delta : Type 0} {ghosts : Ghosts T Kind Op Delta} {keeping : Keeping K} (spelling : Spelling T Kind Op Delta) (old : Node T K Kind Op Delta ghosts keeping) (prepared : Prepared T Kind Op Delta ghosts) (sound : IsSoundFor old prepared)
-    (fate : Fate) (new : Node T K Kind Op Delta ghosts keeping) (c : IsCarried spelling old prepared.view prepared.plan prepared.operations fate new) (few : old.steps < 16384) where
+    (fate : Fate) (new : Node T K Kind Op Delta ghosts keeping) (c : IsCarried spelling old prepared.view prepared.plan prepared.operations fate new) (few : old.steps < old.limit) where
   module _ (kinds : Text → Kind) (logs : Text → History Op) (node : nodes.Node Kind Op Shown) (s : StandsForNode ghosts.kind_of ghosts.IsDataOf kinds logs old node) (sent : nodes.Input Op)
-      (p : IsPrepared {ghosts = ghosts} kinds logs old.keys.items old.operations node (step (replication ghosts spelling) node sent nodes.Fate.NoStore) prepared) where
+      (p : IsPrepared {ghosts = ghosts} kinds logs old.keys.items (known old.operations) node (step (replication ghosts spelling) node sent nodes.Fate.NoStore) prepared) where
     abbrev base : Stepped Kind Op Shown
     base = step (replication ghosts spelling) node sent nodes.Fate.NoStore
 
     -- the member stands for the model's where its operations do
     stands_with : (next : nodes.Node Kind Op Shown) → next.identity ≡ base.node.identity → next.view ≡ base.node.view → next.keys ≡ base.node.keys → next.entries ≡ base.node.entries → next.flushed ≡ base.node.flushed → next.steps ≡ base.node.steps
-        → StandForOperations new.operations next → StandsForNode ghosts.kind_of ghosts.IsDataOf kinds logs new next
+        → StandForOperations (known new.operations) next → StandsForNode ghosts.kind_of ghosts.IsDataOf kinds logs new next
     stands_with next identity view keys entries flushed steps operations = record {
       identity = identity ∙ p.identity ∙ s.identity ∙ sym c.identity;
       view = view ∙ p.viewed ∙ ap (unwrap_or prepared.view) s.view ∙ sym c.viewed;
@@ -245,23 +245,20 @@ module _ {T K Kind Op Delta : Type 0} {ghosts : Ghosts T Kind Op Delta} {keeping
     -- where the operations change as they were to
     stands_base : after_store fate prepared.operations ≡ prepared.operations → StandsForNode ghosts.kind_of ghosts.IsDataOf kinds logs new base.node
     stands_base same = stands_with base.node refl refl refl refl refl refl
-        (subst (λ os. StandForOperations os base.node) (sym (c.operated ∙ ap (changed_operations old.operations) same)) p.operates)
+        (subst (λ os. StandForOperations os base.node) (sym (c.operated ∙ ap (changed_operations (known old.operations)) same)) p.operates)
 
     -- where none is opened
     stands_unopened : (next : NextOperation) → prepared.operations ≡ Opened next → fate ≡ StoreFailed → StandsForNode ghosts.kind_of ghosts.IsDataOf kinds logs new (unopened node base).node
     stands_unopened next opens fails =
-        let kept : new.operations ≡ old.operations = c.operated ∙ ap (λ f. changed_operations old.operations (after_store f prepared.operations)) fails ∙ ap (λ o. changed_operations old.operations (after_store StoreFailed o)) opens in
+        let kept : known new.operations ≡ known old.operations = c.operated ∙ ap (λ f. changed_operations (known old.operations) (after_store f prepared.operations)) fails ∙ ap (λ o. changed_operations (known old.operations) (after_store StoreFailed o)) opens in
         stands_with (unopened node base).node refl refl refl refl refl refl (subst (λ os. StandForOperations os (unopened node base).node) (sym kept) (record {
           open_ones = s.operations.open_ones;
-          finished = λ op. p.operates.finished op ∙ ap (λ o. finished_at (changed_operations old.operations o) op) opens ∙ finished-pushed old.operations next.asked op;
+          finished = λ op. p.operates.finished op ∙ ap (λ o. finished_at (changed_operations (known old.operations) o) op) opens ∙ finished-pushed (known old.operations) next.asked op;
           next = s.operations.next;
         }))
 
     spelled : AreSpelled ghosts spelling logs c.items (to_store node base.node)
     spelled = c.stores kinds logs node base.node s.keys (p.declared ∙ s.keys) s.entries p.leads_on
-
-    room : IsFalse (is_full node)
-    room = let steps = s.steps in (let apart : node.steps ≢ 16384 = omega arith in grind arith)
 
     finish : (st : Stepped Kind Op Shown) → step (replication ghosts spelling) node sent (meant_fate fate) ≡ st → to_store node st.node ≡ to_store node base.node → StandsForNode ghosts.kind_of ghosts.IsDataOf kinds logs new st.node
         → FitsFate (replication ghosts spelling) node sent (meant_fate fate)
@@ -270,7 +267,6 @@ module _ {T K Kind Op Delta : Type 0} {ghosts : Ghosts T Kind Op Delta} {keeping
     finish st is same stands fits answers table =
         let there : to_store node (step (replication ghosts spelling) node sent (meant_fate fate)).node ≡ to_store node base.node = ap (λ st. to_store node st.node) is ∙ same in
         record {
-          has_room = room;
           fate_fits = fits;
           stands = subst (λ (st : Stepped Kind Op Shown). StandsForNode ghosts.kind_of ghosts.IsDataOf kinds logs new st.node) (sym is) stands;
           answers = subst (λ (st : Stepped Kind Op Shown). StandsForOutput kinds logs (after_fate fate prepared.output) st.output) (sym is) answers;
@@ -280,7 +276,7 @@ module _ {T K Kind Op Delta : Type 0} {ghosts : Ghosts T Kind Op Delta} {keeping
 
   -- by what became of the store
   module _ (kinds : Text → Kind) (logs : Text → History Op) (node : nodes.Node Kind Op Shown) (s : StandsForNode ghosts.kind_of ghosts.IsDataOf kinds logs old node) (sent : nodes.Input Op)
-      (p : IsPrepared {ghosts = ghosts} kinds logs old.keys.items old.operations node (step (replication ghosts spelling) node sent nodes.Fate.NoStore) prepared) where
+      (p : IsPrepared {ghosts = ghosts} kinds logs old.keys.items (known old.operations) node (step (replication ghosts spelling) node sent nodes.Fate.NoStore) prepared) where
     abbrev before : Stepped Kind Op Shown
     before = step (replication ghosts spelling) node sent nodes.Fate.NoStore
 
@@ -364,6 +360,7 @@ module _ {T K Kind Op Delta : Type 0} {ghosts : Ghosts T Kind Op Delta} {keeping
         by_fate kinds logs node s sent (prepares kinds logs node sent s i safe_before) fate refl c.kept;
     called = called_by fate c.kept;
     had_room = few;
+    limit = c.limit;
     counted = c.counted;
     identity = c.identity;
     keys = sound.plan.declared new.keys.items c.planned;

@@ -1,4 +1,7 @@
 -- Operations of a member, and how they stand for the model's.
+-- The operation of a number, where how the first ones ended was forgotten.
+--     forgotten-get, kept-get, kept-set, known-length        among all that are known
+--     kept-open, kept-finished        one that is not kept is neither open nor has an end
 -- The operations of a member under what a step makes of them.
 --     open-pushed, finished-pushed        one more is open
 --     open-put, finished-put        one has another answer
@@ -17,14 +20,14 @@
 --     none_open, other_open, counts_nothing, counts_waits, counts_ends        what is answered to it
 --     IsCounted        the operations and the end are the model's, and else nothing changes
 --     write_counts, read_counts        it is so for a write, and for a read of a key
-use Rattle.std.proofs.Common.{eq-eqb, ne_eqb, ◌≡◌, ◌≢◌, ℕ, ◌+◌, ◌<◌, List, [], ◌∷◌, ◌++◌, length, refl, sym, ap, ◌∙◌, subst, Bool, true, false, not, Option, Some, None, inl, inr, arith, suc, zero, ◌⊎◌, ◌==◌, ◌&&◌, ◌||◌, if◌then◌else◌, map, filter, find, option_map, is_some, slice_get, slice_set, length-set, length-append, subst₂, append-nil, ◌≤◌, nat_le, Result, IfSome, IfOk, bytes_eq}
+use Rattle.std.proofs.Common.{eq-eqb, ne_eqb, ◌≡◌, ◌≢◌, ℕ, ◌+◌, ◌<◌, List, [], ◌∷◌, ◌++◌, length, refl, sym, ap, ◌∙◌, subst, Bool, true, false, not, Option, Some, None, inl, inr, arith, suc, zero, ◌⊎◌, ◌==◌, ◌&&◌, ◌||◌, if◌then◌else◌, map, filter, find, option_map, is_some, slice_get, slice_set, replicate, ◌-◌, length-set, length-append, subst₂, append-nil, ◌≤◌, nat_le, Result, IfSome, IfOk, bytes_eq}
 use Rattle.std.specs.List.{list_any, AllZip}
 use Rattle.std.proofs.lemmas.Bool.Decides.{eqb_tells, leb_tells}
-use Rattle.std.proofs.lemmas.List.{map-append}
+use Rattle.std.proofs.lemmas.List.{map-append, set-append_right, length-replicate}
 use Rattle.std.proofs.lemmas.List.Elements.{filter-append}
 use Rattle.std.proofs.lemmas.Result.{IfOk-weaker}
 use Rattle.std.specs.Option.{option_and_then}
-use Rattle.member_node.proofs.Common.{Text, History, OpenOperation, one_step_later, Stepped, key_state, opened, counted, result_of, is_answered_by, Replication, bytes_eq-tells, Shown, Ghosts, Keeping, Message, StandsForMessage, StandsForPost, StandsForPosts, Open, StandForOperations, result_meant, changed_operations, Node, Prepared, peers_of, StandsForNode, IsOpened, is_pending, meant, StandsForOutput, Put}
+use Rattle.member_node.proofs.Common.{known, Text, History, OpenOperation, one_step_later, Stepped, key_state, opened, counted, result_of, is_answered_by, Replication, bytes_eq-tells, Shown, Ghosts, Keeping, Message, StandsForMessage, StandsForPost, StandsForPosts, Open, StandForOperations, result_meant, changed_operations, Node, Prepared, peers_of, StandsForNode, IsOpened, is_pending, meant, StandsForOutput, Put}
 use Rattle.model_history.specs.Vector.{alone, members_of, with_member}
 use Rattle.model_members.specs.Node as nodes
 use Rattle.model_members.specs.Node.{Result as Meant}
@@ -39,13 +42,47 @@ use Rattle.member_quorum.specs.Counts.{answered_by}
 use Rattle.member_node.specs.declared.operation.Asked.{Asked}
 use Rattle.member_node.specs.declared.operation.Operation.{Operation}
 use Rattle.member_node.specs.declared.operation.Operation.TheVariants.{Finished, TimedOut}
-use Rattle.member_node.specs.Operations.{asked_meant, open_from, open_in, finished_as, finished_at, result_at, CanChange, opens_one, finished_meant}
+use Rattle.member_node.specs.declared.operations.Operations.{Operations}
+use Rattle.member_node.specs.Operations.{kept_at, asked_meant, open_from, open_in, finished_as, finished_at, result_at, CanChange, opens_one, finished_meant}
 use Rattle.member_node.specs.Counting.{open_as, open_at, is_open, count_with, IsAnswered, is_write, is_read_of, IsCountOf}
 use Rattle.member_node.specs.declared.operation.OperationResult.{OperationResult}
 use Rattle.member_node.specs.declared.counting.Counted.{Counted}
 use Rattle.member_node.specs.declared.operation.OperationResult.TheVariants.{Wrote}
 use Rattle.member_node.specs.declared.operations.OperationChange.TheVariants.{Same}
 use Rattle.member_node.specs.Counting.IsCountOf.{nothing, waits, ends}
+
+-- BY NUMBER
+
+-- what was forgotten counts as closed
+pub forgotten-get : (n op : ℕ) (kept : List Operation) → op < n → slice_get (replicate n TimedOut ++ kept) op ≡ Some TimedOut
+forgotten-get zero op kept h = absurd (omega arith)
+forgotten-get (suc n) zero kept h = refl
+forgotten-get (suc n) (suc op) kept h = forgotten-get n op kept (omega arith)
+
+-- and the others are kept
+pub kept-get : (n op : ℕ) (kept : List Operation) → n ≤ op → slice_get (replicate n TimedOut ++ kept) op ≡ slice_get kept (op - n)
+kept-get zero op kept h = let same : op ≡ op - 0 = omega arith in ap (slice_get kept) same
+kept-get (suc n) zero kept h = absurd (omega arith)
+kept-get (suc n) (suc op) kept h = let same : op - n ≡ suc op - suc n = omega arith in kept-get n op kept (omega arith) ∙ ap (slice_get kept) same
+
+pub kept-set : (n op : ℕ) (kept : List Operation) (x : Operation) → n ≤ op → slice_set (replicate n TimedOut ++ kept) op x ≡ replicate n TimedOut ++ slice_set kept (op - n) x
+kept-set n op kept x h = set-append_right (replicate n TimedOut) kept n op x (length-replicate n TimedOut) h
+
+pub known-length : (n : ℕ) (kept : List Operation) → length (replicate n TimedOut ++ kept) ≡ n + length kept
+known-length n kept = length-append (replicate n TimedOut) kept ∙ ap (λ m. m + length kept) (length-replicate n TimedOut)
+
+-- one that is not kept is neither open nor has an end
+pub kept-open : (operations : Operations) (op : ℕ) → open_as (kept_at operations op) ≡ open_at (known operations) op
+kept-open operations op = elim (leb_tells (suc op) operations.forgotten) [
+  | inl e ↦ ap (λ b. open_as (if b then None else slice_get operations.kept.items (op - operations.forgotten))) e.0 ∙ sym (ap open_as (forgotten-get operations.forgotten op operations.kept.items (omega (arith, e.1))))
+  | inr e ↦ ap (λ b. open_as (if b then None else slice_get operations.kept.items (op - operations.forgotten))) e.0 ∙ sym (ap open_as (kept-get operations.forgotten op operations.kept.items (omega (arith, e.1))))
+]
+
+pub kept-finished : (operations : Operations) (op : ℕ) → finished_as (kept_at operations op) ≡ finished_at (known operations) op
+kept-finished operations op = elim (leb_tells (suc op) operations.forgotten) [
+  | inl e ↦ ap (λ b. finished_as (if b then None else slice_get operations.kept.items (op - operations.forgotten))) e.0 ∙ sym (ap finished_as (forgotten-get operations.forgotten op operations.kept.items (omega (arith, e.1))))
+  | inr e ↦ ap (λ b. finished_as (if b then None else slice_get operations.kept.items (op - operations.forgotten))) e.0 ∙ sym (ap finished_as (kept-get operations.forgotten op operations.kept.items (omega (arith, e.1))))
+]
 
 -- LISTS OF OPERATIONS
 
@@ -246,11 +283,12 @@ module _ {Kind Op : Type 0} (operations : List Operation) (node : nodes.Node Kin
   pub looked_open : is_open node op ≡ is_some (open_at operations op)
   looked_open = ap (list_any (λ (p : OpenOperation). p.op == op)) s.open_ones ∙ open-any op operations
 
-  pub looked : (o : Option Operation) → slice_get operations op ≡ o → is_open node op ≡ is_some (open_as o)
-  looked o is = looked_open ∙ ap (λ x. is_some (open_as x)) is
+module _ {Kind Op : Type 0} (operations : Operations) (node : nodes.Node Kind Op Shown) (s : StandForOperations (known operations) node) (op : ℕ) where
+  pub looked : (o : Option Operation) → kept_at operations op ≡ o → is_open node op ≡ is_some (open_as o)
+  looked o is = looked_open (known operations) node s op ∙ ap is_some (sym (kept-open operations op)) ∙ ap (λ x. is_some (open_as x)) is
 
-  pub looked_result : (o : Option Operation) → slice_get operations op ≡ o → result_at node.finished op ≡ finished_as o
-  looked_result o is = s.finished op ∙ ap finished_as is
+  pub looked_result : (o : Option Operation) → kept_at operations op ≡ o → result_at node.finished op ≡ finished_as o
+  looked_result o is = s.finished op ∙ sym (kept-finished operations op) ∙ ap finished_as is
 
 -- THEY GO ON STANDING
 
@@ -332,12 +370,12 @@ module _ {T K Kind Op Delta : Type 0} {ghosts : Ghosts T Kind Op Delta} {keeping
     abbrev base : nodes.Node Kind Op Shown
     base = record (one_step_later node) { entries = entries }
 
-    pub opened_operates : StandForOperations (changed_operations code.operations prepared.operations) (opened base key reads number told).node
+    pub opened_operates : StandForOperations (changed_operations (known code.operations) prepared.operations) (opened base key reads number told).node
     opened_operates =
         let meant_so : OpenOperation = record { op = node.next_op; key = key; reads = reads; needed = number; counted = alone node.identity } in
-        subst (λ c. StandForOperations (changed_operations code.operations c) (opened base key reads number told).node) (sym o.opens)
-        (operates_opened code.operations node (opened base key reads number told).node s.operations o.next.asked meant_so
-        (o.asked (length code.operations)
+        subst (λ c. StandForOperations (changed_operations (known code.operations) c) (opened base key reads number told).node) (sym o.opens)
+        (operates_opened (known code.operations) node (opened base key reads number told).node s.operations o.next.asked meant_so
+        (o.asked (length (known code.operations))
         ∙ ap (λ n. record { op = n; key = key; reads = reads; needed = number; counted = alone code.id }) (sym s.operations.next)
         ∙ ap (λ i. record { op = node.next_op; key = key; reads = reads; needed = number; counted = alone i }) (sym s.identity))
         refl refl refl)
@@ -363,6 +401,13 @@ open_within [] op x is = absurd (cc is)
 open_within (y ∷ operations) zero x is = omega arith
 open_within (y ∷ operations) (suc op) x is = let rest = open_within operations op x is in omega arith
 
+-- an open operation was not forgotten
+pub can_put : (operations : Operations) (op : ℕ) (asked : Asked) → slice_get (known operations) op ≡ Some (Open asked) → (operations.forgotten ≤ op) × (op < length (known operations))
+can_put operations op asked is = (elim (leb_tells operations.forgotten op) [ inl e ↦ e.1 | inr e ↦ absurd (not_open (sym (forgotten-get operations.forgotten op operations.kept.items (omega (arith, e.1))) ∙ is)) ], open_within (known operations) op (Open asked) is)
+  where
+    not_open : Some TimedOut ≡ Some (Open asked) → ⊥
+    not_open same = absurd (cc same)
+
 -- no operation that passes is open
 pub none_open : (test : Asked → Bool) (o : Option Asked) → None ≡ o → IfSome o (λ asked. test asked ≡ false)
 none_open test o is = subst (λ o. IfSome o (λ asked. test asked ≡ false)) is tt
@@ -370,12 +415,13 @@ none_open test o is = subst (λ o. IfSome o (λ asked. test asked ≡ false)) is
 pub other_open : (test : Asked → Bool) (o : Option Asked) (asked : Asked) → Some asked ≡ o → test asked ≡ false → IfSome o (λ asked. test asked ≡ false)
 other_open test o asked is fails = subst (λ o. IfSome o (λ asked. test asked ≡ false)) is fails
 
-module _ (operations : List Operation) (from op : ℕ) (test : Asked → Bool) (Ends : OperationResult → Type 0) where
-  pub counts_can : (c : Counted) → IsCountOf operations from op test Ends c → CanChange operations c.change
+module _ (operations : Operations) (from op : ℕ) (test : Asked → Bool) (Ends : OperationResult → Type 0) where
+  pub counts_can : (c : Counted) → IsCountOf (known operations) from op test Ends c → CanChange operations c.change
   counts_can c (nothing none) = tt
-  counts_can c (waits asked next there passes answered) = open_within operations op (Open asked) (open_there (slice_get operations op) asked there)
-  counts_can c (ends asked end there passes answered is) = open_within operations op (Open asked) (open_there (slice_get operations op) asked there)
+  counts_can c (waits asked next there passes answered) = can_put operations op asked (open_there (slice_get (known operations) op) asked there)
+  counts_can c (ends asked end there passes answered is) = can_put operations op asked (open_there (slice_get (known operations) op) asked there)
 
+module _ (operations : List Operation) (from op : ℕ) (test : Asked → Bool) (Ends : OperationResult → Type 0) where
   pub counts_opens_none : (c : Counted) → IsCountOf operations from op test Ends c → opens_one c.change ≡ false
   counts_opens_none c (nothing none) = refl
   counts_opens_none c (waits asked next there passes answered) = refl

@@ -7,7 +7,7 @@ use Rattle.std.specs.Global.{Vec}
 use Rattle.std.proofs.lemmas.Bool.{cases_eq}
 use Rattle.std.proofs.lemmas.List.{get_or_default}
 use Rattle.std.proofs.Math.Seq.{map-set_same}
-use Rattle.member_node.proofs.Common.{Text, VersionVector, History, one_step_later, answered, performed_in, Shown, Ghosts, Keeping, parts_of, Envelope, StandsFor, LogParts, NextRecord, KeyState, Change, HasFewOwn, IsUnpruned, AreLogged, AreOfTheirKinds, declared_by, AreDistinct, own_number, changed, AreMade, KeyTick, IsKeyTick, Nothing, At, Each, StandsForKey, StandsForNode, StandsAfter, recorded, ticked, AreOwned, IsSoundPlan, LeadsOn, IsPrepared, Node, Prepared, Output, Reply, meant, StandsForOutput, changed_operations, StandForOperations, is_pending, IsSoundFor}
+use Rattle.member_node.proofs.Common.{known, Text, VersionVector, History, one_step_later, answered, performed_in, Shown, Ghosts, Keeping, parts_of, Envelope, StandsFor, LogParts, NextRecord, KeyState, Change, HasFewOwn, IsUnpruned, AreLogged, AreOfTheirKinds, declared_by, AreDistinct, own_number, changed, AreMade, KeyTick, IsKeyTick, Nothing, At, Each, StandsForKey, StandsForNode, StandsAfter, recorded, ticked, AreOwned, IsSoundPlan, LeadsOn, IsPrepared, Node, Prepared, Output, Reply, meant, StandsForOutput, changed_operations, StandForOperations, is_pending, IsSoundFor}
 use Rattle.model_members.specs.Entry as model
 use Rattle.model_members.specs.Node as nodes
 use Rattle.data_deltalog.proofs.Following.{last_later, kind_later, origin_later}
@@ -355,14 +355,14 @@ module _ {T K Kind Op Delta : Type 0} {ghosts : Ghosts T Kind Op Delta} {keeping
     (code : Node T K Kind Op Delta ghosts keeping) (node : nodes.Node Kind Op Shown) (s : StandsForNode ghosts.kind_of ghosts.IsDataOf kinds logs code node) where
   -- the operations stay where the step leaves them
   pub operates_still : (prepared : Prepared T Kind Op Delta ghosts) (next : nodes.Node Kind Op Shown) → prepared.operations ≡ Unchanged → next.open_operations ≡ node.open_operations → next.finished ≡ node.finished → next.next_op ≡ node.next_op
-      → StandForOperations (changed_operations code.operations prepared.operations) next
+      → StandForOperations (changed_operations (known code.operations) prepared.operations) next
   operates_still prepared next same opens ends number =
-      subst (λ change. StandForOperations (changed_operations code.operations change) next) (sym same) (operates_same code.operations node next s.operations opens ends number)
+      subst (λ change. StandForOperations (changed_operations (known code.operations) change) next) (sym same) (operates_same (known code.operations) node next s.operations opens ends number)
 
   -- a step that changes no key
   pub prepared_moved : (prepared : Prepared T Kind Op Delta ghosts) (next : nodes.Stepped Kind Op Shown) → prepared.view ≡ None → prepared.plan ≡ Nothing
       → next.node.identity ≡ node.identity → next.node.keys ≡ node.keys → next.node.steps ≡ node.steps + 1 → next.node.view ≡ node.view → next.node.entries ≡ node.entries → next.node.flushed ≡ node.flushed
-      → StandForOperations (changed_operations code.operations prepared.operations) next.node → StandsForOutput kinds logs prepared.output next.output → IsPrepared {ghosts = ghosts} kinds logs code.keys.items code.operations node next prepared
+      → StandForOperations (changed_operations (known code.operations) prepared.operations) next.node → StandsForOutput kinds logs prepared.output next.output → IsPrepared {ghosts = ghosts} kinds logs code.keys.items (known code.operations) node next prepared
   prepared_moved prepared next none nothing identity declared counted viewed entries flushed operates answers = record {
     identity = identity;
     declared = declared;
@@ -375,7 +375,7 @@ module _ {T K Kind Op Delta : Type 0} {ghosts : Ghosts T Kind Op Delta} {keeping
 
   -- one that changes no operation either, and is one later
   pub prepared_later : (prepared : Prepared T Kind Op Delta ghosts) (next : nodes.Stepped Kind Op Shown) → prepared.view ≡ None → prepared.plan ≡ Nothing → prepared.operations ≡ Unchanged → next.node ≡ one_step_later node
-      → StandsForOutput kinds logs prepared.output next.output → IsPrepared {ghosts = ghosts} kinds logs code.keys.items code.operations node next prepared
+      → StandsForOutput kinds logs prepared.output next.output → IsPrepared {ghosts = ghosts} kinds logs code.keys.items (known code.operations) node next prepared
   prepared_later prepared next none nothing same is answers =
       prepared_moved prepared next none nothing (ap (λ n. n.identity) is) (ap (λ n. n.keys) is) (ap (λ n. n.steps) is) (ap (λ n. n.view) is) (ap (λ n. n.entries) is) (ap (λ n. n.flushed) is)
       (operates_still prepared next.node same (ap (λ n. n.open_operations) is) (ap (λ n. n.finished) is) (ap (λ n. n.next_op) is)) answers
@@ -398,7 +398,7 @@ module _ {T K Kind Op Delta : Type 0} {ghosts : Ghosts T Kind Op Delta} {keeping
   told meaning same = quiet_output kinds logs prepared.output meaning (ap (λ (o : Output T Kind Op Delta ghosts). o.posts) output) (ap (λ (o : Output T Kind Op Delta ghosts). o.finished) output) (ap (λ (o : Output T Kind Op Delta ghosts). meant o.reply) output ∙ same)
 
   -- a step that is a reply and nothing else
-  pub prepared_answered : (next : nodes.Stepped Kind Op Shown) → next ≡ answered (one_step_later node) (meant reply) → IsPrepared {ghosts = ghosts} kinds logs code.keys.items code.operations node next prepared
+  pub prepared_answered : (next : nodes.Stepped Kind Op Shown) → next ≡ answered (one_step_later node) (meant reply) → IsPrepared {ghosts = ghosts} kinds logs code.keys.items (known code.operations) node next prepared
   prepared_answered next is =
       prepared_later kinds logs code node s prepared next none nothing still (ap (λ (st : nodes.Stepped Kind Op Shown). st.node) is)
       (told next.output (sym (ap (λ (st : nodes.Stepped Kind Op Shown). st.output.reply) is)) (ap (λ (st : nodes.Stepped Kind Op Shown). st.output.posts) is) (ap (λ (st : nodes.Stepped Kind Op Shown). st.output.ended) is))

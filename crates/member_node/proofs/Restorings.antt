@@ -14,7 +14,7 @@ use Rattle.std.proofs.Math.Seq.{map-set_same, take-append_seam}
 use Rattle.std.proofs.lemmas.Option.{get_or_from_slice_get, slice_get_within}
 use Rattle.std.specs.FinMap.{get-empty}
 use Rattle.std.proofs.lemmas.Simd.{map-map}
-use Rattle.member_node.proofs.Common.{identity_limit, Text, VersionVector, IdentitySet, History, versions, at, View, bytes_eq-tells, seen_by, number_at, Numbers, mark_of, performed_in, Shown, Ghosts, Keeping, Parts, StandsFor, parts_of, LogParts, StandsForLog, AreSound, HoldsKept, KeyState, AreOfTheirKinds, HasFewOwn, IsUnpruned, AreLogged, AreDistinctKeys, declared_by, IsFresh, Node, StandsForKey, StandsForNode}
+use Rattle.member_node.proofs.Common.{known, identity_limit, Text, VersionVector, IdentitySet, History, versions, at, View, bytes_eq-tells, seen_by, number_at, Numbers, mark_of, performed_in, Shown, Ghosts, Keeping, Parts, StandsFor, parts_of, LogParts, StandsForLog, AreSound, HoldsKept, KeyState, AreOfTheirKinds, HasFewOwn, IsUnpruned, AreLogged, AreDistinctKeys, declared_by, IsFresh, Node, StandsForKey, StandsForNode}
 use Rattle.model_history.specs.Table.{identities}
 use Rattle.model_history.specs.History.{cut, IsHistory}
 use Rattle.model_history.specs.Cuts.{IsPrunedCut, Prunes, past_of, without}
@@ -644,13 +644,13 @@ module _ {T Kind Op Delta : Type 0} (ghosts : Ghosts T Kind Op Delta) (spelling 
           sent = s.sent;
         }
 
-    pub stands_loaded : id ≡ code.id → view ≡ code.view → code.operations ≡ [] → code.steps ≡ 0 → StandsForNode ghosts.kind_of ghosts.IsDataOf kinds logs code (loaded_node (map declared_by keys) id view store)
+    pub stands_loaded : id ≡ code.id → view ≡ code.view → known code.operations ≡ [] → code.steps ≡ 0 → StandsForNode ghosts.kind_of ghosts.IsDataOf kinds logs code (loaded_node (map declared_by keys) id view store)
     stands_loaded identity viewed operations steps = record {
       identity = identity;
       view = viewed;
       keys = sym same;
       distinct = names_loaded states keys same distinct;
       entries = key_stands;
-      operations = operates_first code.operations id view (map declared_by keys) store operations;
+      operations = operates_first (known code.operations) id view (map declared_by keys) store operations;
       steps = sym steps;
     }

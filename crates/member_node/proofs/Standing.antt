@@ -3,7 +3,7 @@
 -- What is told of a keeper that was not called, and of its member.
 -- What a member stands for after a step.
 -- A member before its first step.
-use Rattle.std.proofs.Common.{◌≡◌, ℕ, ◌≤◌, List, length, refl, ap, arith, Option, Some, None, Result, Ok, Err, OnOk, OnErr, ◌≢◌, zero, suc, ◌<◌, [], ◌∷◌, get_or, sym, ◌∙◌, subst, Bool, true, false, map, find, option_map, slice_get, if◌then◌else◌, bytes_eq, unwrap_or, All, nat_cmp}
+use Rattle.std.proofs.Common.{◌^◌, ◌≡◌, ℕ, ◌≤◌, List, length, refl, ap, arith, Option, Some, None, Result, Ok, Err, OnOk, OnErr, ◌≢◌, zero, suc, ◌<◌, [], ◌∷◌, get_or, sym, ◌∙◌, subst, Bool, true, false, map, find, option_map, slice_get, if◌then◌else◌, bytes_eq, unwrap_or, All, nat_cmp}
 use Rattle.std.proofs.Math.Bridge.{le_prop}
 use Rattle.std.proofs.Math.Nat.{ℕ_set}
 use Rattle.std.specs.FinMap.{get-empty}
@@ -12,7 +12,7 @@ use Rattle.std.proofs.lemmas.List.Elements.{All-map}
 use Rattle.std.proofs.lemmas.Simd.{map-map}
 use mathlib.Core.HLevel.{is_prop→PathP}
 use mathlib.Core.Bool.{Bool-set}
-use Rattle.member_node.proofs.Common.{Text, VersionVector, IdentitySet, History, HasKey, bytes_eq-tells, View, seen_by, Numbers, number_at, performed_in, Shown, Ghosts, Keeping, StandsFor, parts_of, LogParts, StandsForLog, Node, KeyState, HasFewOwn, IsUnpruned, AreLogged, AreOfTheirKinds, AreDistinctKeys, AreDistinct, declared_by, IsUnchanged, StandsForKey, StandsForNode, IsFresh, StandForOperations}
+use Rattle.member_node.proofs.Common.{Text, VersionVector, IdentitySet, History, HasKey, bytes_eq-tells, View, seen_by, Numbers, number_at, performed_in, Shown, Ghosts, Keeping, StandsFor, parts_of, LogParts, StandsForLog, Node, KeyState, HasFewOwn, IsUnpruned, AreLogged, AreOfTheirKinds, AreDistinctKeys, AreDistinct, declared_by, IsUnchanged, StandsForKey, StandsForNode, IsFresh, known, StandForOperations}
 use Rattle.model_history.specs.History.{IsHistory}
 use Rattle.model_members.specs.Node as nodes
 use Rattle.model_members.specs.Entry.{Entry, empty_entry}
@@ -33,8 +33,8 @@ use Rattle.member_node.proofs.Lists.{IsFound}
 
 -- MEMBERS WITH THE SAME FIELDS
 
-steps_once : (steps : ℕ) → IsProp (steps ≤ 16384)
-steps_once steps = hlevel (le_prop)
+steps_once : (steps limit : ℕ) → IsProp (steps ≤ limit)
+steps_once steps limit = hlevel (le_prop)
 
 operations_once : (operations : List Operation) (steps : ℕ) → IsProp (length operations ≤ steps)
 operations_once operations steps = hlevel (le_prop)
@@ -58,18 +58,20 @@ module _ {T Kind Op Delta : Type 0} where
 
 module _ {T K Kind Op Delta : Type 0} {ghosts : Ghosts T Kind Op Delta} {keeping : Keeping K} where
   -- the keeper alone is another
-  pub same_otherwise : IsSet Kind → (old new : Node T K Kind Op Delta ghosts keeping) → new.alloc ≡ old.alloc → new.id ≡ old.id → new.view ≡ old.view → new.keys ≡ old.keys → new.operations ≡ old.operations → new.steps ≡ old.steps
+  pub same_otherwise : IsSet Kind → (old new : Node T K Kind Op Delta ghosts keeping) → new.alloc ≡ old.alloc → new.id ≡ old.id → new.view ≡ old.view → new.keys ≡ old.keys → new.operations ≡ old.operations → new.steps ≡ old.steps → new.limit ≡ old.limit
       → IsOtherwiseSame old new
-  same_otherwise kinds old new alloc id view keys operations steps = λ i. record {
+  same_otherwise kinds old new alloc id view keys operations steps limit = λ i. record {
     alloc = alloc i;
     id = id i;
     view = view i;
     keys = keys i;
     operations = operations i;
     steps = steps i;
+    limit = limit i;
     keeper = new.keeper;
-    few_steps = is_prop→PathP (λ j. steps j ≤ 16384) (λ j. steps_once (steps j)) new.few_steps old.few_steps i;
-    few_operations = is_prop→PathP (λ j. length (operations j) ≤ steps j) (λ j. operations_once (operations j) (steps j)) new.few_operations old.few_operations i;
+    few_steps = is_prop→PathP (λ j. steps j ≤ limit j) (λ j. steps_once (steps j) (limit j)) new.few_steps old.few_steps i;
+    few_limit = is_prop→PathP (λ j. limit j ≤ 2 ^ 54) (λ j. steps_once (limit j) (2 ^ 54)) new.few_limit old.few_limit i;
+    few_operations = is_prop→PathP (λ j. length (known (operations j)) ≤ steps j) (λ j. operations_once (known (operations j)) (steps j)) new.few_operations old.few_operations i;
     few_own = is_prop→PathP (λ j. HasFewOwn (id j) (steps j) (keys j).items) (λ j. few_once (id j) (steps j) (keys j).items) new.few_own old.few_own i;
     unpruned = is_prop→PathP (λ j. IsUnpruned (id j) (keys j).items) (λ j. unpruned_once (id j) (keys j).items) new.unpruned old.unpruned i;
     logged = is_prop→PathP (λ j. AreLogged ghosts.kind_of (id j) (keys j).items) (λ j. logged_once kinds ghosts.kind_of (id j) (keys j).items) new.logged old.logged i;
@@ -214,7 +216,7 @@ module _ {T K Kind Op Delta : Type 0} {ghosts : Ghosts T Kind Op Delta} {keeping
   pub stands_first : (code : Node T K Kind Op Delta ghosts keeping) (decls : List (KeyDecl T Kind Op Delta)) (view : View)
       → map declared_by code.keys.items ≡ map declared decls → All (IsFresh kind_of IsDataOf ghosts.IsDeltaOf code.id) code.keys.items → AreDistinct (map (λ (decl : KeyDecl T Kind Op Delta). decl.key) decls)
       → ((key : Text) → IsHistory (logs key)) → AreOfKinds kinds decls
-      → view ≡ code.view → code.operations ≡ [] → code.steps ≡ 0
+      → view ≡ code.view → known code.operations ≡ [] → code.steps ≡ 0
       → StandsForNode kind_of IsDataOf kinds logs code (loaded_node (map declared decls) code.id view no_entries)
   stands_first code decls view same fresh distinct histories of_kinds viewed operations steps =
       let keys = code.keys.items in
@@ -238,6 +240,6 @@ module _ {T K Kind Op Delta : Type 0} {ghosts : Ghosts T Kind Op Delta} {keeping
               logged = subst (λ (entry : Entry Op). StandsForLog ghosts.IsDeltaOf state.log (logs state.name) entry) (sym (nothing_loaded code.id view decls state.name)) (f.logged (logs state.name) (histories state.name));
               sent = λ i. ap (λ (m : Numbers). number_at m i) f.sent ∙ number_at-empty i;
             };
-        operations = operates_first code.operations code.id view (map declared decls) no_entries operations;
+        operations = operates_first (known code.operations) code.id view (map declared decls) no_entries operations;
         steps = sym steps;
       }

@@ -3,7 +3,7 @@
 -- What a write and an answer bring: an entry that is told, or one that is passed over.
 -- Steps of gossip, in the model and at a member.
 use Rattle.std.proofs.Common.{◌≡◌, ℕ, List, get_or, refl, sym, ap, ◌∙◌, subst, true, false, Option, None, unwrap_or, if◌then◌else◌, ◌≢◌, [], ◌∷◌, length, cond, arith, suc, Bool, Some, map, find, option_map, nat_le, All, bytes_eq, not, ◌&&◌, ◌||◌, ◌==◌}
-use Rattle.member_node.proofs.Common.{uncleaned, Text, VersionVector, IdentitySet, History, at, versions, IsTakenFrom, is_member, Replication, one_step_later, OpenOperation, state_of, step, step_of_take, answered, after_entries, counted, answer_to, performed_in, Shown, Ghosts, Keeping, Envelope, StandsFor, parts_of, LogParts, StandsForLog, Message, StandsForKeyed, Keyed, Node, KeyState, Change, Flushed, Each, Prepared, changed, AreMade, StandsForKey, StandsForNode, changed_operations, StandForOperations, IsSoundPlan, LeadsOn, IsPrepared, StandsForOutput, IsKept, LeadsTo, AreHeld, declared_by, IsEntryPassedOver, HoldsKey}
+use Rattle.member_node.proofs.Common.{known, uncleaned, Text, VersionVector, IdentitySet, History, at, versions, IsTakenFrom, is_member, Replication, one_step_later, OpenOperation, state_of, step, step_of_take, answered, after_entries, counted, answer_to, performed_in, Shown, Ghosts, Keeping, Envelope, StandsFor, parts_of, LogParts, StandsForLog, Message, StandsForKeyed, Keyed, Node, KeyState, Change, Flushed, Each, Prepared, changed, AreMade, StandsForKey, StandsForNode, changed_operations, StandForOperations, IsSoundPlan, LeadsOn, IsPrepared, StandsForOutput, IsKept, LeadsTo, AreHeld, declared_by, IsEntryPassedOver, HoldsKey}
 use Rattle.model_history.specs.Vector.{members_of}
 use Rattle.model_members.specs.Entry as model
 use Rattle.model_members.specs.Message as sending
@@ -118,8 +118,8 @@ module _ {T K Kind Op Delta : Type 0} {ghosts : Ghosts T Kind Op Delta} {keeping
     -- a step that makes these entries, and it may be other operations
     pub prepared_taken : (after : nodes.Node Kind Op Shown) → after ≡ record (one_step_later node) { entries = after.entries } → AreMade (LeadsTo ghosts.IsDataOf logs node.entries after.entries) code.keys.items changes
         → (next : nodes.Stepped Kind Op Shown) → next.node ≡ record after { open_operations = next.node.open_operations; finished = next.node.finished }
-        → (prepared : Prepared T Kind Op Delta ghosts) → prepared.view ≡ None → prepared.plan ≡ Each changes → StandForOperations (changed_operations code.operations prepared.operations) next.node
-        → StandsForOutput kinds logs prepared.output next.output → IsPrepared {ghosts = ghosts} kinds logs code.keys.items code.operations node next prepared
+        → (prepared : Prepared T Kind Op Delta ghosts) → prepared.view ≡ None → prepared.plan ≡ Each changes → StandForOperations (changed_operations (known code.operations) prepared.operations) next.node
+        → StandsForOutput kinds logs prepared.output next.output → IsPrepared {ghosts = ghosts} kinds logs code.keys.items (known code.operations) node next prepared
     prepared_taken after only leads next is prepared none plan operates answers = record {
       identity = ap (λ n. n.identity) is ∙ ap (λ n. n.identity) only;
       declared = ap (λ n. n.keys) is ∙ ap (λ n. n.keys) only;

@@ -14,7 +14,7 @@ use Rattle.std.proofs.Common.{◌≡◌, ◌≢◌, ℕ, ◌+◌, ◌<◌, lengt
 use Rattle.std.proofs.lemmas.List.{get_or_default, set-get_or}
 use Rattle.std.proofs.lemmas.Bool.Decides.{leb_tells}
 use Rattle.std.proofs.lemmas.Bool.{cases_eq, and_parts}
-use Rattle.member_node.proofs.Common.{Text, History, IsTakenFrom, with_action, has_records, is_unchanged, one_step_later, HasKey, needed, opened, step, answered, Replication, bytes_eq-tells, View, is_unchanged-same, Shown, Ghosts, Keeping, Envelope, StandsFor, parts_of, entry_digest, NextRecord, StandsForLog, StandsForEntry, level_meant, KeyState, Node, At, Nothing, Prepared, StandsForKey, StandsForNode, changed_operations, StandForOperations, StandsForOutput, IsStepOf, recorded, IsSoundPlan, IsPrepared, LeadsOn, AreOwned, Output, Reply, IsOpened, delta_groups, meant, is_pending, IsSoundFor, Prepares, AreSpelled, StandsAfter}
+use Rattle.member_node.proofs.Common.{known, Text, History, IsTakenFrom, with_action, has_records, is_unchanged, one_step_later, HasKey, needed, opened, step, answered, Replication, bytes_eq-tells, View, is_unchanged-same, Shown, Ghosts, Keeping, Envelope, StandsFor, parts_of, entry_digest, NextRecord, StandsForLog, StandsForEntry, level_meant, KeyState, Node, At, Nothing, Prepared, StandsForKey, StandsForNode, changed_operations, StandForOperations, StandsForOutput, IsStepOf, recorded, IsSoundPlan, IsPrepared, LeadsOn, AreOwned, Output, Reply, IsOpened, delta_groups, meant, is_pending, IsSoundFor, Prepares, AreSpelled, StandsAfter}
 use Rattle.model_history.specs.History.Action.{Operation}
 use Rattle.model_members.specs.Entry.{Entry}
 use Rattle.model_members.specs.DataType.{meaning}
@@ -116,8 +116,8 @@ module _ {T K Kind Op Delta : Type 0} {ghosts : Ghosts T Kind Op Delta} {keeping
           sent = λ i. held.sent i ∙ ap (λ f. f at.name i) (sym moves.flushed);
         }
 
-    pub prepared_record : (prepared : Prepared T Kind Op Delta ghosts) → prepared.view ≡ None → prepared.plan ≡ At index entry next → StandForOperations (changed_operations code.operations prepared.operations) stepped.node
-        → StandsForOutput kinds logs prepared.output stepped.output → IsPrepared {ghosts = ghosts} kinds logs code.keys.items code.operations node stepped prepared
+    pub prepared_record : (prepared : Prepared T Kind Op Delta ghosts) → prepared.view ≡ None → prepared.plan ≡ At index entry next → StandForOperations (changed_operations (known code.operations) prepared.operations) stepped.node
+        → StandsForOutput kinds logs prepared.output stepped.output → IsPrepared {ghosts = ghosts} kinds logs code.keys.items (known code.operations) node stepped prepared
     prepared_record prepared none plan operates answers = record {
       identity = moves.identity;
       declared = moves.declared;
@@ -230,26 +230,26 @@ module _ {T K Kind Op Delta : Type 0} {ghosts : Ghosts T Kind Op Delta} {keeping
               else opened (with_entry (one_step_later node) at.name (with_action (node.entries at.name) node.identity (Operation op))) at.name false n (Sent.Write node.next_op at.name (with_action (node.entries at.name) node.identity (Operation op)))) test
 
           pub prepared_done : n ≤ 1 → prepared.operations ≡ Same → prepared.output ≡ record { reply = reply.Done; posts = []; finished = None }
-              → IsPrepared {ghosts = ghosts} kinds logs code.keys.items code.operations node (step (delta_groups ghosts.data_type digest) node input nodes.Fate.NoStore) prepared
+              → IsPrepared {ghosts = ghosts} kinds logs code.keys.items (known code.operations) node (step (delta_groups ghosts.data_type digest) node input nodes.Fate.NoStore) prepared
           prepared_done few same output =
               let stepped = answered (with_entry later at.name made) Done in
-              subst (λ st. IsPrepared {ghosts = ghosts} kinds logs code.keys.items code.operations node st prepared) (sym (stepped_by true (is_one n few)))
+              subst (λ st. IsPrepared {ghosts = ghosts} kinds logs code.keys.items (known code.operations) node st prepared) (sym (stepped_by true (is_one n few)))
               (prepared_record code index at entry next found.within is own kinds logs node s stepped (moves_entry node at.name made) image logged prepared none plan
               (operates_still kinds logs code node s prepared stepped.node same refl refl refl)
               (quiet_output kinds logs prepared.output stepped.output (ap (λ (o : Output T Kind Op Delta ghosts). o.posts) output) (ap (λ (o : Output T Kind Op Delta ghosts). o.finished) output) (ap (λ (o : Output T Kind Op Delta ghosts). meant o.reply) output) refl refl))
 
-          pub prepared_pending : 1 < n → IsOpened code at.name false n (Write (length code.operations) at.name entry) prepared
-              → IsPrepared {ghosts = ghosts} kinds logs code.keys.items code.operations node (step (delta_groups ghosts.data_type digest) node input nodes.Fate.NoStore) prepared
+          pub prepared_pending : 1 < n → IsOpened code at.name false n (Write (length (known code.operations)) at.name entry) prepared
+              → IsPrepared {ghosts = ghosts} kinds logs code.keys.items (known code.operations) node (step (delta_groups ghosts.data_type digest) node input nodes.Fate.NoStore) prepared
           prepared_pending more o =
               let told = Sent.Write node.next_op at.name made in
               let stepped = opened (with_entry later at.name made) at.name false n told in
               let held = held_at ghosts.kind_of ghosts.IsDataOf kinds logs code node s index at found.within is in
               let entry_held : StandsForEntry ghosts.kind_of ghosts.IsDataOf kinds logs at.name entry (with_action (node.entries at.name) node.identity (Operation op)) =
               record { kind = own.kind ∙ held.held.kind; image = subst (StandsFor ghosts.IsDataOf (parts_of entry) (logs at.name)) (sym made_is) u.image } in
-              subst (λ st. IsPrepared {ghosts = ghosts} kinds logs code.keys.items code.operations node st prepared) (sym (stepped_by false (is_more n more)))
+              subst (λ st. IsPrepared {ghosts = ghosts} kinds logs code.keys.items (known code.operations) node st prepared) (sym (stepped_by false (is_more n more)))
               (prepared_record code index at entry next found.within is own kinds logs node s stepped (moves_opened node at.name made false n told) image logged prepared none plan
-              (opened_operates code at.name false n (Write (length code.operations) at.name entry) prepared o kinds logs node s (with_text_at node.entries at.name made) told)
-              (opened_answers code at.name false n (Write (length code.operations) at.name entry) prepared o kinds logs node s (with_text_at node.entries at.name made) told
+              (opened_operates code at.name false n (Write (length (known code.operations)) at.name entry) prepared o kinds logs node s (with_text_at node.entries at.name made) told)
+              (opened_answers code at.name false n (Write (length (known code.operations)) at.name entry) prepared o kinds logs node s (with_text_at node.entries at.name made) told
               (record { entry = made; is = ap (λ k. Sent.Write k at.name (with_action (node.entries at.name) node.identity (Operation op))) s.operations.next; held = entry_held })))
 
   -- GETS
@@ -274,15 +274,15 @@ module _ {T K Kind Op Delta : Type 0} {ghosts : Ghosts T Kind Op Delta} {keeping
           → step (delta_groups ghosts.data_type digest) node input nodes.Fate.NoStore ≡ answered (one_step_later node) (meant told)
       got_value few told same = got_by true (is_one n few) ∙ ap (answered later) (sym same)
 
-      pub got_pending : 1 < n → (prepared : Prepared T Kind Op Delta ghosts) → prepared.plan ≡ Nothing → IsOpened code at.name true n (Read (length code.operations) at.name) prepared
-          → IsPrepared {ghosts = ghosts} kinds logs code.keys.items code.operations node (step (delta_groups ghosts.data_type digest) node input nodes.Fate.NoStore) prepared
+      pub got_pending : 1 < n → (prepared : Prepared T Kind Op Delta ghosts) → prepared.plan ≡ Nothing → IsOpened code at.name true n (Read (length (known code.operations)) at.name) prepared
+          → IsPrepared {ghosts = ghosts} kinds logs code.keys.items (known code.operations) node (step (delta_groups ghosts.data_type digest) node input nodes.Fate.NoStore) prepared
       got_pending more prepared nothing o =
           let told = Sent.Read node.next_op at.name in
           let stepped = opened later at.name true n told in
-          subst (λ st. IsPrepared {ghosts = ghosts} kinds logs code.keys.items code.operations node st prepared) (sym (got_by false (is_more n more)))
+          subst (λ st. IsPrepared {ghosts = ghosts} kinds logs code.keys.items (known code.operations) node st prepared) (sym (got_by false (is_more n more)))
           (prepared_moved kinds logs code node s prepared stepped o.viewed nothing refl refl refl refl refl refl
-          (opened_operates code at.name true n (Read (length code.operations) at.name) prepared o kinds logs node s node.entries told)
-          (opened_answers code at.name true n (Read (length code.operations) at.name) prepared o kinds logs node s node.entries told
+          (opened_operates code at.name true n (Read (length (known code.operations)) at.name) prepared o kinds logs node s node.entries told)
+          (opened_answers code at.name true n (Read (length (known code.operations)) at.name) prepared o kinds logs node s node.entries told
           (ap (λ k. Sent.Read k at.name) s.operations.next)))
 
 -- AS IT IS CARRIED OUT
@@ -311,7 +311,7 @@ module _ {T K Kind Op Delta : Type 0} {ghosts : Ghosts T Kind Op Delta} {keeping
         prepared_done kinds logs code node s digest key (level_meant level) index at found is sent op sent_is (kept (logs at.name) (node.entries at.name) held.held.image) fits n count entry next own u prepared none plan few same output
 
     -- one that others have to have
-    pub prepares_pending : 1 < n → IsOpened code at.name false n (Write (length code.operations) at.name entry) prepared → Prepares spelling code (input.Update key op level) prepared
+    pub prepares_pending : 1 < n → IsOpened code at.name false n (Write (length (known code.operations)) at.name entry) prepared → Prepares spelling code (input.Update key op level) prepared
     prepares_pending more o = λ kinds logs node sent s sent_is safe.
         let digest = entry_digest spelling.history_byte spelling.history_spelled in
         let count = ap (λ (v : View). needed (level_meant level) (length v.members)) s.view ∙ number in
@@ -406,9 +406,9 @@ module _ {T K Kind Op Delta : Type 0} {ghosts : Ghosts T Kind Op Delta} {keeping
   pub owned_in_place : AreOwned ghosts old.id (old.steps + 1) (set old.keys.items index after)
   owned_in_place = as_prepared.1.sound.plan.owned (set old.keys.items index after) as_prepared.1.planned
 
-  pub steps_in_place : (sent : Input T Kind Op Delta ghosts) → sent ≡ input.Update key op level → (new : Node T K Kind Op Delta ghosts keeping) → old.steps < 16384 → new.keys.items ≡ set old.keys.items index after → new.operations ≡ old.operations → new.view ≡ old.view → new.steps ≡ old.steps + 1 → new.id ≡ old.id → new.keeper ≡ old.keeper
+  pub steps_in_place : (sent : Input T Kind Op Delta ghosts) → sent ≡ input.Update key op level → (new : Node T K Kind Op Delta ghosts keeping) → old.steps < old.limit → new.keys.items ≡ set old.keys.items index after → known new.operations ≡ known old.operations → new.view ≡ old.view → new.steps ≡ old.steps + 1 → new.limit ≡ old.limit → new.id ≡ old.id → new.keeper ≡ old.keeper
       → IsStepOf spelling old sent NoStore (output_of became) new
-  steps_in_place sent is new few keys operations view steps id keeper =
+  steps_in_place sent is new few keys operations view steps limit id keeper =
       let plan = as_prepared.0 in
       let so = as_prepared.1 in
       subst (λ (i : Input T Kind Op Delta ghosts). IsStepOf spelling old i NoStore (output_of became) new) (sym is) (makes_step spelling old (as_planned plan) so.sound NoStore new
@@ -417,8 +417,10 @@ module _ {T K Kind Op Delta : Type 0} {ghosts : Ghosts T Kind Op Delta} {keeping
         operated = operations;
         viewed = view;
         counted = steps;
+        limit = limit;
         identity = id;
         items = [];
+        nothing = λ nothing. refl;
         stores = so.stores;
         kept = (refl, keeper);
       }) few (input.Update key op level) so.prepares)

@@ -33,7 +33,7 @@ use Rattle.member_node.specs.declared.operation.Operation.{Operation}
 use Rattle.member_node.specs.declared.operation.Operation.TheVariants.{Open, Finished}
 use Rattle.member_node.specs.declared.operation.OperationResult.{OperationResult}
 use Rattle.member_node.specs.declared.operations.OperationChange.TheVariants.{Same, Put}
-use Rattle.member_node.specs.Operations.{asked_meant, result_meant, result_at}
+use Rattle.member_node.specs.Operations.{known, asked_meant, result_meant, result_at}
 use Rattle.member_node.specs.Replies.{delta_groups}
 use Rattle.member_node.specs.Keys.{declared_by}
 use Rattle.member_node.specs.Changes.{AreMade}
@@ -103,4 +103,4 @@ module _ {T K Kind Op Delta : Type 0} {ghosts : Ghosts T Kind Op Delta} {keeping
   -- what one more answer makes of it, which ends so with the last one
   abbrev pub CountsReadIfOk : {E : Type 0} → (from op : ℕ) → Text → List (Option (Change T Kind Op Delta)) → Result Counted E → Type 0
   CountsReadIfOk from op key changes result =
-      ForReads key changes (λ digest node asked. IfOk result (IsCountOf code.operations from op (is_read_of key) (λ end. result_meant end ≡ result_of (delta_groups ghosts.data_type digest) node asked)))
+      ForReads key changes (λ digest node asked. IfOk result (IsCountOf (known code.operations) from op (is_read_of key) (λ end. result_meant end ≡ result_of (delta_groups ghosts.data_type digest) node asked)))

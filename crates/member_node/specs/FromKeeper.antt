@@ -15,6 +15,7 @@ use Rattle.member_keeper.specs.Tables.{Table}
 use Rattle.member_node.specs.declared.key.KeyDecl.{KeyDecl}
 use Rattle.member_node.specs.declared.key.KeyState.{KeyState}
 use Rattle.member_node.specs.declared.node.Node.{Node}
+use Rattle.member_node.specs.Replies.{program_steps}
 use Rattle.member_node.specs.declared.from_keeper.FromKeeperError.{FromKeeperError}
 use Rattle.member_node.specs.declared.from_keeper.FromKeeperError.TheVariants.{LoadFailed, Damaged, Memory}
 use Rattle.member_node.specs.Keys.{AreOfKinds, declared, declared_by}
@@ -33,6 +34,7 @@ module _ {T Kind Op Delta K : Type 0} {ghosts : Ghosts T Kind Op Delta} {keeping
       pub viewed : new.view ≡ view
       pub keys : map declared_by new.keys.items ≡ map declared decls
       pub begins : new.steps ≡ 0
+      pub limit : new.limit ≡ program_steps
       pub table : Becomes (keeping.table keeper) (keeping.table new.keeper) (λ table. table)
       pub answered : Answers keeping true keeper new.keeper
       pub later : keeping.faults keeper ≤ keeping.faults new.keeper

@@ -1,5 +1,7 @@
 pub mod Own
+pub mod Limits
 pub mod Operations
+pub mod Ended
 pub mod Recording
 pub mod Replies
 pub mod Digests
@@ -7,6 +9,7 @@ pub mod Showing
 pub mod Fresh
 pub mod Keys
 pub mod Members
+pub mod Forgetting
 pub mod Sending
 pub mod Changes
 pub mod Taking
@@ -23,6 +26,8 @@ pub mod Restoring
 pub mod Loaded
 pub mod FromKeeper
 pub mod Planning
+pub mod Answerable
+pub mod Calls
 pub mod Storing
 pub mod Updates
 pub mod InPlace

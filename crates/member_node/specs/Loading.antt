@@ -76,6 +76,7 @@ module _ {T Kind Op Delta K : Type 0} {ghosts : Ghosts T Kind Op Delta} {keeping
       pub viewed : new.view ≡ view
       pub keys : map declared_by new.keys.items ≡ map declared_by old.keys.items
       pub begins : new.steps ≡ 0
+      pub limit : new.limit ≡ old.limit
       pub table : Becomes (keeping.table old.keeper) (keeping.table new.keeper) (λ table. table)
       pub answered : Answers keeping true old.keeper new.keeper
       pub later : keeping.faults old.keeper ≤ keeping.faults new.keeper

@@ -19,7 +19,7 @@ use Rattle.data_deltalog.specs.Images.{StandsForLog}
 use Rattle.member_node.specs.declared.key.KeyDecl.{KeyDecl}
 use Rattle.member_node.specs.declared.key.KeyState.{KeyState}
 use Rattle.member_node.specs.declared.node.Node.{Node}
-use Rattle.member_node.specs.Operations.{StandForOperations}
+use Rattle.member_node.specs.Operations.{known, StandForOperations}
 pub use Rattle.member_node.specs.Keys.{AreDistinct, AreOfKinds, declared, declared_by}
 pub use Rattle.member_messages.specs.Standing.{StandsForEntry, StandsForKeyed, StandsForKeyedGroup, StandsForMessage, StandsForPost, StandsForPosts}
 pub use Rattle.member_node.specs.Replies.{delta_groups, spelled_groups, meant}
@@ -52,7 +52,7 @@ module _ {T Kind Op Delta : Type 0} (kind_of : T → Kind) (IsDataOf : T → His
     pub keys : node.keys ≡ map declared_by code.keys.items
     pub distinct : AreDistinct (map (λ (state : KeyState T Kind Op Delta). state.name) code.keys.items)
     pub entries : All (λ state. StandsForKey kind_of IsDataOf ghosts.IsDeltaOf kinds logs state (node.entries state.name) (node.flushed state.name)) code.keys.items
-    pub operations : StandForOperations code.operations node
+    pub operations : StandForOperations (known code.operations) node
     pub steps : node.steps ≡ code.steps
 
 -- a member of this identity and view, with these keys and no records

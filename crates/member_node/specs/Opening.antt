@@ -11,7 +11,7 @@ use Rattle.member_node.specs.declared.operations.NextOperation.{NextOperation}
 use Rattle.member_node.specs.declared.operations.OperationChange.TheVariants.{Opened}
 use Rattle.member_node.specs.declared.plan.Prepared.{Prepared}
 use Rattle.member_node.specs.declared.reply.Reply.TheVariants.{Pending}
-use Rattle.member_node.specs.Operations.{HasRoom, asked_meant}
+use Rattle.member_node.specs.Operations.{known, HasRoom, asked_meant}
 
 -- one more operation, which has counted the member itself, and the same message to each other
 pub record IsOpened {T K Kind Op Delta : Type 0} {ghosts : Ghosts T Kind Op Delta} {keeping : Keeping K} (code : Node T K Kind Op Delta ghosts keeping) (key : Text) (reads : Bool) (number : ℕ) (message : Message T Kind Op Delta ghosts) (prepared : Prepared T Kind Op Delta ghosts) : Type 0 where
@@ -20,6 +20,6 @@ pub record IsOpened {T K Kind Op Delta : Type 0} {ghosts : Ghosts T Kind Op Delt
   pub opens : prepared.operations ≡ Opened next
   pub room : HasRoom code.operations next
   pub asked : (op : ℕ) → asked_meant op next.asked ≡ record { op = op; key = key; reads = reads; needed = number; counted = alone code.id }
-  pub reply : prepared.output.reply ≡ Pending (length code.operations)
+  pub reply : prepared.output.reply ≡ Pending (length (known code.operations))
   pub posts : prepared.output.posts ≡ map (λ i. record { to = i; message = message }) (others code.view code.id)
   pub none_ends : prepared.output.finished ≡ None

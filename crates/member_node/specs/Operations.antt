@@ -1,9 +1,11 @@
 -- The operations of a member.
+--     known, kept_at        all of them by number, and those that were not forgotten
+--     HasRoom, CanChange        one more has a place, and a change is of one that is kept
 --     after_store, changed_operations        what a step makes of them
 --     result_meant, finished_meant        how one ended
 --     open_in, finished_at        those that are open, and how one of a number ended
 --     StandForOperations        they are those of a member of the model
-use Rattle.std.specs.Prelude.{◌≡◌, ℕ, ◌+◌, ◌<◌, ◌==◌, List, [], ◌∷◌, ◌++◌, length, slice_get, slice_set, Bool, true, false, Option, Some, None, IsSome, find, option_map}
+use Rattle.std.specs.Prelude.{◌≡◌, ℕ, ◌+◌, ◌-◌, ◌^◌, ◌<◌, ◌≤◌, ◌==◌, List, [], ◌∷◌, ◌++◌, length, replicate, slice_get, slice_set, vec_len, vec_capacity, Bool, true, false, if◌then◌else◌, nat_lt, Option, Some, None, MatchOption, find, option_map}
 use Rattle.model_members.specs.Node as nodes
 use Rattle.model_members.specs.Node.{OpenOperation, Result as Meant}
 use Rattle.model_kinds.specs.declared.shown.Shown.{Shown}
@@ -14,11 +16,26 @@ use Rattle.member_node.specs.declared.operation.Operation.{Operation}
 use Rattle.member_node.specs.declared.operation.Operation.TheVariants.{Open, Finished, TimedOut}
 use Rattle.member_node.specs.declared.operation.OperationResult.{OperationResult}
 use Rattle.member_node.specs.declared.operation.OperationResult.TheVariants.{Wrote, Read, ReadDeleted, ReadNothing}
+use Rattle.member_node.specs.declared.operations.Operations.{Operations}
 use Rattle.member_node.specs.declared.operations.NextOperation.{NextOperation}
 use Rattle.member_node.specs.declared.operations.OperationChange.{OperationChange}
 use Rattle.member_node.specs.declared.operations.OperationChange.TheVariants.{Same, Opened, Put}
 use Rattle.member_node.specs.declared.reply.Fate.{Fate}
 use Rattle.member_node.specs.declared.reply.Fate.TheVariants.{StoreFailed}
+
+-- BY NUMBER
+
+-- all that were ever opened, of which the forgotten ones count as closed
+abbrev pub known : Operations → List Operation
+known operations = replicate operations.forgotten TimedOut ++ operations.kept.items
+
+-- the operation of a number, if it was opened and not forgotten
+abbrev pub kept_at : Operations → ℕ → Option Operation
+kept_at operations op = if nat_lt op operations.forgotten then None else slice_get operations.kept.items (op - operations.forgotten)
+
+-- the number of the next fits a word
+abbrev pub AreNumbered : Operations → Type 0
+AreNumbered operations = length (known operations) < 2 ^ 64
 
 -- CHANGES
 
@@ -37,14 +54,15 @@ changed_operations operations Same = operations
 changed_operations operations (Opened next) = operations ++ Open next.asked ∷ []
 changed_operations operations (Put op operation) = slice_set operations op operation
 
--- the first operation brings room for all
-abbrev pub HasRoom : List Operation → NextOperation → Type 0
-HasRoom operations next = length operations ≡ 0 → IsSome next.room.spare
+-- the kept ones have room for one more, or an empty vector is there that has room for them and one more
+abbrev pub HasRoom : Operations → NextOperation → Type 0
+HasRoom operations next = vec_capacity operations.kept ≤ vec_len operations.kept → MatchOption next.spare ⊥ (λ v. (vec_len v ≡ 0) × (vec_len operations.kept < vec_capacity v))
 
-abbrev pub CanChange : List Operation → OperationChange → Type 0
+-- what changes is kept
+abbrev pub CanChange : Operations → OperationChange → Type 0
 CanChange operations Same = Unit {0}
 CanChange operations (Opened next) = HasRoom operations next
-CanChange operations (Put op operation) = op < length operations
+CanChange operations (Put op operation) = (operations.forgotten ≤ op) × (op < length (known operations))
 
 -- WHAT THEY STAND FOR
 

@@ -15,7 +15,7 @@ use Rattle.member_node.specs.Inputs.{StandsForInput}
 use Rattle.member_node.specs.declared.reply.Output.{Output}
 use Rattle.member_node.specs.Steps.{replication, MakesStep}
 use Rattle.member_node.specs.Planning.{IsSoundPlan, IsPrepared}
-use Rattle.member_node.specs.Operations.{CanChange, opens_one}
+use Rattle.member_node.specs.Operations.{known, CanChange, opens_one}
 use Rattle.member_node.specs.Outputs.{is_pending}
 use Rattle.std.specs.Prelude.{◌≡◌}
 
@@ -30,7 +30,7 @@ module _ {T K Kind Op Delta : Type 0} {ghosts : Ghosts T Kind Op Delta} {keeping
   abbrev pub Prepares : Spelling T Kind Op Delta → Node T K Kind Op Delta ghosts keeping → Input T Kind Op Delta ghosts → Prepared T Kind Op Delta ghosts → Type 0
   Prepares spelling code input prepared =
       (kinds : Text → Kind) (logs : Text → History Op) (node : nodes.Node Kind Op Shown) (sent : nodes.Input Op) → StandsForNode ghosts.kind_of ghosts.IsDataOf kinds logs code node → StandsForInput kinds logs code.keys.items input sent
-      → IsSafe logs (step (replication ghosts spelling) node sent nodes.Fate.NoStore).node → IsPrepared kinds logs code.keys.items code.operations node (step (replication ghosts spelling) node sent nodes.Fate.NoStore) prepared
+      → IsSafe logs (step (replication ghosts spelling) node sent nodes.Fate.NoStore).node → IsPrepared kinds logs code.keys.items (known code.operations) node (step (replication ghosts spelling) node sent nodes.Fate.NoStore) prepared
 
   -- a step is made, for each input for which it was prepared
   abbrev pub MakesPrepared : Spelling T Kind Op Delta → Node T K Kind Op Delta ghosts keeping → Prepared T Kind Op Delta ghosts → Output T Kind Op Delta ghosts → Node T K Kind Op Delta ghosts keeping → Type 0

@@ -17,9 +17,13 @@ use Rattle.member_node.specs.declared.reply.Reply.TheVariants as reply
 use Rattle.member_node.specs.declared.reply.Fate.{Fate}
 use Rattle.member_node.specs.declared.reply.Fate.TheVariants as fate
 
+-- how many steps a member of the program makes at most
+abbrev pub program_steps : ℕ
+program_steps = 16384
+
 -- a data type whose own records go as delta groups, of which a member keeps the last ones
 abbrev pub delta_groups : {Kind Op : Type 0} → DataType Kind Op Shown → (Kind → Entry Op → List ℕ) → Replication Kind Op Shown
-delta_groups data_type digest = record { data_type = data_type; digest = digest; log_length = most_kept }
+delta_groups data_type digest = record { data_type = data_type; digest = digest; log_length = most_kept; most_steps = program_steps }
 
 -- and whose digests are those of the entries' spellings
 abbrev pub spelled_groups : {Kind Op : Type 0} → DataType Kind Op Shown → (Kind → History Op → ℕ) → (Kind → History Op → List ℕ) → Replication Kind Op Shown

@@ -89,7 +89,6 @@ module _ {T Kind Op Delta K : Type 0} {ghosts : Ghosts T Kind Op Delta} {keeping
   module _ (kinds : Text → Kind) (logs : Text → History Op) (old : Node T K Kind Op Delta ghosts keeping) (fate : Fate) (output : Output T Kind Op Delta ghosts) (new : Node T K Kind Op Delta ghosts keeping) where
     -- the step of this member of the model, for this input
     pub record IsImage (node : nodes.Node Kind Op Shown) (sent : nodes.Input Op) : Type 0 where
-      pub has_room : IsFalse (is_full node)
       pub fate_fits : FitsFate (replication ghosts spelling) node sent (meant_fate fate)
       pub stands : StandsForNode ghosts.kind_of ghosts.IsDataOf kinds logs new (step (replication ghosts spelling) node sent (meant_fate fate)).node
       pub answers : StandsForOutput kinds logs output (step (replication ghosts spelling) node sent (meant_fate fate)).output
@@ -102,8 +101,9 @@ module _ {T Kind Op Delta K : Type 0} {ghosts : Ghosts T Kind Op Delta} {keeping
         → StandsForNode ghosts.kind_of ghosts.IsDataOf kinds logs old node → StandsForInput kinds logs old.keys.items input sent
         → IsSafe logs (step (replication ghosts spelling) node sent (meant_fate fate)).node → IsImage kinds logs old fate output new node sent
     pub called : IsCalled keeping fate old.keeper new.keeper
-    pub had_room : old.steps < 16384
+    pub had_room : old.steps < old.limit
     pub counted : new.steps ≡ old.steps + 1
+    pub limit : new.limit ≡ old.limit
     pub identity : new.id ≡ old.id
     pub keys : map declared_by new.keys.items ≡ map declared_by old.keys.items
 
@@ -115,10 +115,10 @@ module _ {T Kind Op Delta K : Type 0} {ghosts : Ghosts T Kind Op Delta} {keeping
 -- REFUSALS
 
 module _ {T Kind Op Delta K : Type 0} {ghosts : Ghosts T Kind Op Delta} {keeping : Keeping K} where
-  -- exactly a member that made so many steps is full
+  -- exactly a member that made all its steps is full
   abbrev pub MayRefuse : Node T K Kind Op Delta ghosts keeping → StepError → Type 0
-  MayRefuse node HistoryFull = node.steps ≡ 16384
-  MayRefuse node Memory = node.steps < 16384
+  MayRefuse node HistoryFull = node.steps ≡ node.limit
+  MayRefuse node Memory = node.steps < node.limit
 
   -- but for its keeper
   abbrev pub IsOtherwiseSame : (old new : Node T K Kind Op Delta ghosts keeping) → Type 0

@@ -1,4 +1,4 @@
-ghost use Rattle.std.specs.Prelude.{IfOk};
+ghost use Rattle.std.specs.Prelude.{◌≡◌, IfOk};
 ghost use Rattle.model_history.specs.Texts.{Text};
 ghost use Rattle.model_history.specs.History.{History};
 ghost use Rattle.model_members.specs.Node.{Node as Member};
@@ -6,7 +6,10 @@ ghost use Rattle.model_kinds.specs.declared.shown.Shown.{Shown};
 ghost use Rattle.member_node.specs.declared.input.Input.TheVariants as input;
 ghost use Rattle.member_node.specs.Members.{StandsForNode};
 ghost use Rattle.member_node.specs.Counting.{LooksAt};
+ghost use Rattle.member_node.specs.Ended.{forgotten_to};
+ghost use Rattle.member_node.specs.Forgetting.{IsOtherwiseAlike, StandsForgetting};
 ghost use Rattle.member_node.specs.Preparing.{IsSoundFor, Prepares};
+ghost use Rattle.member_node.specs.Answerable.{RepliesTo};
 
 use crate::node::Node;
 use crate::operation::{Look, Operation};
@@ -22,6 +25,7 @@ impl<T: SpelledData, K: Keeper + Drop> Node<T, K> {
     pub(crate) fn timed_out(&self, op: u64) -> Prepared<T>
         ensures sound { IsSoundFor self.now result }
         ensures image { Prepares T.SpelledData.own self.now (input.Timeout op) result }
+        ensures replies { RepliesTo (input.Timeout op) result }
     {
         match self.operations.asked(op) {
             Some(_) => Prepared {
@@ -51,5 +55,15 @@ impl<T: SpelledData, K: Keeper + Drop> Node<T, K> {
             Some(Operation::Finished(result)) => Ok(Look::Finished(result.copy(self.alloc)?)),
             Some(Operation::TimedOut) => Ok(Look::NoSuchOp),
         }
+    }
+
+    /// Forgets how the operations of the numbers below this one ended, up to the first that is still open: `look` then tells
+    /// that there is none of them. It makes no step and takes no memory, and what was kept of them is free again.
+    pub fn forget(&mut self, before: u64)
+        ensures same { IsOtherwiseAlike self.old self.new }
+        ensures forgotten { self.new.operations.forgotten ≡ forgotten_to self.old.operations before }
+        ensures stands { StandsForgetting self.old self.new }
+    {
+        self.operations.forget(before);
     }
 }

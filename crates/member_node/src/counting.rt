@@ -12,7 +12,9 @@ ghost use Rattle.member_node.specs.declared.operation.OperationResult.TheVariant
 ghost use Rattle.member_node.specs.declared.operations.OperationChange.TheVariants as change;
 ghost use Rattle.member_node.specs.Showing.{ShowsReadIfOk};
 ghost use Rattle.member_node.specs.Counting.{open_at, IsAnswered, is_write, is_read_of, IsCountOf, AnswersRead, EndsReadIfOk, CountsReadIfOk};
+ghost use Rattle.member_node.specs.Operations.{known};
 ghost use Rattle.member_node.specs.Preparing.{IsSoundFor, Prepares};
+ghost use Rattle.member_node.specs.Answerable.{RepliesTo};
 
 use crate::change::{Changes, current};
 use crate::entries::{any_changed, merged};
@@ -68,7 +70,7 @@ impl Asked {
 impl Operations {
     /// The open operation of a number, if this is one.
     pub(crate) fn asked(&self, op: u64) -> Option<&Asked>
-        ensures { option_copied result ≡ open_at self.now op }
+        ensures { option_copied result ≡ open_at (known self.now) op }
     {
         match self.at(op) {
             Some(Operation::Open(asked)) => Some(asked),
@@ -162,6 +164,7 @@ impl<T: SpelledData, K: Keeper + Drop> Node<T, K> {
         requires { is_member self.now.view from ≡ true }
         ensures sound { IfOk result (IsSoundFor self.now) }
         ensures image { IfOk result (Prepares T.SpelledData.own self.now (input.Take from (message.Write op key.now envelope.now))) }
+        ensures replies { IfOk result (RepliesTo (input.Take from (message.Write op key.now envelope.now))) }
     {
         let view = self.view.number();
         let changes = merged(self.alloc, &self.keys, self.id, view, key, Some(envelope))?;
@@ -198,6 +201,7 @@ impl<T: SpelledData, K: Keeper + Drop> Node<T, K> {
         requires { is_member self.now.view from ≡ true }
         ensures sound { IfOk result (IsSoundFor self.now) }
         ensures image { IfOk result (Prepares T.SpelledData.own self.now (input.Take from (message.Read op key.now))) }
+        ensures replies { IfOk result (RepliesTo (input.Take from (message.Read op key.now))) }
     {
         let message = self.read_answer(op, key)?;
         let posts = answer_to(self.alloc, from, message)?;
@@ -215,7 +219,7 @@ impl<T: SpelledData, K: Keeper + Drop> Node<T, K> {
 
     /// Counts the acknowledgement of an open write.
     fn write_counted(&self, from: Id, op: u64) -> Result<Counted, Memory>
-        ensures { IfOk result (IsCountOf self.now.operations from op is_write (λ end. end ≡ ended.Wrote)) }
+        ensures { IfOk result (IsCountOf (known self.now.operations) from op is_write (λ end. end ≡ ended.Wrote)) }
     {
         let Some(asked) = self.operations.asked(op) else {
             return Ok(Counted::nothing());
@@ -234,6 +238,7 @@ impl<T: SpelledData, K: Keeper + Drop> Node<T, K> {
         requires { is_member self.now.view from ≡ true }
         ensures sound { IfOk result (IsSoundFor self.now) }
         ensures image { IfOk result (Prepares T.SpelledData.own self.now (input.Take from (message.WriteAck op))) }
+        ensures replies { IfOk result (RepliesTo (input.Take from (message.WriteAck op))) }
     {
         let counted = self.write_counted(from, op)?;
         Ok(Prepared {
@@ -269,7 +274,7 @@ impl<T: SpelledData, K: Keeper + Drop> Node<T, K> {
         changes: &Changes<T>,
     ) -> Result<Counted, Memory>
         requires { length changes.now ≡ length self.now.keys.items }
-        ensures counts { IfOk result (IsCountOf self.now.operations from op (is_read_of key.now) (λ end. Unit {0})) }
+        ensures counts { IfOk result (IsCountOf (known self.now.operations) from op (is_read_of key.now) (λ end. Unit {0})) }
         ensures image { CountsReadIfOk self.now from op key.now changes.now result }
     {
         let Some(asked) = self.operations.asked(op) else {
@@ -298,6 +303,7 @@ impl<T: SpelledData, K: Keeper + Drop> Node<T, K> {
         requires { is_member self.now.view from ≡ true }
         ensures sound { IfOk result (IsSoundFor self.now) }
         ensures image { IfOk result (Prepares T.SpelledData.own self.now (input.Take from (message.ReadAnswer op key.now (option_copied envelope.entry)))) }
+        ensures replies { IfOk result (RepliesTo (input.Take from (message.ReadAnswer op key.now (option_copied envelope.entry)))) }
     {
         let view = self.view.number();
         let changes = merged(self.alloc, &self.keys, self.id, view, key, envelope)?;

@@ -6,7 +6,7 @@ ghost use Rattle.member_node.specs.Loading.{AreSound};
 ghost use Rattle.member_node.specs.FromKeeper.{IsFromKeeper, StandsForKept, IsRefusedFrom, IsFirstUnfitOf, KeepsUndamaged};
 
 use crate::key::{KeyDecl, KeyState};
-use crate::node::Node;
+use crate::node::{MOST_STEPS, Node};
 use crate::operations::Operations;
 use crate::restoring::{Unfit, restored};
 use base_bytes::Text;
@@ -71,6 +71,7 @@ impl<T: SpelledData, K: Keeper + Drop> Node<T, K> {
                 keys,
                 operations: Operations::new(alloc),
                 steps: 0,
+                limit: MOST_STEPS,
                 keeper,
             }),
             Err(Unfit::Damaged(key)) => Err(FromKeeperError::Damaged(keeper, key)),

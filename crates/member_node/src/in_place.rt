@@ -9,6 +9,7 @@ ghost use Rattle.member_node.specs.Recording.{is_open_to};
 ghost use Rattle.member_node.specs.Steps.{IsStepOf, IsUnchanged};
 ghost use Rattle.member_node.specs.Updates.{reply_of, IsApplied};
 ghost use Rattle.member_node.specs.InPlace.{IsInPlace, output_of};
+ghost use Rattle.member_node.specs.Answerable.{CanReply};
 
 use crate::input::Input;
 use crate::key::KeyState;
@@ -106,8 +107,9 @@ impl<T: SpelledData, K: Keeper + Drop> Node<T, K> {
     ///
     /// Memory was refused. The member is then as before.
     pub(crate) fn update_in_place(&mut self, input: &Input<T>) -> Result<Option<Applied>, Memory>
-        requires { self.old.steps < 16384 }
+        requires { self.old.steps < self.old.limit }
         ensures step { IfOk result (λ told. IfSome told (λ became. IsStepOf T.SpelledData.own self.old input.now fate.NoStore (output_of became) self.new)) }
+        ensures reply { IfOk result (λ told. IfSome told (λ became. CanReply input.now (reply_of became))) }
         ensures otherwise { IfOk result (λ told. told ≡ None → self.new ≡ self.old) }
         ensures err { OnErr result (IsUnchanged self.old self.new) }
     {

@@ -1,5 +1,6 @@
 ghost use Rattle.std.specs.Prelude.{◌≡◌, ◌<◌, IfOk};
 ghost use Rattle.member_node.specs.Preparing.{IsSoundFor, Prepares};
+ghost use Rattle.member_node.specs.Answerable.{RepliesTo};
 
 use crate::gossip::told_of;
 use crate::input::Input;
@@ -108,10 +109,11 @@ impl<T: SpelledData, K: Keeper + Drop> Node<T, K> {
 
     /// A step for an input, before it is made, once the digests that it tells or compares are kept.
     pub(crate) fn prepare_with_digests(&mut self, input: &Input<T>) -> Result<Prepared<T>, Memory>
-        requires { self.old.steps < 16384 }
+        requires { self.old.steps < self.old.limit }
         ensures same { self.new ≡ self.old }
         ensures sound { IfOk result (IsSoundFor self.new) }
         ensures image { IfOk result (Prepares T.SpelledData.own self.new input.now) }
+        ensures replies { IfOk result (RepliesTo input.now) }
     {
         self.keep_digests(needed_for(input))?;
         self.prepare(input)
@@ -126,6 +128,7 @@ impl<T: SpelledData, K: Keeper + Drop> Node<T, K> {
         ensures same { self.new ≡ self.old }
         ensures sound { IfOk result (IsSoundFor self.new) }
         ensures image { IfOk result (Prepares T.SpelledData.own self.new (input.Take from message.now)) }
+        ensures replies { IfOk result (RepliesTo (input.Take from message.now)) }
     {
         self.keep_digests(needed_for_message(message))?;
         self.taken(from, message)

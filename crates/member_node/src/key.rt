@@ -32,8 +32,9 @@ pub struct KeyState<T: Replica> {
 }
 
 impl<T: Replica> KeyState<T> {
-    ghost use Rattle.std.specs.Prelude.{◌<◌, ◌^◌, true, false, IfOk, map, All};
+    ghost use Rattle.std.specs.Prelude.{◌<◌, ◌^◌, true, false, IfOk, IsTrue, map, All};
     ghost use Rattle.member_node.specs.Outputs.{is_pending};
+    ghost use Rattle.member_node.specs.Answerable.{is_of_get, CanRefuse};
     ghost use Rattle.base_vectors.specs.Vectors.{number_at};
     ghost use Rattle.data_markers.specs.Marks.{performed_in};
     ghost use Rattle.data_envelope.specs.Words.{parts_of};
@@ -113,6 +114,7 @@ impl<T: Replica> KeyState<T> {
         requires logged { IsLogged T.kind_of id self.now }
         ensures owned { IfOk result (IsOwn T.Replica id self.now) }
         ensures means { IfOk result (MeansUpdate T.Replica id op.now self.now) }
+        ensures refuses { IfOk result CanRefuse }
     {
         let mut entry = self.entry.envelope().copy(alloc)?;
         match next_record(alloc, &mut entry, &self.log, op, id) {
@@ -130,6 +132,7 @@ impl<T: Replica> KeyState<T> {
     pub(crate) fn show(&self, alloc: Global) -> Result<Reply, Memory>
         ensures quiet { IfOk result (λ reply. is_pending reply ≡ false) }
         ensures image { IfOk result (MeansShown T.Replica self.now.entry) }
+        ensures shows { IfOk result (λ reply. IsTrue (is_of_get reply)) }
     {
         let entry = self.entry.envelope();
         if !entry.has_records() {

@@ -12,8 +12,16 @@
 //!   keeper tells its table, it tells it with the durable entries that changed put in format 2, or
 //!   as it was if the store failed. Nothing of another kind than its key's, and nothing of
 //!   an undeclared key, has any effect (`Node::step`, clause `step` (`IsStepOf`)).
+//! - Each input has its own list of replies, and none but those is ever given; nothing but a message
+//!   that is taken ends an operation (`Node::step`, clauses `reply` (`CanReply`), `ends` (`CanEnd`)).
+//! - For each input there is a call with an answer of its own, `Node::update` and others. It makes the
+//!   step for that input, whose reply is what the answer says (`told_by`).
 //! - A look at the number of an operation tells whether it is open in the model, or else the
 //!   model's first result of that number, if there is one (`Node::look` (`LooksAt`)).
+//! - A member may forget how operations ended: those of the numbers below a given one, up to the
+//!   first that is still open. It then stands for the model's member without these ends, and is else
+//!   as before (`Node::forget`, clauses `forgotten` (`forgotten_to`), `stands`
+//!   (`StandsForgetting`), `same`).
 //! - The keeper is called once where something is to be stored, and else not; a reply tells `store
 //!   failed` exactly where that call failed. All memory is taken before that call, so a step that
 //!   the keeper took is never refused (`Node::step` (`IsStepOf.called`, `unchanged`), `Fate`).
@@ -33,6 +41,8 @@
 #![tactic(auto)]
 
 mod answering;
+mod answers;
+mod calls;
 mod change;
 mod closing;
 mod counting;
@@ -56,13 +66,15 @@ mod preparing;
 mod recording;
 mod reply;
 mod restoring;
-mod room;
 mod sending;
 mod shown;
 mod storing;
 mod taking;
 mod ticking;
 
+pub use answers::{
+    Answered, Closed, Gossiped, Got, Installed, Pruned, Received, UpdateRefusal, Updated,
+};
 pub use from_keeper::FromKeeperError;
 pub use input::Input;
 pub use key::{KeyDecl, KeyState};
@@ -71,7 +83,7 @@ pub use member_messages::{
     Entries, Groups, Keyed, Message, MessageKind, Post, Posts, Sketch, Texts,
 };
 pub use member_quorum::Level;
-pub use node::{MOST_STEPS, Node};
+pub use node::{HIGHEST_LIMIT, MOST_STEPS, Node};
 pub use operation::{Finished, Look, OperationResult};
 pub use outcome::{KeyOutcome, Outcome, Outcomes};
 pub use reply::{Fate, Output, Reply, StepError};

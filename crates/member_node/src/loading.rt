@@ -54,6 +54,7 @@ impl<T: SpelledData, K: Keeper + Drop> Node<T, K> {
                 keys,
                 operations: Operations::new(old.alloc),
                 steps: 0,
+                limit: old.limit,
                 keeper: old.keeper,
             }),
             Err(Unfit::Damaged(key)) => Err(LoadError::Damaged(old, key)),

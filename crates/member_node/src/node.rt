@@ -1,6 +1,7 @@
-ghost use Rattle.std.specs.Prelude.{◌≡◌, ◌≤◌, ◌<◌, length, unwrap_or};
+ghost use Rattle.std.specs.Prelude.{◌≡◌, ◌≤◌, ◌<◌, ◌^◌, length, unwrap_or};
 ghost use Rattle.member_node.specs.Own.{HasFewOwn, IsUnpruned, AreLogged, AreOfTheirKinds};
 ghost use Rattle.member_node.specs.Keys.{AreDistinctKeys};
+ghost use Rattle.member_node.specs.Operations.{known};
 
 use crate::input::Input;
 use crate::key::{KeyDecl, KeyState, index_of};
@@ -18,8 +19,11 @@ use member_views::View;
 use std::alloc::Global;
 use thread_machine::machine::Machine;
 
-/// A member makes at most so many steps, whatever it replies.
+/// So many steps a member makes at most, whatever it replies, unless it is given another limit.
 pub const MOST_STEPS: usize = 16_384;
+
+/// The highest limit that a member can be given: 2^54 steps.
+pub const HIGHEST_LIMIT: usize = 18_014_398_509_481_984;
 
 /// A member: its identity, the view that it has installed, what it holds of each declared key, the operations that it has
 /// opened, and where it keeps what it holds of the durable keys.
@@ -31,9 +35,11 @@ pub struct Node<T: Replica, K: Keeper> {
     pub(crate) keys: Vec<KeyState<T>>,
     pub(crate) operations: Operations,
     pub(crate) steps: usize,
+    pub(crate) limit: usize,
     pub(crate) keeper: K,
-    ghost few_steps: { steps ≤ 16384 },
-    ghost few_operations: { length operations ≤ steps },
+    ghost few_steps: { steps ≤ limit },
+    ghost few_limit: { limit ≤ 2 ^ 54 },
+    ghost few_operations: { length (known operations) ≤ steps },
     ghost few_own: { HasFewOwn id steps keys.items },
     ghost unpruned: { IsUnpruned id keys.items },
     ghost logged: { AreLogged T.kind_of id keys.items },
@@ -49,7 +55,10 @@ impl<T: SpelledData, K: Keeper + Drop> Node<T, K> {
     ghost use Rattle.member_node.specs.declared.reply.StepError.TheVariants as StepError;
     ghost use Rattle.member_node.specs.Keys.{AreDistinct};
     ghost use Rattle.member_node.specs.Members.{IsNewMember};
+    ghost use Rattle.member_node.specs.Limits.{IsLimited};
+    ghost use Rattle.member_node.specs.Replies.{program_steps};
     ghost use Rattle.member_node.specs.Steps.{MakesStep, MayRefuse, IsUnchanged};
+    ghost use Rattle.member_node.specs.Answerable.{CanReply, CanEnd, RepliesPrepared};
     ghost use Rattle.member_node.specs.Planning.{IsSoundPlan};
     ghost use Rattle.member_node.specs.Operations.{CanChange};
     ghost use Rattle.member_node.specs.Carrying.{IsCommitted, IsCarried};
@@ -74,6 +83,7 @@ impl<T: SpelledData, K: Keeper + Drop> Node<T, K> {
         ensures identity { IfOk result (λ node. node.id ≡ id) }
         ensures view { IfOk result (λ node. node.view ≡ view) }
         ensures keeper { IfOk result (λ node. node.keeper ≡ keeper) }
+        ensures limit { IfOk result (λ node. node.limit ≡ program_steps) }
         ensures err { IfErr result (λ refused. refused.0 ≡ keeper) }
     {
         match KeyState::all_new(alloc, id, keys) {
@@ -84,10 +94,35 @@ impl<T: SpelledData, K: Keeper + Drop> Node<T, K> {
                 keys,
                 operations: Operations::new(alloc),
                 steps: 0,
+                limit: MOST_STEPS,
                 keeper,
             }),
             Err(_) => Err((keeper, Memory)),
         }
+    }
+
+    /// The member with another limit: it makes at most so many steps in all, but no fewer than it has made, and at most
+    /// `HIGHEST_LIMIT`.
+    pub fn with_limit(self, limit: usize) -> Node<T, K>
+        ensures { IsLimited self limit result }
+    {
+        let mut node = self;
+        node.limit = limit.min(HIGHEST_LIMIT).max(node.steps);
+        node
+    }
+
+    /// How many steps the member makes at most.
+    pub fn limit(&self) -> usize
+        ensures { result ≡ self.now.limit }
+    {
+        self.limit
+    }
+
+    /// How many steps the member has made.
+    pub fn steps(&self) -> usize
+        ensures { result ≡ self.now.steps }
+    {
+        self.steps
     }
 
     /// The identity.
@@ -143,11 +178,13 @@ impl<T: SpelledData, K: Keeper + Drop> Node<T, K> {
     /// have been called; what this tells is as before.
     pub fn step(&mut self, input: &Input<T>) -> Result<Output<T>, StepError>
         ensures step { IfOk result (λ output. MakesStep T.SpelledData.own self.old input.now output self.new) }
+        ensures reply { IfOk result (λ output. CanReply input.now output.reply) }
+        ensures ends { IfOk result (λ output. CanEnd input.now output.finished) }
         ensures refusal { IfErr result (MayRefuse self.old) }
-        ensures full { result ≡ Err StepError.HistoryFull ↔ (self.old.steps ≡ 16384) }
+        ensures full { result ≡ Err StepError.HistoryFull ↔ (self.old.steps ≡ self.old.limit) }
         ensures unchanged { OnErr result (IsUnchanged self.old self.new) }
     {
-        if self.steps >= MOST_STEPS {
+        if self.steps >= self.limit {
             return Err(StepError::HistoryFull);
         }
         if let Some(became) = self.update_in_place(input)? {
@@ -164,11 +201,12 @@ impl<T: SpelledData, K: Keeper + Drop> Node<T, K> {
     /// As those of `step`.
     pub fn take(&mut self, from: Id, message: &Message<T>) -> Result<Output<T>, StepError>
         ensures step { IfOk result (λ output. MakesStep T.SpelledData.own self.old (input.Take from message.now) output self.new) }
+        ensures reply { IfOk result (λ output. CanReply (input.Take from message.now) output.reply) }
         ensures refusal { IfErr result (MayRefuse self.old) }
-        ensures full { result ≡ Err StepError.HistoryFull ↔ (self.old.steps ≡ 16384) }
+        ensures full { result ≡ Err StepError.HistoryFull ↔ (self.old.steps ≡ self.old.limit) }
         ensures unchanged { OnErr result (IsUnchanged self.old self.new) }
     {
-        if self.steps >= MOST_STEPS {
+        if self.steps >= self.limit {
             return Err(StepError::HistoryFull);
         }
         let prepared = self.taken_with_digests(from, message)?;
@@ -178,9 +216,10 @@ impl<T: SpelledData, K: Keeper + Drop> Node<T, K> {
     /// Makes the step that was prepared.
     #[inline(always)]
     fn make(&mut self, prepared: Prepared<T>) -> Result<Output<T>, Memory>
-        requires room { self.old.steps < 16384 }
+        requires room { self.old.steps < self.old.limit }
         requires sound { IsSoundFor self.old prepared }
         ensures made { IfOk result (λ output. MakesPrepared T.SpelledData.own self.old prepared output self.new) }
+        ensures replies { IfOk result (λ output. RepliesPrepared prepared output) }
         ensures unchanged { OnErr result (IsUnchanged self.old self.new) }
     {
         let Prepared {
@@ -201,7 +240,7 @@ impl<T: SpelledData, K: Keeper + Drop> Node<T, K> {
         plan: Plan<T>,
         operations: OperationChange,
     ) -> Result<Fate, Memory>
-        requires room { self.old.steps < 16384 }
+        requires room { self.old.steps < self.old.limit }
         requires sound { IsSoundPlan T.Replica self.old.id self.old.steps self.old.keys.items plan }
         requires can { CanChange self.old.operations operations }
         ensures carried { IfOk result (λ fate. IsCarried T.SpelledData.own self.old view plan operations fate self.new) }
@@ -217,7 +256,7 @@ impl<T: SpelledData, K: Keeper + Drop> Node<T, K> {
     /// Makes of the member what was planned, which takes no memory.
     #[inline(always)]
     fn commit(&mut self, view: Option<View>, plan: Plan<T>, operations: OperationChange)
-        requires room { self.old.steps < 16384 }
+        requires room { self.old.steps < self.old.limit }
         requires sound { IsSoundPlan T.Replica self.old.id self.old.steps self.old.keys.items plan }
         requires can { CanChange self.old.operations operations }
         ensures { IsCommitted self.old view plan operations self.new }
@@ -263,7 +302,7 @@ where
     ghost is_fault = { is_failure };
 
     fn step(&mut self, input: &Input<T>) -> Result<(Fate, Output<T>, Output<T>), StepError> {
-        if self.steps >= MOST_STEPS {
+        if self.steps >= self.limit {
             return Err(StepError::HistoryFull);
         }
         if let Some(became) = self.update_in_place(input)? {

@@ -3,6 +3,8 @@ ghost use Rattle.member_node.specs.declared.plan.Plan.TheVariants as plan;
 ghost use Rattle.member_messages.specs.declared.message.Message.TheVariants as message;
 ghost use Rattle.member_node.specs.Sending.{peers_of};
 ghost use Rattle.member_node.specs.Opening.{IsOpened};
+ghost use Rattle.member_node.specs.Operations.{known};
+ghost use Rattle.member_node.specs.Answerable.{RepliesTo};
 ghost use Rattle.member_node.specs.declared.input.Input.TheVariants as input;
 ghost use Rattle.member_node.specs.Preparing.{IsSoundFor, Prepares};
 
@@ -45,7 +47,7 @@ fn to_others<T: Replica>(
 impl<T: SpelledData, K: Keeper + Drop> Node<T, K> {
     /// The number of the next operation.
     fn next_op(&self) -> u64
-        ensures { result ≡ length self.now.operations }
+        ensures { result ≡ length (known self.now.operations) }
     {
         self.operations.len() as u64
     }
@@ -86,9 +88,10 @@ impl<T: SpelledData, K: Keeper + Drop> Node<T, K> {
         op: &T::Op,
         level: Level,
     ) -> Result<Prepared<T>, Memory>
-        requires { self.now.steps < 16384 }
+        requires { self.now.steps < self.now.limit }
         ensures sound { IfOk result (IsSoundFor self.now) }
         ensures image { IfOk result (Prepares T.SpelledData.own self.now (input.Update key.now op.now level)) }
+        ensures replies { IfOk result (RepliesTo (input.Update key.now op.now level)) }
     {
         let members = self.view.members();
         let Some(index) = self.position(key) else {
@@ -130,7 +133,7 @@ impl<T: SpelledData, K: Keeper + Drop> Node<T, K> {
         number: usize,
     ) -> Result<Prepared<T>, Memory>
         ensures plan { IfOk result (λ prepared. prepared.plan ≡ plan.At index entry next) }
-        ensures opened { IfOk result (IsOpened self.now name.now false number (message.Write (length self.now.operations) name.now entry)) }
+        ensures opened { IfOk result (IsOpened self.now name.now false number (message.Write (length (known self.now.operations)) name.now entry)) }
     {
         let message = Message::Write {
             op: self.next_op(),
@@ -144,6 +147,7 @@ impl<T: SpelledData, K: Keeper + Drop> Node<T, K> {
     pub(crate) fn shown(&self, key: &Text, level: Level) -> Result<Prepared<T>, Memory>
         ensures sound { IfOk result (IsSoundFor self.now) }
         ensures image { IfOk result (Prepares T.SpelledData.own self.now (input.Get key.now level)) }
+        ensures replies { IfOk result (RepliesTo (input.Get key.now level)) }
     {
         let members = self.view.members();
         let Some(index) = self.position(key) else {
@@ -163,7 +167,7 @@ impl<T: SpelledData, K: Keeper + Drop> Node<T, K> {
     /// The other members are asked for their entries of a key.
     fn read(&self, name: &Text, number: usize) -> Result<Prepared<T>, Memory>
         ensures plan { IfOk result (λ prepared. prepared.plan ≡ plan.Nothing) }
-        ensures opened { IfOk result (IsOpened self.now name.now true number (message.Read (length self.now.operations) name.now)) }
+        ensures opened { IfOk result (IsOpened self.now name.now true number (message.Read (length (known self.now.operations)) name.now)) }
     {
         let message = Message::Read {
             op: self.next_op(),

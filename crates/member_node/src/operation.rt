@@ -73,7 +73,7 @@ pub enum Look {
     Open,
     /// It has ended.
     Finished(OperationResult),
-    /// There was none of this number, or it was closed without a result.
+    /// There was none of this number, it was closed without a result, or how it ended was forgotten.
     NoSuchOp,
 }
 
@@ -95,4 +95,20 @@ pub(crate) enum Operation {
     Finished(OperationResult),
     /// It was closed without a result.
     TimedOut,
+}
+
+impl Operation {
+    ghost use Rattle.std.specs.Prelude.{Some, is_some};
+    ghost use Rattle.member_node.specs.Counting.{open_as};
+
+    /// Whether answers are still counted.
+    pub(crate) fn is_open(&self) -> bool
+        ensures { result ≡ is_some (open_as (Some self.now)) }
+    {
+        match self {
+            Operation::Open(_) => true,
+            Operation::Finished(_) => false,
+            Operation::TimedOut => false,
+        }
+    }
 }

@@ -2,6 +2,7 @@ ghost use Rattle.std.specs.Prelude.{◌≡◌, ◌<◌, ◌&&◌, ◌==◌, true
 ghost use Rattle.model_members.specs.View.{is_member, identities_of, removed_of};
 ghost use Rattle.member_node.specs.declared.input.Input.TheVariants as input;
 ghost use Rattle.member_node.specs.Answers.{is_exchange};
+ghost use Rattle.member_node.specs.Answerable.{RepliesTo};
 ghost use Rattle.member_node.specs.Changes.{AreMade};
 ghost use Rattle.member_node.specs.Preparing.{IsSoundFor, Prepares};
 ghost use Rattle.member_node.specs.Installing.{IsSeen};
@@ -74,9 +75,10 @@ fn seen<T: Replica>(
 impl<T: SpelledData, K: Keeper + Drop> Node<T, K> {
     /// A step for an input, before it is made. All memory that it needs is taken here, but for what is stored.
     pub(crate) fn prepare(&self, input: &Input<T>) -> Result<Prepared<T>, Memory>
-        requires { self.now.steps < 16384 }
+        requires { self.now.steps < self.now.limit }
         ensures sound { IfOk result (IsSoundFor self.now) }
         ensures image { IfOk result (Prepares T.SpelledData.own self.now input.now) }
+        ensures replies { IfOk result (RepliesTo input.now) }
     {
         match input {
             Input::Update { key, op, level } => self.updated(key, op, *level),
@@ -94,6 +96,7 @@ impl<T: SpelledData, K: Keeper + Drop> Node<T, K> {
     pub(crate) fn taken(&self, from: Id, message: &Message<T>) -> Result<Prepared<T>, Memory>
         ensures sound { IfOk result (IsSoundFor self.now) }
         ensures image { IfOk result (Prepares T.SpelledData.own self.now (input.Take from message.now)) }
+        ensures replies { IfOk result (RepliesTo (input.Take from message.now)) }
     {
         if !self.view.contains(from) {
             return Ok(Prepared::reply(self.alloc, Reply::NotFromMember));
@@ -116,6 +119,7 @@ impl<T: SpelledData, K: Keeper + Drop> Node<T, K> {
         requires exchange { is_exchange message.now ≡ true }
         ensures sound { IfOk result (IsSoundFor self.now) }
         ensures image { IfOk result (Prepares T.SpelledData.own self.now (input.Take from message.now)) }
+        ensures replies { IfOk result (RepliesTo (input.Take from message.now)) }
     {
         let view = self.view.number();
         let taken = taken(self.alloc, &self.keys, self.id, view, from, message)?;
@@ -131,6 +135,7 @@ impl<T: SpelledData, K: Keeper + Drop> Node<T, K> {
     fn installed(&self, view: &View) -> Result<Prepared<T>, Memory>
         ensures sound { IfOk result (IsSoundFor self.now) }
         ensures image { IfOk result (Prepares T.SpelledData.own self.now (input.Install view.now)) }
+        ensures replies { IfOk result (RepliesTo (input.Install view.now)) }
     {
         let number = view.number();
         let own = self.view.number();
@@ -150,6 +155,7 @@ impl<T: SpelledData, K: Keeper + Drop> Node<T, K> {
     fn flushed(&self) -> Result<Prepared<T>, Memory>
         ensures sound { IfOk result (IsSoundFor self.now) }
         ensures image { IfOk result (Prepares T.SpelledData.own self.now input.Flush) }
+        ensures replies { IfOk result (RepliesTo input.Flush) }
     {
         let members = identities(self.alloc, &self.view)?;
         let posts = posts(self.alloc, &self.keys, self.id, &members)?;
@@ -177,6 +183,7 @@ impl<T: SpelledData, K: Keeper + Drop> Node<T, K> {
     fn gossiped(&self, to: Id) -> Result<Prepared<T>, Memory>
         ensures sound { IfOk result (IsSoundFor self.now) }
         ensures image { IfOk result (Prepares T.SpelledData.own self.now (input.GossipTo to)) }
+        ensures replies { IfOk result (RepliesTo (input.GossipTo to)) }
     {
         if !self.is_peer(to) {
             return Ok(Prepared::reply(self.alloc, Reply::NotAPeer));
@@ -196,9 +203,10 @@ impl<T: SpelledData, K: Keeper + Drop> Node<T, K> {
     }
 
     fn ticked(&self) -> Result<Prepared<T>, Memory>
-        requires { self.now.steps < 16384 }
+        requires { self.now.steps < self.now.limit }
         ensures sound { IfOk result (IsSoundFor self.now) }
         ensures image { IfOk result (Prepares T.SpelledData.own self.now input.PruneTick) }
+        ensures replies { IfOk result (RepliesTo input.PruneTick) }
     {
         let leader = self.view.leader();
         if leader != self.id {

@@ -1,4 +1,5 @@
-ghost use Rattle.std.specs.Prelude.{◌≡◌, ◌≤◌, length, IfOk, OnErr};
+ghost use Rattle.std.specs.Prelude.{◌≡◌, ℕ, ◌≤◌, [], None, length, IfOk, OnErr};
+ghost use Rattle.member_node.specs.Answerable.{StoresNothing};
 ghost use Rattle.member_node.specs.Planning.{changed_entry, ticked_entry as entry_after_tick, HaveTheirKinds, KeepsKinds, CanCarryOut};
 ghost use Rattle.member_node.specs.Storing.{AddsSpellingOnOk, IsReadableOnOk, AreStoresOf, AreStores};
 ghost use Rattle.member_node.specs.Steps.{TellsSame, IsKeptBy};
@@ -42,7 +43,8 @@ fn stores_of_changes<T: SpelledData>(
 ) -> Result<Items<Stored>, Memory>
     requires one_each { length changes.now ≡ length keys.now }
     requires kinds { HaveTheirKinds T.Replica keys.now (changed_entry changes.now) }
-    ensures { IfOk result (AreStoresOf T.Replica T.SpelledData.own keys.now (changed_entry changes.now)) }
+    ensures stores { IfOk result (AreStoresOf T.Replica T.SpelledData.own keys.now (changed_entry changes.now)) }
+    ensures nothing { ((k : ℕ) → changed_entry changes.now k ≡ None) → IfOk result (λ stores. stores ≡ []) }
 {
     let written = changes.written();
     let mut stores = Items::new(alloc);
@@ -80,7 +82,8 @@ pub(crate) fn stores<T: SpelledData>(
 ) -> Result<Items<Stored>, Memory>
     requires can { CanCarryOut T.Replica keys.now plan.now }
     requires kinds { KeepsKinds T.Replica keys.now plan.now }
-    ensures { IfOk result (AreStores T.Replica T.SpelledData.own keys.now plan.now) }
+    ensures stores { IfOk result (AreStores T.Replica T.SpelledData.own keys.now plan.now) }
+    ensures nothing { StoresNothing plan.now → IfOk result (λ stores. stores ≡ []) }
 {
     match plan {
         Plan::Nothing => Ok(Items::new(alloc)),

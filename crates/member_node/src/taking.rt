@@ -1,4 +1,5 @@
-ghost use Rattle.std.specs.Prelude.{◌≡◌, ◌≤◌, false, length, None, IfOk};
+ghost use Rattle.std.specs.Prelude.{◌≡◌, ◌≤◌, false, length, None, IfOk, IsTrue};
+ghost use Rattle.member_node.specs.Answerable.{is_of_take};
 ghost use Rattle.member_node.specs.Changes.{AreMade};
 ghost use Rattle.member_node.specs.Taking.{IsKept};
 ghost use Rattle.member_node.specs.Answers.{ComparesIfOk, BringsIfOk, TakesIfOk};
@@ -36,6 +37,7 @@ fn compared<T: SpelledData>(
     ensures few { IfOk result (λ taken. length taken.output.posts ≤ 2) }
     ensures opens_none { IfOk result (λ taken. is_pending taken.output.reply ≡ false) }
     ensures ends_none { IfOk result (λ taken. taken.output.finished ≡ None) }
+    ensures takes { IfOk result (λ taken. IsTrue (is_of_take taken.output.reply)) }
     ensures kept { IfOk result (λ taken. AreMade (IsKept T.kind_of id) keys.now taken.changes) }
     ensures image { ComparesIfOk T.SpelledData.own id from keys.now digests.now result }
 {
@@ -63,6 +65,7 @@ fn brought<T: Replica>(
     ensures few { IfOk result (λ taken. length taken.output.posts ≤ 2) }
     ensures opens_none { IfOk result (λ taken. is_pending taken.output.reply ≡ false) }
     ensures ends_none { IfOk result (λ taken. taken.output.finished ≡ None) }
+    ensures takes { IfOk result (λ taken. IsTrue (is_of_take taken.output.reply)) }
     ensures kept { IfOk result (λ taken. AreMade (IsKept T.kind_of id) keys.now taken.changes) }
     ensures image { BringsIfOk id view from keys.now message.now result }
 {
@@ -94,6 +97,7 @@ pub(crate) fn taken<T: SpelledData>(
     ensures few { IfOk result (λ taken. length taken.output.posts ≤ 2) }
     ensures opens_none { IfOk result (λ taken. is_pending taken.output.reply ≡ false) }
     ensures ends_none { IfOk result (λ taken. taken.output.finished ≡ None) }
+    ensures takes { IfOk result (λ taken. IsTrue (is_of_take taken.output.reply)) }
     ensures kept { IfOk result (λ taken. AreMade (IsKept T.kind_of id) keys.now taken.changes) }
     ensures image { TakesIfOk T.SpelledData.own id view from keys.now message.now result }
 {

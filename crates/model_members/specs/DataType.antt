@@ -25,8 +25,9 @@ pub data Meaning (Shown : Type 0) : Type 0 where
 abbrev pub meaning : {Kind Op Shown : Type 0} → DataType Kind Op Shown → Kind → History Op → Meaning Shown
 meaning D kind H = if D.deleted H then IsDeleted else Shows (D.shown kind H)
 
--- a data type, the digests of its entries, and how many of its last own records of a key a member keeps, to send them as a group
+-- a data type, the digests of its entries, how many of its last own records of a key a member keeps, to send them as a group, and how many steps it makes at most
 pub record Replication (Kind Op Shown : Type 0) : Type 0 where
   pub data_type : DataType Kind Op Shown
   pub digest : Kind → Entry Op → List ℕ
   pub log_length : ℕ
+  pub most_steps : ℕ

@@ -176,7 +176,7 @@ module _ {Kind Op Shown : Type 0} (D : Replication Kind Op Shown) where
   abbrev pub given : Playing Kind Op Shown → Head Op → (Fate → Event Op) → Playing Kind Op Shown
   given p head event = elim (turn_of p.world (event NoStore)) [
     | None ↦ told p head Gone
-    | Some turn ↦ if is_full turn.before then told p head HistoryFull else take_turn p head event turn
+    | Some turn ↦ if is_full D turn.before then told p head HistoryFull else take_turn p head event turn
   ]
 
   abbrev pub deliver : Playing Kind Op Shown → ℕ → ℕ → ℕ → Playing Kind Op Shown

@@ -294,9 +294,9 @@ module _ {Kind Op Shown : Type 0} (D : Replication Kind Op Shown) where
       then answered (record node { open_operations = filter (λ o. not (o.op == op)) node.open_operations }) TimedOut
       else answered node NoSuchOp
 
--- a full member refuses every input
-abbrev pub is_full : {Kind Op Shown : Type 0} → Node Kind Op Shown → Bool
-is_full node = node.steps == 16384
+-- a member that has made all its steps is full: it refuses every input
+abbrev pub is_full : {Kind Op Shown : Type 0} → Replication Kind Op Shown → Node Kind Op Shown → Bool
+is_full D node = node.steps == D.most_steps
 
 -- an entry in the course of a tick, and the outcomes so far
 pub record Ticking (Op : Type 0) : Type 0 where

@@ -206,7 +206,7 @@ module _ {Kind Op Shown : Type 0} (D : Replication Kind Op Shown) where
   pub record StepsAt (world : World Kind Op Shown) (i : ℕ) (input : Input Op) (fate : Fate) : Type 0 where
     pub node : Node Kind Op Shown
     pub runs : world.nodes i ≡ Some node
-    pub has_room : IsFalse (is_full node)
+    pub has_room : IsFalse (is_full D node)
     pub fate_fits : FitsFate node input fate
 
   abbrev pub IsLawful : World Kind Op Shown → Event Op → Type 0

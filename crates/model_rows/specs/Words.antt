@@ -25,9 +25,9 @@ mark_digest (Some mark) = (1 ∷ mark.view ∷ mark.owner ∷ members_of mark.se
 abbrev pub plain_digest : Kind → Entry Op → List ℕ
 plain_digest kind entry = map (versions entry.history) identities ++ flat_map (λ r. mark_digest (entry.marks r)) identities
 
--- the six kinds at members that keep 50 own records for groups
+-- the six kinds at members that keep 50 own records for groups and make 16384 steps
 abbrev pub data_type : Replication Kind Op Shown
-data_type = record { data_type = six_kinds; digest = plain_digest; log_length = 50 }
+data_type = record { data_type = six_kinds; digest = plain_digest; log_length = 50; most_steps = 16384 }
 
 abbrev pub key : Text → Kind → KeyDecl Kind
 key name kind = record { name = name; kind = kind; durable = false }

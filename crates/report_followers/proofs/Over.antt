@@ -18,6 +18,7 @@ use Rattle.member_node.specs.Steps.{replication}
 use Rattle.script_reading.specs.declared.script.Script.{Script}
 use Rattle.script_reading.specs.WellFormed.{IsWellFormed}
 use Rattle.theorem_digests.proofs.ByDigests.{agree_by_digests}
+use Rattle.theorem_digests.proofs.FewRecords.{makes_few}
 use Rattle.theorem_operations.proofs.QuorumOfScripts.{gets_include}
 use Rattle.theorem_runs.proofs.AgreementOverRuns.{logs_throughout}
 use Rattle.theorem_watching.specs.Watching as watching
@@ -111,7 +112,7 @@ module _ {T K Delta : Type 0} {ghosts : Ghosts T Kind Op Delta} {keeping : Keepi
           record {
             ends = refl;
             majorities = gets_include D (answers_by over) script.members names (steps_of script.steps) means_end.run.some means_end.run.few within;
-            settles = λ stays. agree_by_digests D spelling.history_byte spelling.history_spelled refl stays (answers_by over) script.members names (steps_of script.steps) means_end.run.some means_end.run.few within;
+            settles = λ stays. agree_by_digests D (makes_few D refl) spelling.history_byte spelling.history_spelled refl stays (answers_by over) script.members names (steps_of script.steps) means_end.run.some means_end.run.few within;
           }
 
       block_is : block ≡ final_block (replication ghosts spelling) shown_text after_all.playing.world

@@ -16,6 +16,7 @@ use Rattle.model_members.specs.Report.{steps_text, final_block}
 use Rattle.theorem_runs.proofs.AgreementOverRuns.{logs_throughout}
 use Rattle.theorem_operations.proofs.QuorumOfScripts.{gets_include}
 use Rattle.theorem_digests.proofs.ByDigests.{agree_by_digests}
+use Rattle.theorem_digests.proofs.FewRecords.{makes_few}
 use Rattle.theorem_sections.specs.Runs as runs
 use Rattle.theorem_sections.specs.Runs.{plain_line, PlaysAll, HasReport, lines_text}
 use Rattle.theorem_sections.proofs.PlainScripts.{plain_plays, is_report, same_text}
@@ -150,7 +151,7 @@ module _ (data_type : DataType Kind Op Shown) (history_byte : Kind → History O
       record {
         ends = (one_way D (beginning answers script) script.steps plain lines last plays).1;
         majorities = gets_include D answers script.members (map decl_of (in_order script.keys)) (steps_of script.steps) some few within;
-        settles = λ stays. agree_by_digests D history_byte history_spelled refl stays answers script.members (map decl_of (in_order script.keys)) (steps_of script.steps) some few within;
+        settles = λ stays. agree_by_digests D (makes_few D refl) history_byte history_spelled refl stays answers script.members (map decl_of (in_order script.keys)) (steps_of script.steps) some few within;
       }
 
 -- THE KEEPERS

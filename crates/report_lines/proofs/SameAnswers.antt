@@ -28,9 +28,9 @@ module _ {Kind Shown : Type 0} (D : Replication Kind Op Shown) (answers : Keeper
   given_has : (p : Playing Kind Op Shown) (h : Head Op) (event : Fate → Event Op) → Has p → Has (given D p h event)
   given_has p h event has = by_turn (turn_of p.world (event NoStore))
     where
-      by_turn : (o : Option (Turn Kind Op Shown)) → Has (elim o [ None ↦ told p h Answer.Gone | Some turn ↦ if is_full turn.before then told p h Answer.HistoryFull else take_turn D p h event turn ])
+      by_turn : (o : Option (Turn Kind Op Shown)) → Has (elim o [ None ↦ told p h Answer.Gone | Some turn ↦ if is_full D turn.before then told p h Answer.HistoryFull else take_turn D p h event turn ])
       by_turn None = has
-      by_turn (Some turn) = if_holds Has (is_full turn.before) (told p h Answer.HistoryFull) (take_turn D p h event turn) has (turn_has p h event turn has)
+      by_turn (Some turn) = if_holds Has (is_full D turn.before) (told p h Answer.HistoryFull) (take_turn D p h event turn) has (turn_has p h event turn has)
 
   deliver_has : (p : Playing Kind Op Shown) (from to index : ℕ) → Has p → Has (deliver D p from to index)
   deliver_has p from to index has = if_holds Has (is_some (p.world.nodes to)) _ (told p (Head.DeliverHead from to index None) Answer.Gone) (by_message (message_at p.world from to index)) has

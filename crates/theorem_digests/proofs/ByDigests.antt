@@ -13,22 +13,22 @@ use Rattle.theorem_operations.specs.Scripts.{before_step}
 use Rattle.theorem_settling.specs.Settling.{DigestsTellFrom, BlockedStays}
 use Rattle.theorem_settling.proofs.SettlesOfScripts.{run_at, settles_agree}
 use Rattle.data_codec.specs.Entries.{entry_spelled, entry_digest}
-use Rattle.theorem_digests.specs.Digests.{DistinctDigests, SettlesAgreeByDigests}
+use Rattle.theorem_digests.specs.Digests.{MakesFewSteps, DistinctDigests, SettlesAgreeByDigests}
 use Rattle.theorem_digests.proofs.Telling.{spelled_alike}
 
 -- digests that are the spellings themselves tell entries apart in every run
-pub spelled_whole_tell : {Kind Op Shown : Type 0} (D : Replication Kind Op Shown) (byte_of : Kind → History Op → ℕ) (history_spelled : Kind → History Op → List ℕ) → D.digest ≡ entry_spelled byte_of history_spelled
+pub spelled_whole_tell : {Kind Op Shown : Type 0} (D : Replication Kind Op Shown) → MakesFewSteps D → (byte_of : Kind → History Op → ℕ) (history_spelled : Kind → History Op → List ℕ) → D.digest ≡ entry_spelled byte_of history_spelled
     → (members : ℕ) (keys : List (KeyDecl Kind)) (events : List (Event Op)) (world : World Kind Op Shown) → IsRun D members keys events world → DigestsTellFrom D (start members keys) events
-spelled_whole_tell {Kind} {Op} D byte_of history_spelled same members keys events world is_run before rest way i j a b decl ra rb declared digests =
-    spelled_alike D byte_of history_spelled members keys before _ (run_before D members keys events before rest world way is_run) i j a b decl ra rb
+spelled_whole_tell {Kind} {Op} D few_steps byte_of history_spelled same members keys events world is_run before rest way i j a b decl ra rb declared digests =
+    spelled_alike D few_steps byte_of history_spelled members keys before _ (run_before D members keys events before rest world way is_run) i j a b decl ra rb
     (ap (λ (f : Kind → Entry Op → List ℕ). f decl.kind (a.entries decl.name)) (sym same) ∙ digests ∙ ap (λ (f : Kind → Entry Op → List ℕ). f decl.kind (b.entries decl.name)) same)
 
-module _ {Kind Op Shown : Type 0} (D : Replication Kind Op Shown) (byte_of : Kind → History Op → ℕ) (history_spelled : Kind → History Op → List ℕ) (same : D.digest ≡ entry_digest byte_of history_spelled) where
+module _ {Kind Op Shown : Type 0} (D : Replication Kind Op Shown) (few_steps : MakesFewSteps D) (byte_of : Kind → History Op → ℕ) (history_spelled : Kind → History Op → List ℕ) (same : D.digest ≡ entry_digest byte_of history_spelled) where
   pub distinct_tell : (members : ℕ) (keys : List (KeyDecl Kind)) (events : List (Event Op)) (world : World Kind Op Shown) → IsRun D members keys events world
       → DistinctDigests D byte_of history_spelled (start members keys) events → DigestsTellFrom D (start members keys) events
   unfolding entry_digest
   distinct_tell members keys events world is_run distinct before rest way i j a b decl ra rb declared digests =
-      spelled_alike D byte_of history_spelled members keys before _ (run_before D members keys events before rest world way is_run) i j a b decl ra rb
+      spelled_alike D few_steps byte_of history_spelled members keys before _ (run_before D members keys events before rest world way is_run) i j a b decl ra rb
       (distinct.throughout before rest way i j a b decl ra rb declared
       (ap (λ (f : Kind → Entry Op → List ℕ). f decl.kind (a.entries decl.name)) (sym same) ∙ digests ∙ ap (λ (f : Kind → Entry Op → List ℕ). f decl.kind (b.entries decl.name)) same))
 

@@ -1,5 +1,5 @@
--- In every run, records and views are few enough to be told by numbers of eight and four bytes: each member makes at most 16,384 steps, in each of which it makes at most as many records of a key as there are identities, and each identity is given and removed at most once.
-use Rattle.std.proofs.Common.{◌≡◌, ◌≢◌, ℕ, ◌+◌, ◌*◌, ◌≤◌, List, [], ◌∷◌, ◌++◌, length, map, refl, sym, ap, subst, ◌∙◌, arith, Bool, true, false, Option, Some, None, inl, inr, append_assoc, length-append}
+-- In every run, records and views are few enough to be told by numbers of eight and four bytes: each member makes at most 2^54 steps, in each of which it makes at most as many records of a key as there are identities, and each identity is given and removed at most once.
+use Rattle.std.proofs.Common.{◌≡◌, ◌≢◌, ℕ, ◌+◌, ◌*◌, ◌^◌, ◌≤◌, List, [], ◌∷◌, ◌++◌, length, map, refl, sym, ap, subst, ◌∙◌, arith, Bool, true, false, Option, Some, None, inl, inr, append_assoc, length-append}
 use Rattle.std.specs.Prelude.{if◌then◌else◌, filter, not, ◌==◌, ◌||◌, nat_lt}
 use Rattle.std.specs.List.{list_any}
 use Rattle.std.proofs.lemmas.Bool.Decides.{eqb_tells}
@@ -28,11 +28,16 @@ use Rattle.theorem_runs.proofs.StoredParts.{LoadedFrom, loaded_from}
 use Rattle.theorem_runs.proofs.StoredParts.LoadedFrom.{LoadedEmpty, LoadedStored}
 use Rattle.theorem_operations.proofs.Moments.{view_stays, lawful_first, lawful_rest, pushed_run}
 use Rattle.theorem_operations.proofs.Operations.{step_tells}
+use Rattle.theorem_digests.specs.Digests.{MakesFewSteps}
 use Rattle.theorem_digests.proofs.OwnRecords.{own_after, filter_le}
 
 -- the most records that an identity makes of a key
 abbrev pub most_records : ℕ
-most_records = identity_limit * 16384
+most_records = identity_limit * 2 ^ 54
+
+-- members that make so many steps make few
+pub makes_few : {Kind Op Shown : Type 0} (D : Replication Kind Op Shown) → D.most_steps ≡ 16384 → MakesFewSteps D
+makes_few D e = omega arith
 
 -- an entry with few records and marks of early views
 pub record IsSmall {Op : Type 0} (entry : Entry Op) : Type 0 where
@@ -55,7 +60,7 @@ left_fewer i (m ∷ ms) e = by (m.identity == i) e (left_fewer i ms)
     by true e later = let a = filter_le (λ (n : Member). not (n.identity == i)) ms in omega arith
     by false e later = let a = later e in omega arith
 
-module _ {Kind Op Shown : Type 0} (D : Replication Kind Op Shown) where
+module _ {Kind Op Shown : Type 0} (D : Replication Kind Op Shown) (few_steps : MakesFewSteps D) where
   views_follow : (world : World Kind Op Shown) (event : Event Op) → IsLawful D world event → AreFewViews world.view → AreFewViews (happens D world event).view
   views_follow world (InputAt i input fate) lawful few = subst AreFewViews (sym (view_stays D world (InputAt i input fate) tt)) few
   views_follow world (Delivery from to index fate) lawful few = subst AreFewViews (sym (view_stays D world (Delivery from to index fate) tt)) few
@@ -71,26 +76,26 @@ module _ {Kind Op Shown : Type 0} (D : Replication Kind Op Shown) where
   -- STEPS
 
   abbrev AreWithin : (ℕ → Option (Node Kind Op Shown)) → Type 0
-  AreWithin nodes = (t : ℕ) (node : Node Kind Op Shown) → nodes t ≡ Some node → node.steps ≤ 16384
+  AreWithin nodes = (t : ℕ) (node : Node Kind Op Shown) → nodes t ≡ Some node → node.steps ≤ D.most_steps
 
-  set_node : (nodes : ℕ → Option (Node Kind Op Shown)) (i : ℕ) (o : Option (Node Kind Op Shown)) → AreWithin nodes → ((node : Node Kind Op Shown) → o ≡ Some node → node.steps ≤ 16384) → AreWithin (with_at nodes i o)
+  set_node : (nodes : ℕ → Option (Node Kind Op Shown)) (i : ℕ) (o : Option (Node Kind Op Shown)) → AreWithin nodes → ((node : Node Kind Op Shown) → o ≡ Some node → node.steps ≤ D.most_steps) → AreWithin (with_at nodes i o)
   set_node nodes i o all here t node e = elim (eqb_tells t i) [
     | inl is ↦ here node (sym (ap (with_at nodes i o) is.1 ∙ with_at_same nodes i o) ∙ e)
     | inr isnt ↦ all t node (sym (with_at_other nodes i o t isnt.1) ∙ e)
   ]
 
   -- a new member has made no step
-  fresh : (loaded node : Node Kind Op Shown) → loaded.steps ≡ 0 → ◌≡◌ {A = Option (Node Kind Op Shown)} (Some loaded) (Some node) → node.steps ≤ 16384
+  fresh : (loaded node : Node Kind Op Shown) → loaded.steps ≡ 0 → ◌≡◌ {A = Option (Node Kind Op Shown)} (Some loaded) (Some node) → node.steps ≤ D.most_steps
   fresh loaded node none e = let same : loaded ≡ node = cc e in let a : loaded.steps ≡ node.steps = ap (λ (n : Node Kind Op Shown). n.steps) same in omega arith
 
   -- who made a step was not full
-  not_past : (world : World Kind Op Shown) (i : ℕ) (input : Input Op) (fate : Fate) (at_step : StepsAt D world i input fate) → AreWithin world.nodes → (node : Node Kind Op Shown) → ◌≡◌ {A = Option (Node Kind Op Shown)} (Some (step D at_step.node input fate).node) (Some node) → node.steps ≤ 16384
+  not_past : (world : World Kind Op Shown) (i : ℕ) (input : Input Op) (fate : Fate) (at_step : StepsAt D world i input fate) → AreWithin world.nodes → (node : Node Kind Op Shown) → ◌≡◌ {A = Option (Node Kind Op Shown)} (Some (step D at_step.node input fate).node) (Some node) → node.steps ≤ D.most_steps
   not_past world i input fate at_step all node e =
       let same : (step D at_step.node input fate).node ≡ node = cc e in
       let a : (step D at_step.node input fate).node.steps ≡ node.steps = ap (λ (n : Node Kind Op Shown). n.steps) same in
       let b = (step_tells D at_step.node input fate).steps in
       let c = all i at_step.node at_step.runs in
-      let d : at_step.node.steps ≢ 16384 = (λ full. elim (eqb_tells at_step.node.steps 16384) [ inl is ↦ (let f = sym at_step.has_room ∙ is.0 in cc f) | inr isnt ↦ isnt.1 full ]) in
+      let d : at_step.node.steps ≢ D.most_steps = (λ full. elim (eqb_tells at_step.node.steps D.most_steps) [ inl is ↦ (let f = sym at_step.has_room ∙ is.0 in cc f) | inr isnt ↦ isnt.1 full ]) in
       omega arith
 
   steps_follow : (world : World Kind Op Shown) (event : Event Op) → IsLawful D world event → AreWithin world.nodes → AreWithin (happens D world event).nodes
@@ -152,6 +157,7 @@ module _ {Kind Op Shown : Type 0} (D : Replication Kind Op Shown) where
     made_then key i (Some node) runs =
         let a = own_then key i node (follows.nodes i node runs) in
         let b = steps_follow world event lawful few.steps i node runs in
+        let c = few_steps in
         omega arith
 
     few_follow : AreFew (noted variables next) next
@@ -179,7 +185,7 @@ module _ {Kind Op Shown : Type 0} (D : Replication Kind Op Shown) where
       made = λ key i. made_first key i (first.nodes i) refl;
     }
       where
-        by_test : (t : ℕ) (b : Bool) (node : Node Kind Op Shown) → (if b then Some (loaded_node {Op = Op} {Shown = Shown} keys t (first_view members) no_entries) else None) ≡ Some node → node.steps ≤ 16384
+        by_test : (t : ℕ) (b : Bool) (node : Node Kind Op Shown) → (if b then Some (loaded_node {Op = Op} {Shown = Shown} keys t (first_view members) no_entries) else None) ≡ Some node → node.steps ≤ D.most_steps
         by_test t true node e = fresh _ node refl e
         by_test t false node e = absurd (cc e)
 

@@ -14,6 +14,7 @@ use Rattle.base_vectors.specs.IdSets.{member_count}
 use Rattle.data_codec.specs.Entries.{entry_spelled}
 use Rattle.theorem_digests.specs.Borders.{spelled_whole, left_and_settled, HasPruned, SettlePremises}
 use Rattle.theorem_digests.proofs.ByDigests.{spelled_whole_tell}
+use Rattle.theorem_digests.proofs.FewRecords.{makes_few}
 
 abbrev lines_told : List (Told (Unit {0}) ℕ)
 lines_told = elim (slice_get (lines_of spelled_whole (opening none_fails 3 small_keys) left_and_settled) 4) [ None ↦ [] | Some lines ↦ lines ]
@@ -30,7 +31,7 @@ blocked_stays kind owner r other entry apart blocked = absurd (cc blocked)
 
 digests_tell : DigestsTellUntil spelled_whole none_fails 3 small_keys left_and_settled 4
 digests_tell =
-    spelled_whole_tell spelled_whole (λ kind H. 1) (λ kind H. []) refl 3 small_keys (before_step spelled_whole none_fails 3 small_keys left_and_settled 5).events (before_step spelled_whole none_fails 3 small_keys left_and_settled 5).world
+    spelled_whole_tell spelled_whole (makes_few spelled_whole refl) (λ kind H. 1) (λ kind H. []) refl 3 small_keys (before_step spelled_whole none_fails 3 small_keys left_and_settled 5).events (before_step spelled_whole none_fails 3 small_keys left_and_settled 5).world
     (run_at spelled_whole none_fails 3 small_keys left_and_settled (omega arith) (omega arith) (tt, (tt, (tt, (tt, (tt, tt))))) 5)
 
 has_pruned : HasPruned

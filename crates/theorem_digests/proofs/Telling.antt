@@ -24,6 +24,7 @@ use Rattle.theorem_operations.proofs.Lists.{find_in}
 use Rattle.base_vectors.specs.Spelling.{numbers_spelled}
 use Rattle.data_markers.specs.Spelling.{begun_tail, performed_tail, pieces_spelled}
 use Rattle.data_codec.specs.Entries.{mark_piece, entry_piece, entry_spelled}
+use Rattle.theorem_digests.specs.Digests.{MakesFewSteps}
 use Rattle.theorem_digests.proofs.FewRecords.{IsSmall, held_are_small}
 use Rattle.theorem_digests.proofs.Spellings.{IsPiece, first_byte, pieces_end, numbers_end, begun_told, performed_told}
 use Rattle.theorem_digests.proofs.Spellings.IsPiece.{Begun, Performed}
@@ -104,11 +105,11 @@ module _ {Op : Type 0} where
 
 -- IN A RUN
 
-module _ {Kind Op Shown : Type 0} (D : Replication Kind Op Shown) (byte_of : Kind → History Op → ℕ) (history_spelled : Kind → History Op → List ℕ) (members : ℕ) (keys : List (KeyDecl Kind)) (events : List (Event Op)) (world : World Kind Op Shown) (is_run : IsRun D members keys events world) where
+module _ {Kind Op Shown : Type 0} (D : Replication Kind Op Shown) (few_steps : MakesFewSteps D) (byte_of : Kind → History Op → ℕ) (history_spelled : Kind → History Op → List ℕ) (members : ℕ) (keys : List (KeyDecl Kind)) (events : List (Event Op)) (world : World Kind Op Shown) (is_run : IsRun D members keys events world) where
   held : (i : ℕ) (node : Node Kind Op Shown) (key : Text) → world.nodes i ≡ Some node → IsHeld (node.entries key)
   held i node key runs =
       let safe = runs_are_safe D members keys events world is_run in
-      record { small = held_are_small D members keys events world is_run i node key runs; exact = held_is_pruned D _ _ safe i node key runs; unpruned = safe.good.held i node runs key }
+      record { small = held_are_small D few_steps members keys events world is_run i node key runs; exact = held_is_pruned D _ _ safe i node key runs; unpruned = safe.good.held i node runs key }
 
   pub spelled_alike : (i j : ℕ) (a b : Node Kind Op Shown) (decl : KeyDecl Kind) → world.nodes i ≡ Some a → world.nodes j ≡ Some b
       → entry_spelled byte_of history_spelled decl.kind (a.entries decl.name) ≡ entry_spelled byte_of history_spelled decl.kind (b.entries decl.name) → is_unchanged (a.entries decl.name) (b.entries decl.name) ≡ true

@@ -1,7 +1,8 @@
 -- Entries whose digests are the SHA-1 of their spellings: what a run has to be for these to tell them apart.
+--     MakesFewSteps        members make so few steps that eight bytes tell how many records of a key each has
 --     DistinctDigests        in no world of a run two running members have different spellings of one key with one SHA-1
 --     SettlesAgreeByDigests        what the settles of a script tell is so, and where this holds they leave settled worlds
-use Rattle.std.specs.Prelude.{◌≡◌, ℕ, suc, List, ◌++◌, Some}
+use Rattle.std.specs.Prelude.{◌≡◌, ℕ, suc, ◌^◌, ◌≤◌, List, ◌++◌, Some}
 use Rattle.model_history.specs.History.{History}
 use Rattle.model_members.specs.DataType.{Replication}
 use Rattle.model_members.specs.Node.{KeyDecl, Node}
@@ -12,6 +13,10 @@ use Rattle.theorem_settling.specs.Settling.{IsDeclared}
 use Rattle.theorem_settling.specs.Scripts.{SettlesAgree}
 use Rattle.data_codec.specs.Entries.{entry_spelled}
 use Rattle.sha1.specs.Sha1.{sha1}
+
+-- members make so few steps that eight bytes tell how many records of a key each has
+abbrev pub MakesFewSteps : {Kind Op Shown : Type 0} → Replication Kind Op Shown → Type 0
+MakesFewSteps D = D.most_steps ≤ 2 ^ 54
 
 module _ {Kind Op Shown : Type 0} (D : Replication Kind Op Shown) (byte_of : Kind → History Op → ℕ) (history_spelled : Kind → History Op → List ℕ) where
   -- what a member spells of a key

@@ -27,6 +27,7 @@ use Rattle.base_vectors.specs.IdSets.{member_count}
 use Rattle.data_codec.specs.Entries.{entry_spelled}
 use Rattle.theorem_digests.specs.Borders.{spelled_whole}
 use Rattle.theorem_digests.proofs.ByDigests.{spelled_whole_tell}
+use Rattle.theorem_digests.proofs.FewRecords.{makes_few}
 use Rattle.theorem_headline.specs.Headline.{TellsSettle, before_step}
 use Rattle.theorem_headline.specs.Worked.{One, worked_client, worked_script, worked_start, HeadlineIsMet}
 
@@ -102,7 +103,7 @@ all_installed t node e = by (nat_lt t 3) e
     by true f = let same : loaded t ≡ node = cc f in sym (ap (λ (n : Node One One ℕ). n.view) same)
     by false f = absurd (cc f)
 
-nothing_disturbs : IsUndisturbed worked_start end
+nothing_disturbs : IsUndisturbed spelled_whole worked_start end
 nothing_disturbs = record { installed = all_installed; stores = λ events is. subst (AllByRecursion StoreHolds) is (tt, (tt, (tt, (tt, (tt, (tt, (tt, (tt, tt)))))))); room = refl }
 
 -- digests tell entries apart in the whole run until the settle is done
@@ -115,7 +116,7 @@ until_settled = before_runs spelled_whole 3 small_keys worked_start worked_scrip
 digests_tell : DigestsTellFrom spelled_whole (start 3 small_keys) (before_step spelled_whole none_fails 3 small_keys worked_script all_lines p4 plays 4).events
 digests_tell =
     let here = before_step spelled_whole none_fails 3 small_keys worked_script all_lines p4 plays 4 in
-    spelled_whole_tell spelled_whole (λ kind H. 1) (λ kind H. []) refl 3 small_keys here.events here.world until_settled
+    spelled_whole_tell spelled_whole (makes_few spelled_whole refl) (λ kind H. 1) (λ kind H. []) refl 3 small_keys here.events here.world until_settled
 
 abbrev line_at : ℕ → Line One ℕ
 line_at n = elim (slice_get (section_lines end) n) [ None ↦ record { client = None; head = RoundHead; answer = Nothing; posts = []; ended = None } | Some line ↦ line ]

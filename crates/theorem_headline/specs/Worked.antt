@@ -60,7 +60,7 @@ pub record HeadlineIsMet : Type 0 where
   pub moves : List Move
   pub end : Section One One ℕ
   pub section : IsSection spelled_whole worked_start (worked_client ∷ []) moves end
-  pub undisturbed : IsUndisturbed worked_start end
+  pub undisturbed : IsUndisturbed spelled_whole worked_start end
   -- an input is refused
   pub line : Line One ℕ
   pub refused : Stands lines (record { step = 1; caller = None; number = 0 }) line × (line.answer ≡ Replied Reply.UnknownKey)

@@ -51,15 +51,15 @@ module _ {Kind Op Shown : Type 0} (D : Replication Kind Op Shown) where
 
   -- what is given where a turn is known
   pub given_by : (P : Playing Kind Op Shown → Type 0) (p : Playing Kind Op Shown) (head : Head Op) (event : Fate → Event Op) (turn : Turn Kind Op Shown) → turn_of p.world (event NoStore) ≡ Some turn
-      → (is_full turn.before ≡ true → P (told p head HistoryFull)) → (is_full turn.before ≡ false → P (take_turn D p head event turn)) → P (given D p head event)
+      → (is_full D turn.before ≡ true → P (told p head HistoryFull)) → (is_full D turn.before ≡ false → P (take_turn D p head event turn)) → P (given D p head event)
   given_by P p head event turn is full room =
-      subst (λ (o : Option (Turn Kind Op Shown)). P (elim o [ None ↦ told p head Gone | Some turn ↦ if is_full turn.before then told p head HistoryFull else take_turn D p head event turn ])) (sym is)
-      (if_tells P (is_full turn.before) (told p head HistoryFull) (take_turn D p head event turn) full room)
+      subst (λ (o : Option (Turn Kind Op Shown)). P (elim o [ None ↦ told p head Gone | Some turn ↦ if is_full D turn.before then told p head HistoryFull else take_turn D p head event turn ])) (sym is)
+      (if_tells P (is_full D turn.before) (told p head HistoryFull) (take_turn D p head event turn) full room)
 
   -- a message that is there, to a member that runs
   pub deliver_by : (P : Playing Kind Op Shown → Type 0) (p : Playing Kind Op Shown) (from to index : ℕ) (message : Message Op) (node : Node Kind Op Shown) → message_at p.world from to index ≡ Some message → p.world.nodes to ≡ Some node
-      → (is_full node ≡ true → P (told p (DeliverHead from to index (Some message)) HistoryFull))
-      → (is_full node ≡ false → P (take_turn D p (DeliverHead from to index (Some message)) (Delivery from to index) (turn_by to node (Take from message) NoStore))) → P (deliver D p from to index)
+      → (is_full D node ≡ true → P (told p (DeliverHead from to index (Some message)) HistoryFull))
+      → (is_full D node ≡ false → P (take_turn D p (DeliverHead from to index (Some message)) (Delivery from to index) (turn_by to node (Take from message) NoStore))) → P (deliver D p from to index)
   deliver_by P p from to index message node sent runs full room =
       subst (λ (o : Option (Node Kind Op Shown)). P (if is_some o then (elim (message_at p.world from to index) [ None ↦ told p (DeliverHead from to index None) NoSuchMessage | Some message ↦ given D p (DeliverHead from to index (Some message)) (Delivery from to index) ]) else told p (DeliverHead from to index None) Gone)) (sym runs)
       (subst (λ (o : Option (Message Op)). P (elim o [ None ↦ told p (DeliverHead from to index None) NoSuchMessage | Some message ↦ given D p (DeliverHead from to index (Some message)) (Delivery from to index) ])) (sym sent)
@@ -71,9 +71,9 @@ module _ {Kind Op Shown : Type 0} (D : Replication Kind Op Shown) where
   deliver_case P p from to index plain takes =
       if_holds P (is_some (p.world.nodes to)) _ (told p (DeliverHead from to index None) Gone) (by_message (message_at p.world from to index)) (plain (DeliverHead from to index None) Gone)
     where
-      by_turn : (head : Head Op) (o : Option (Turn Kind Op Shown)) → P (elim o [ None ↦ told p head Gone | Some turn ↦ if is_full turn.before then told p head HistoryFull else take_turn D p head (Delivery from to index) turn ])
+      by_turn : (head : Head Op) (o : Option (Turn Kind Op Shown)) → P (elim o [ None ↦ told p head Gone | Some turn ↦ if is_full D turn.before then told p head HistoryFull else take_turn D p head (Delivery from to index) turn ])
       by_turn head None = plain head Gone
-      by_turn head (Some turn) = if_holds P (is_full turn.before) (told p head HistoryFull) (take_turn D p head (Delivery from to index) turn) (plain head HistoryFull) (takes head turn)
+      by_turn head (Some turn) = if_holds P (is_full D turn.before) (told p head HistoryFull) (take_turn D p head (Delivery from to index) turn) (plain head HistoryFull) (takes head turn)
 
       by_message : (o : Option (Message Op)) → P (elim o [ None ↦ told p (DeliverHead from to index None) NoSuchMessage | Some message ↦ given D p (DeliverHead from to index (Some message)) (Delivery from to index) ])
       by_message None = plain (DeliverHead from to index None) NoSuchMessage

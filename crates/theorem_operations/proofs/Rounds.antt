@@ -109,10 +109,10 @@ module _ {Kind Op Shown : Type 0} where
         runs = λ t node e. let x = p.runs t node e in let y = q.runs t x.0 x.1 in (y.0, y.1, (let u = x.2 in let v = y.2 in omega arith));
       }
 
-  pub room_before : (world next : World Kind Op Shown) → Later world next → HaveRoom next → HaveRoom world
+module _ {Kind Op Shown : Type 0} (D : Replication Kind Op Shown) where
+  pub room_before : (world next : World Kind Op Shown) → Later world next → HaveRoom D next → HaveRoom D world
   room_before world next later room t node e = let x = later.runs t node e in let a = room t x.0 x.1 in let b = x.2 in omega arith
 
-module _ {Kind Op Shown : Type 0} (D : Replication Kind Op Shown) where
   step_later : (world : World Kind Op Shown) (links : Links Op) → ((f t : ℕ) → LinkGrows (world.links f t) (links f t)) → (i : ℕ) (o : Option (Node Kind Op Shown)) → world.nodes i ≡ o → (input : Input Op) (fate : Fate) → Later world (stepped_at D (record world { links = links }) i o input fate)
   step_later world links grows i None e input fate = record { links = grows; runs = λ t node e. (node, e, omega arith) }
   step_later world links grows i (Some old) e input fate =
@@ -153,10 +153,10 @@ module _ {Kind Op Shown : Type 0} (D : Replication Kind Op Shown) where
       (λ head turn. let r = turn_taken D p head (Delivery from to index) turn in subst (λ (w : World Kind Op Shown). Later p.world w) (sym r.world) (delivery_later p.world from to index r.fate))
 
   -- the message is there, and its receiver runs and has room
-  deliver_past : (p : Playing Kind Op Shown) (from to index : ℕ) (message : Message Op) (node : Node Kind Op Shown) → message_at p.world from to index ≡ Some message → p.world.nodes to ≡ Some node → HaveRoom p.world → index ≤ (p.world.links from to).next → suc index ≤ ((deliver D p from to index).world.links from to).next
+  deliver_past : (p : Playing Kind Op Shown) (from to index : ℕ) (message : Message Op) (node : Node Kind Op Shown) → message_at p.world from to index ≡ Some message → p.world.nodes to ≡ Some node → HaveRoom D p.world → index ≤ (p.world.links from to).next → suc index ≤ ((deliver D p from to index).world.links from to).next
   deliver_past p from to index message node sent runs room h =
       deliver_by D (λ (q : Playing Kind Op Shown). suc index ≤ (q.world.links from to).next) p from to index message node sent runs
-      (λ full. absurd (let a = room to node runs in elim (eqb_tells node.steps 16384) [ inl is ↦ omega (arith, is.1) | inr isnt ↦ let g = sym full ∙ isnt.0 in cc g ]))
+      (λ full. absurd (let a = room to node runs in elim (eqb_tells node.steps D.most_steps) [ inl is ↦ omega (arith, is.1) | inr isnt ↦ let g = sym full ∙ isnt.0 in cc g ]))
       (λ free.
       let r = turn_taken D p (DeliverHead from to index (Some message)) (Delivery from to index) (turn_by to node (Input.Take from message) NoStore) in
       subst (λ (w : World Kind Op Shown). suc index ≤ (w.links from to).next) (sym r.world) (delivery_past p.world from to index r.fate message node sent runs h))
@@ -176,7 +176,7 @@ module _ {Kind Op Shown : Type 0} (D : Replication Kind Op Shown) where
   indices_later from to p (k ∷ ks) = later_trans p.world (deliver D p from to k).world (fold (λ q index. deliver D q from to index) p (k ∷ ks)).world (deliver_later p from to k) (indices_later from to (deliver D p from to k) ks)
 
   indices_past : (from to first n : ℕ) (p : Playing Kind Op Shown) (node : Node Kind Op Shown) → p.world.nodes to ≡ Some node → first ≤ (p.world.links from to).next → first + n ≤ length (p.world.links from to).messages
-      → HaveRoom (fold (λ q index. deliver D q from to index) p (range_with_len first n)).world → first + n ≤ ((fold (λ q index. deliver D q from to index) p (range_with_len first n)).world.links from to).next
+      → HaveRoom D (fold (λ q index. deliver D q from to index) p (range_with_len first n)).world → first + n ≤ ((fold (λ q index. deliver D q from to index) p (range_with_len first n)).world.links from to).next
   indices_past from to first zero p node runs reached long room = omega arith
   indices_past from to first (suc n) p node runs reached long room =
       let q = deliver D p from to first in
@@ -198,7 +198,7 @@ module _ {Kind Op Shown : Type 0} (D : Replication Kind Op Shown) where
 
   -- a round that has this due
   dues_past : (due : Due) (p : Playing Kind Op Shown) (dues : List Due) (k : ℕ) → slice_get dues k ≡ Some due → (node : Node Kind Op Shown) → p.world.nodes due.to ≡ Some node → due.first ≤ (p.world.links due.from due.to).next → due.first + due.count ≤ length (p.world.links due.from due.to).messages
-      → HaveRoom (fold (deliver_due D) p dues).world → due.first + due.count ≤ ((fold (deliver_due D) p dues).world.links due.from due.to).next
+      → HaveRoom D (fold (deliver_due D) p dues).world → due.first + due.count ≤ ((fold (deliver_due D) p dues).world.links due.from due.to).next
   dues_past due p [] k e node runs reached long room = absurd (cc e)
   dues_past due p (d ∷ dues) zero e node runs reached long room =
       let same : d ≡ due = cc e in
@@ -226,7 +226,7 @@ module _ {Kind Op Shown : Type 0} (D : Replication Kind Op Shown) where
   round_later p = subst (λ (w : World Kind Op Shown). Later p.world w) (sym (round_world p (due_now D p))) (dues_later p (due_now D p))
 
   -- all that was sent on a link from a given identity to a running member is past after it
-  pub round_past : (p : Playing Kind Op Shown) (from to : ℕ) (node : Node Kind Op Shown) → from < p.world.view.given → IsIn (identities_of p.world.view) to → p.world.nodes to ≡ Some node → HaveRoom (played D p ScriptStep.Round).world
+  pub round_past : (p : Playing Kind Op Shown) (from to : ℕ) (node : Node Kind Op Shown) → from < p.world.view.given → IsIn (identities_of p.world.view) to → p.world.nodes to ≡ Some node → HaveRoom D (played D p ScriptStep.Round).world
       → length (p.world.links from to).messages ≤ ((played D p ScriptStep.Round).world.links from to).next
   round_past p from to node given member runs room = by_test (nat_lt (p.world.links from to).next (length (p.world.links from to).messages)) refl
     where
@@ -244,6 +244,6 @@ module _ {Kind Op Shown : Type 0} (D : Replication Kind Op Shown) where
           let row = to_flat_map (λ t. due_on from t (p.world.links from t)) (identities_of p.world.view) to due member here in
           let all = to_flat_map (λ f. flat_map (λ t. due_on f t (p.world.links f t)) (identities_of p.world.view)) (range_with_len 0 p.world.view.given) from due (from, range_at 0 p.world.view.given from given ∙ ap Some plain) row in
           let less = ltb-true (p.world.links from to).next (length (p.world.links from to).messages) e in
-          let past = dues_past due p (due_now D p) all.0 all.1 node runs (omega arith) (omega arith) (subst (λ (w : World Kind Op Shown). HaveRoom w) (round_world p (due_now D p)) room) in
+          let past = dues_past due p (due_now D p) all.0 all.1 node runs (omega arith) (omega arith) (subst (λ (w : World Kind Op Shown). HaveRoom D w) (round_world p (due_now D p)) room) in
           let same : ((played D p ScriptStep.Round).world.links from to).next ≡ ((fold (deliver_due D) p (due_now D p)).world.links from to).next = ap (λ (w : World Kind Op Shown). (w.links from to).next) (round_world p (due_now D p)) in
           omega arith

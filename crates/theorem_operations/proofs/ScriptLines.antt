@@ -54,9 +54,9 @@ module _ {Kind Op Shown : Type 0} (D : Replication Kind Op Shown) where
   given_case : (P : Playing Kind Op Shown → Type 0) (p : Playing Kind Op Shown) (head : Head Op) (event : Fate → Event Op) → P (told p head Gone) → P (told p head HistoryFull) → ((turn : Turn Kind Op Shown) → P (take_turn D p head event turn)) → P (given D p head event)
   given_case P p head event gone full takes = by_turn (turn_of p.world (event NoStore))
     where
-      by_turn : (o : Option (Turn Kind Op Shown)) → P (elim o [ None ↦ told p head Gone | Some turn ↦ if is_full turn.before then told p head HistoryFull else take_turn D p head event turn ])
+      by_turn : (o : Option (Turn Kind Op Shown)) → P (elim o [ None ↦ told p head Gone | Some turn ↦ if is_full D turn.before then told p head HistoryFull else take_turn D p head event turn ])
       by_turn None = gone
-      by_turn (Some turn) = if_holds P (is_full turn.before) (told p head HistoryFull) (take_turn D p head event turn) full (takes turn)
+      by_turn (Some turn) = if_holds P (is_full D turn.before) (told p head HistoryFull) (take_turn D p head event turn) full (takes turn)
 
   -- the lines of what an event puts out
   put_out : (head : Head Op) (o : Option (Output Op Shown)) (line : Told Op Shown) → IsIn (output_lines D head o) line → (output : Output Op Shown) × (o ≡ Some output) × (line ≡ record { head = head; answer = Replied output.reply; posts = output.posts; ended = output.ended })

@@ -87,7 +87,7 @@ first_round = record { playing = at_work w1; begins = refl; ends = refl; made = 
 last_round : IsRound small w2 (Delivery 1 0 0 NoStore ∷ [])
 last_round = record { playing = at_work w2; begins = refl; ends = refl; made = refl }
 
-room : HaveRoom w3
+room : HaveRoom small w3
 room t node e = by (t == 0) (t == 1) (nat_lt t 2) e
   where
     steps_of : (n : SmallNode) → n ≡ node → n.steps < 16384 → node.steps < 16384

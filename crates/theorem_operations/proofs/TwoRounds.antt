@@ -45,7 +45,7 @@ module _ {Kind Op Shown : Type 0} (D : Replication Kind Op Shown) where
       calm_run members keys V i op (happens D world event) events lawful.1 quiet.1 (calm_next D members keys V world calm event lawful.0 (keeps_members D i op event quiet.0))
 
   -- a round of these events leaves nothing due between members
-  round_reaches : (members : ℕ) (keys : List (KeyDecl Kind)) (V : View) (world : World Kind Op Shown) (events : List (Event Op)) → IsRound D world events → IsCalm D members keys V world → HaveRoom (run D world events)
+  round_reaches : (members : ℕ) (keys : List (KeyDecl Kind)) (V : View) (world : World Kind Op Shown) (events : List (Event Op)) → IsRound D world events → IsCalm D members keys V world → HaveRoom D (run D world events)
       → (from to : ℕ) → is_member V from ≡ true → is_member V to ≡ true → length (world.links from to).messages ≤ ((run D world events).links from to).next
   round_reaches members keys V world events round calm room from to m m' =
       let safe = safe_at D members keys world calm.stands in
@@ -54,7 +54,7 @@ module _ {Kind Op Shown : Type 0} (D : Replication Kind Op Shown) where
       let runs = safe.views.all_run.runs to (ap (λ (v : View). is_member v to) calm.view ∙ m') in
       let same : p.world.view ≡ world.view = ap (λ (w : World Kind Op Shown). w.view) round.begins in
       let past = round_past D p from to runs.0 (subst (λ (v : View). from < v.given) (sym same) given) (found_at (identities_of p.world.view) to (ap (λ (v : View). is_member v to) (same ∙ calm.view) ∙ m')) (ap (λ (w : World Kind Op Shown). w.nodes to) round.begins ∙ runs.1)
-      (subst (λ (w : World Kind Op Shown). HaveRoom w) (sym round.ends) room) in
+      (subst (λ (w : World Kind Op Shown). HaveRoom D w) (sym round.ends) room) in
       let a : length (p.world.links from to).messages ≡ length (world.links from to).messages = ap (λ (w : World Kind Op Shown). length (w.links from to).messages) round.begins in
       let b : ((played D p ScriptStep.Round).world.links from to).next ≡ ((run D world events).links from to).next = ap (λ (w : World Kind Op Shown). (w.links from to).next) round.ends in
       omega arith
@@ -199,8 +199,8 @@ module _ {Kind Op Shown : Type 0} (D : Replication Kind Op Shown) where
     l_last : AreLawful D w3 t.last_round
     l_last = subst (λ (w : World Kind Op Shown). AreLawful D w t.last_round) is3 (lawful_rest D first_world (to_last_round t) t.last_round u.is_run.lawful)
 
-    room4 : HaveRoom w4
-    room4 = subst (λ (w : World Kind Op Shown). HaveRoom w) is4 u.have_room
+    room4 : HaveRoom D w4
+    room4 = subst (λ (w : World Kind Op Shown). HaveRoom D w) is4 u.have_room
 
     calm1 : IsCalm D members keys V w1
     calm1 = calm_run members keys V i op opened t.first l_first u.undisturbed.0 calm_opened
@@ -214,8 +214,8 @@ module _ {Kind Op Shown : Type 0} (D : Replication Kind Op Shown) where
     calm4 : IsCalm D members keys V w4
     calm4 = calm_run members keys V i op w3 t.last_round l_last u.undisturbed.3 calm3
 
-    room2 : HaveRoom w2
-    room2 = room_before w2 w4 (later_trans w2 w3 w4 (later_run i op w2 t.second u.undisturbed.2) (later_run i op w3 t.last_round u.undisturbed.3)) room4
+    room2 : HaveRoom D w2
+    room2 = room_before D w2 w4 (later_trans w2 w3 w4 (later_run i op w2 t.second u.undisturbed.2) (later_run i op w3 t.last_round u.undisturbed.3)) room4
 
     past : (m : ℕ) → is_member V m ≡ true → length (w1.links i m).messages ≤ (w2.links i m).next
     past m member = round_reaches members keys V w1 t.round (subst (λ (w : World Kind Op Shown). IsRound D w t.round) is1 u.is_round) calm1 room2 i m i_member member

@@ -19,7 +19,7 @@ use Rattle.theorem_operations.specs.Scripts.{UpdateThenGet, IsUnchangedUntil}
 
 -- one key, which shows how many records of member 0 it has
 abbrev pub small : Replication (Unit {0}) (Unit {0}) ℕ
-small = record { data_type = record { fits = λ kind op. true; refusal = λ kind i op H. None; blocked = λ kind owner r H. None; shown = λ kind H. at H 0; deleted = λ H. false }; digest = λ kind entry. []; log_length = 50 }
+small = record { data_type = record { fits = λ kind op. true; refusal = λ kind i op H. None; blocked = λ kind owner r H. None; shown = λ kind H. at H 0; deleted = λ H. false }; digest = λ kind entry. []; log_length = 50; most_steps = 16384 }
 
 abbrev pub the_key : Text
 the_key = 97 ∷ []

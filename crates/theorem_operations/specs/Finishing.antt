@@ -23,8 +23,8 @@ DisturbsNothing i op (Event.Delivery from to index fate) = HasNotFailed fate
 DisturbsNothing i op _ = ⊥
 
 -- no running member's history is full
-abbrev pub HaveRoom : {Kind Op Shown : Type 0} → World Kind Op Shown → Type 0
-HaveRoom {Kind} {Op} {Shown} world = (t : ℕ) (node : Node Kind Op Shown) → world.nodes t ≡ Some node → node.steps < 16384
+abbrev pub HaveRoom : {Kind Op Shown : Type 0} → Replication Kind Op Shown → World Kind Op Shown → Type 0
+HaveRoom {Kind} {Op} {Shown} D world = (t : ℕ) (node : Node Kind Op Shown) → world.nodes t ≡ Some node → node.steps < D.most_steps
 
 -- events, an input at a member, events, a round, events, and a round
 pub record TwoRounds (Op : Type 0) : Type 0 where
@@ -70,7 +70,7 @@ module _ {Kind Op Shown : Type 0} (D : Replication Kind Op Shown) where
       pub is_round : IsRound (world_after (to_round t)) t.round
       pub is_last_round : IsRound (world_after (to_last_round t)) t.last_round
       pub undisturbed : AllByRecursion (DisturbsNothing t.at op) t.first × AllByRecursion (DisturbsNothing t.at op) t.round × AllByRecursion (DisturbsNothing t.at op) t.second × AllByRecursion (DisturbsNothing t.at op) t.last_round
-      pub have_room : HaveRoom (world_after (to_end t))
+      pub have_room : HaveRoom D (world_after (to_end t))
 
     -- after the second round the operation is finished
     abbrev pub IsOver : ℕ → Type 0

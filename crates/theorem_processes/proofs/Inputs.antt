@@ -34,13 +34,12 @@ use Rattle.member_node.specs.Inputs.{StandsForInput}
 use Rattle.member_node.specs.Keys.{declared}
 use Rattle.member_node.specs.Members.{StandsForMessage}
 use Rattle.member_node.specs.Replies.{meant_fate}
-use Rattle.member_node.specs.Steps.{replication}
 use Rattle.member_node.proofs.Takings.{told_whole}
 use Rattle.world_members.specs.Entering.{IsGivenFrom}
 use Rattle.world_members.proofs.Lists.{zip_at, pair_some, pair_both}
 use Rattle.theorem_processes.specs.Processes.{Processes, Happening, Makes, IsSpelledBy, IsHandedOver, happened}
 use Rattle.theorem_processes.specs.Processes.Happening.{Steps, Takes}
-use Rattle.theorem_processes.specs.Runs.{StandFor, IsTold, Tells, given_inputs, events_of}
+use Rattle.theorem_processes.specs.Runs.{lasting, StandFor, IsTold, Tells, given_inputs, events_of}
 use Rattle.theorem_processes.proofs.Steps.{made, tells}
 use Rattle.theorem_processes.proofs.Tables.{moved_messages}
 use Rattle.theorem_processes.proofs.Ways.{Reached, way_of}
@@ -83,7 +82,7 @@ module _ {T K Kind Delta : Type 0} {ghosts : Ghosts T Kind Op Delta} {keeping : 
 module _ {T K Kind Delta : Type 0} {ghosts : Ghosts T Kind Op Delta} {keeping : Keeping K} (spelling : Spelling T Kind Op Delta) (alike : (a b : K) → is_some (keeping.table a) ≡ is_some (keeping.table b)) (kinds : Text → Kind) (decls : List (KeyDecl T Kind Op Delta)) (count : ℕ)
     (events : List (Event Op)) (ps : Processes ghosts keeping) (world : worlds.World Kind Op Shown) (r : Reached {ghosts = ghosts} {keeping = keeping} spelling kinds decls count events ps world) where
   abbrev D : Replication Kind Op Shown
-  D = replication ghosts spelling
+  D = lasting ghosts spelling
 
   abbrev views_are : views_of world ≡ ps.views
   views_are = let now = way_of D count (map declared decls) events world r.is_run in (r.stand now.0 now.1).views
@@ -101,7 +100,7 @@ module _ {T K Kind Delta : Type 0} {ghosts : Ghosts T Kind Op Delta} {keeping : 
     puts_out : (n : nodes.Node Kind Op Shown) → world.nodes at ≡ Some n → (f : Fate) → output_of D world (event f) ≡ Some (step D n one.sent f).output
     puts_out n runs f = ap (λ (o : Option (nodes.Node Kind Op Shown)). option_map (λ (turn : worlds.Turn Kind Op Shown). (step_in D turn).output) (option_map (λ (node : nodes.Node Kind Op Shown). record { at = at; before = node; input = one.sent; fate = f }) o)) runs
 
-    lawful : (n : nodes.Node Kind Op Shown) → world.nodes at ≡ Some n → is_full n ≡ false → (f : Fate) → FitsFate D n one.sent f → IsLawful D world (event f)
+    lawful : (n : nodes.Node Kind Op Shown) → world.nodes at ≡ Some n → is_full D n ≡ false → (f : Fate) → FitsFate D n one.sent f → IsLawful D world (event f)
     lawful n runs room f fits = (one.is_given D world views_are, record { node = n; runs = runs; has_room = room; fate_fits = fits })
 
     pub gives : Advances {ghosts = ghosts} {keeping = keeping} spelling kinds decls count events ps world (Steps at given fate output after)
@@ -154,7 +153,7 @@ module _ {T K Kind Delta : Type 0} {ghosts : Ghosts T Kind Op Delta} {keeping : 
         let was = pair_both (IsMeant logs) (slice_get (ps.posted from to) index) (message_at world from to index) over.post sent (zip_at (IsMeant logs) (ps.posted from to) (world.links from to).messages index (s.links from to)) over.posted there.1 in
         record { told = sent; is = refl; message_stands = told_whole kinds logs m.before.keys.items read sent (across logs over.post read sent bytes over.spelled over.read_so was) }
 
-    may_arrive : (n : nodes.Node Kind Op Shown) → world.nodes to ≡ Some n → is_full n ≡ false → (f : Fate) → FitsFate D n (Input.Take from sent) f → IsLawful D world (delivery f)
+    may_arrive : (n : nodes.Node Kind Op Shown) → world.nodes to ≡ Some n → is_full D n ≡ false → (f : Fate) → FitsFate D n (Input.Take from sent) f → IsLawful D world (delivery f)
     may_arrive n runs room f fits = (sent, there.1, record { node = n; runs = runs; has_room = room; fate_fits = fits })
 
     pub takes : Advances {ghosts = ghosts} {keeping = keeping} spelling kinds decls count events ps world (Takes from to index bytes read fate output after)

@@ -1,5 +1,7 @@
 pub mod Tables
 pub mod Views
+pub mod OtherEnds
+pub mod Forgetting
 pub mod Ways
 pub mod Steps
 pub mod Inputs

@@ -1,6 +1,6 @@
--- Members that leave, join and come back are the model's; and a step that was refused is nothing.
+-- Members that leave, join and come back are the model's; and a step that was refused, what is forgotten and another limit are nothing.
 use Rattle.std.proofs.Common.{◌≡◌, ◌≢◌, ℕ, ◌+◌, ◌-◌, ◌<◌, List, [], ◌∷◌, ◌++◌, length, map, refl, sym, ap, subst, ◌∙◌, arith, Bool, true, false, Option, Some, None, inl, inr}
-use Rattle.std.specs.Prelude.{is_some, if◌then◌else◌, IsTrue, IsFalse}
+use Rattle.std.specs.Prelude.{max, is_some, if◌then◌else◌, IsTrue, IsFalse}
 use Rattle.std.proofs.lemmas.Bool.Decides.{eqb_tells}
 use Rattle.model_history.specs.Table.{identity_limit, with_at}
 use Rattle.model_history.specs.Texts.{Text}
@@ -25,17 +25,21 @@ use Rattle.member_views.specs.Sound.{last_view}
 use Rattle.member_node.specs.declared.key.KeyDecl.{KeyDecl}
 use Rattle.member_node.specs.declared.node.Node.{Node}
 use Rattle.member_node.specs.Keys.{AreOfKinds, declared}
+use Rattle.member_node.specs.Limits.{IsLimited}
 use Rattle.member_node.specs.Members.{StandsForNode}
-use Rattle.member_node.specs.Steps.{replication, IsUnchanged}
+use Rattle.member_node.specs.Steps.{IsUnchanged}
 use Rattle.member_node.specs.Stores.{SpellsStore}
-use Rattle.world_members.specs.Standing.{StandsForRunning, TellsStore}
+use Rattle.world_members.specs.Standing.{TellsStore}
 use Rattle.world_members.proofs.Lists.{at_each}
 use Rattle.world_members.proofs.Standings.{last_is, still_stands}
 use Rattle.world_members.proofs.Storing.{spells_nothing, store_stays}
-use Rattle.theorem_processes.specs.Processes.{Processes, IsMade, IsBack, with_view, with_member, happened, next_identity, now_of}
-use Rattle.theorem_processes.specs.Processes.Happening.{Refuses, Leaves, Joins, Returns}
-use Rattle.theorem_processes.specs.Runs.{StandFor}
+use Rattle.theorem_processes.specs.Forgetting.{HasForgotten, StandsButForEnds, StandsForProcess}
+use Rattle.theorem_processes.specs.Processes.{Processes, IsMade, IsMaybeLimited, IsBack, with_view, with_member, happened, next_identity, now_of}
+use Rattle.theorem_processes.specs.Processes.Happening.{Refuses, Forgets, Limits, Leaves, Joins, Returns}
+use Rattle.theorem_processes.specs.Runs.{lasting, StandFor}
+use Rattle.theorem_processes.proofs.Forgetting.{whole, forgets}
 use Rattle.theorem_processes.proofs.Inputs.{Advances}
+use Rattle.theorem_processes.proofs.OtherEnds.{with_ends}
 use Rattle.theorem_processes.proofs.Tables.{both_at}
 use Rattle.theorem_processes.proofs.Views.{joined_place, joined_apart, replaced_place}
 use Rattle.theorem_processes.proofs.Ways.{Reached, at_work, way_of, way_before, member_of_view, members_below, places_there}
@@ -50,10 +54,20 @@ module _ {T K Kind Delta : Type 0} {ghosts : Ghosts T Kind Op Delta} {keeping : 
     | inr apart ↦ other j member apart.1 (sym (ap (λ (b : Bool). if b then new else members j) apart.0) ∙ is)
   ]
 
+  -- a member with another limit of steps stands for what it stood for, and has the same keeper
+  limited_stands : (kinds : Text → Kind) (logs : Text → History Op) (node : nodes.Node Kind Op Shown) (made new : Node T K Kind Op Delta ghosts keeping) → IsMaybeLimited made new
+      → StandsForNode ghosts.kind_of ghosts.IsDataOf kinds logs made node → StandsForNode ghosts.kind_of ghosts.IsDataOf kinds logs new node
+  limited_stands kinds logs node made new (inl same) s = subst (λ (code : Node T K Kind Op Delta ghosts keeping). StandsForNode ghosts.kind_of ghosts.IsDataOf kinds logs code node) (sym same) s
+  limited_stands kinds logs node made new (inr limited) s = limited.1.stands kinds logs node s
+
+  limited_keeper : (made new : Node T K Kind Op Delta ghosts keeping) → IsMaybeLimited made new → new.keeper ≡ made.keeper
+  limited_keeper made new (inl same) = ap (λ (code : Node T K Kind Op Delta ghosts keeping). code.keeper) same
+  limited_keeper made new (inr limited) = limited.1.keeper
+
 module _ {T K Kind Delta : Type 0} {ghosts : Ghosts T Kind Op Delta} {keeping : Keeping K} (spelling : Spelling T Kind Op Delta) (alike : (a b : K) → is_some (keeping.table a) ≡ is_some (keeping.table b)) (kinds : Text → Kind) (decls : List (KeyDecl T Kind Op Delta)) (of_kinds : AreOfKinds kinds decls) (count : ℕ)
     (events : List (Event Op)) (ps : Processes ghosts keeping) (world : worlds.World Kind Op Shown) (r : Reached {ghosts = ghosts} {keeping = keeping} spelling kinds decls count events ps world) where
   abbrev D : Replication Kind Op Shown
-  D = replication ghosts spelling
+  D = lasting ghosts spelling
 
   abbrev keys : List (nodes.KeyDecl Kind)
   keys = map declared decls
@@ -61,8 +75,8 @@ module _ {T K Kind Delta : Type 0} {ghosts : Ghosts T Kind Op Delta} {keeping : 
   abbrev Stand : (Text → History Op) → Processes ghosts keeping → worlds.World Kind Op Shown → Type 0
   Stand logs qs w = StandFor {ghosts = ghosts} {keeping = keeping} spelling kinds decls logs qs w
 
-  abbrev Running : (Text → History Op) → Option (Node T K Kind Op Delta ghosts keeping) → Option (nodes.Node Kind Op Shown) → Type 0
-  Running logs code running = StandsForRunning {ghosts = ghosts} {keeping = keeping} spelling kinds logs code running
+  abbrev Running : (Text → History Op) → ℕ → Option (Node T K Kind Op Delta ghosts keeping) → Option (nodes.Node Kind Op Shown) → Type 0
+  Running logs forgotten code running = StandsForProcess {ghosts = ghosts} {keeping = keeping} kinds logs forgotten code running
 
   abbrev Tell : (Text → History Op) → K → Store Op → Type 0
   Tell logs keeper store = TellsStore ghosts keeping spelling kinds logs (Some keeper) store
@@ -77,33 +91,67 @@ module _ {T K Kind Delta : Type 0} {ghosts : Ghosts T Kind Op Delta} {keeping : 
   below : (t : ℕ) → is_member world.view t ≡ true → t < world.view.given
   below = members_below D count keys events world r.is_run
 
-  -- A REFUSED STEP
+  -- THE MEMBER IS ANOTHER, AND THE WORLD THE SAME
 
-  module _ (at : ℕ) (after before : Node T K Kind Op Delta ghosts keeping) (runs : ps.members at ≡ Some before) (unchanged : IsUnchanged before after) where
-    stands_refused : (logs : Text → History Op) → Stand logs ps world → Stand logs (with_member ps at (Some after)) world
-    stands_refused logs s =
+  module _ (at : ℕ) (after before : Node T K Kind Op Delta ghosts keeping) (runs : ps.members at ≡ Some before) (forgotten : ℕ → ℕ)
+      (stays : (logs : Text → History Op) (node : nodes.Node Kind Op Shown) → StandsButForEnds kinds logs (ps.forgotten at) before node → StandsButForEnds kinds logs (forgotten at) after node)
+      (others : (j : ℕ) → j ≢ at → forgotten j ≡ ps.forgotten j) (keeps : (logs : Text → History Op) (store : Store Op) → Tell logs before.keeper store → Tell logs after.keeper store) where
+    abbrev changed : Processes ghosts keeping
+    changed = record (with_member ps at (Some after)) { forgotten = forgotten }
+
+    stands_changed : (logs : Text → History Op) → Stand logs ps world → Stand logs changed world
+    stands_changed logs s =
         let there = at_work spelling kinds decls count logs ps world s at before runs in
         record {
           views = s.views;
           keys = s.keys;
-          running = at_each (λ j code. Running logs code (world.nodes j)) ps.members at (Some after) (there.node, there.runs, still_stands spelling kinds logs before after there.node unchanged.same there.stands) (λ j other. s.running j);
+          running = at_each (λ j code. Running logs (forgotten j) code (world.nodes j)) ps.members at (Some after) (there.node, there.runs, stays logs there.node there.stands)
+              (λ j other. subst (λ (n : ℕ). Running logs n (ps.members j) (world.nodes j)) (sym (others j other)) (s.running j));
           links = s.links;
           stores = here_or_other ps.members at (Some after) (λ j member. Tell logs member.keeper (world.stores (place_of world.view j)))
               (λ member is. (let same : after ≡ member = cc is in
-              subst (λ (x : Node T K Kind Op Delta ghosts keeping). Tell logs x.keeper (world.stores (place_of world.view at))) same
-              (store_stays ghosts spelling kinds logs keeping alike before.keeper after.keeper (world.stores (place_of world.view at)) unchanged.told.table (s.stores at before runs))))
+              subst (λ (x : Node T K Kind Op Delta ghosts keeping). Tell logs x.keeper (world.stores (place_of world.view at))) same (keeps logs (world.stores (place_of world.view at)) (s.stores at before runs))))
               (λ j member other was. s.stores j member was);
         }
 
-    pub refuses : Advances {ghosts = ghosts} {keeping = keeping} spelling kinds decls count events ps world (Refuses at after)
-    refuses =
-        record {
-          next = world;
-          reached =
-              subst (λ (es : List (Event Op)). Reached {ghosts = ghosts} {keeping = keeping} spelling kinds decls count es (with_member ps at (Some after)) world) (sym (append_nothing events))
-              (record { is_run = r.is_run; stand = λ logs way. stands_refused logs (r.stand logs way) });
-          told = tt;
-        }
+    still_reached : Reached {ghosts = ghosts} {keeping = keeping} spelling kinds decls count (events ++ []) changed world
+    still_reached =
+        subst (λ (es : List (Event Op)). Reached {ghosts = ghosts} {keeping = keeping} spelling kinds decls count es changed world) (sym (append_nothing events))
+        (record { is_run = r.is_run; stand = λ logs way. stands_changed logs (r.stand logs way) })
+
+  same_keeper : (logs : Text → History Op) (before after : Node T K Kind Op Delta ghosts keeping) (store : Store Op) → after.keeper ≡ before.keeper → Tell logs before.keeper store → Tell logs after.keeper store
+  same_keeper logs before after store same tells = subst (λ (k : K). Tell logs k store) (sym same) tells
+
+  pub refuses : (at : ℕ) (after before : Node T K Kind Op Delta ghosts keeping) → ps.members at ≡ Some before → IsUnchanged before after → Advances {ghosts = ghosts} {keeping = keeping} spelling kinds decls count events ps world (Refuses at after)
+  refuses at after before runs unchanged =
+      record {
+        next = world;
+        reached = still_reached at after before runs ps.forgotten
+            (λ logs node s. record { ends = s.ends; left = s.left; stands = still_stands spelling kinds logs before after (with_ends s.ends node) unchanged.same s.stands }) (λ j other. refl)
+            (λ logs store tells. store_stays ghosts spelling kinds logs keeping alike before.keeper after.keeper store unchanged.told.table tells);
+        told = tt;
+      }
+
+  pub limits : (at limit : ℕ) (after before : Node T K Kind Op Delta ghosts keeping) → ps.members at ≡ Some before → IsLimited before limit after → Advances {ghosts = ghosts} {keeping = keeping} spelling kinds decls count events ps world (Limits at limit after)
+  limits at limit after before runs limited =
+      record {
+        next = world;
+        reached = still_reached at after before runs ps.forgotten
+            (λ logs node s. record { ends = s.ends; left = s.left; stands = limited.stands kinds logs (with_ends s.ends node) s.stands }) (λ j other. refl)
+            (λ logs store tells. same_keeper logs before after store limited.keeper tells);
+        told = tt;
+      }
+
+  pub forgets_ends : (at before : ℕ) (after old : Node T K Kind Op Delta ghosts keeping) → ps.members at ≡ Some old → HasForgotten before old after → Advances {ghosts = ghosts} {keeping = keeping} spelling kinds decls count events ps world (Forgets at before after)
+  forgets_ends at before after old runs has =
+      let more = max (ps.forgotten at) after.operations.forgotten in
+      record {
+        next = world;
+        reached = still_reached at after old runs (with_at ps.forgotten at more)
+            (λ logs node s. subst (λ (n : ℕ). StandsButForEnds kinds logs n after node) (sym (with_at_same ps.forgotten at more)) (forgets kinds logs (ps.forgotten at) old after node has.stands s))
+            (λ j other. with_at_other ps.forgotten at more j other) (λ logs store tells. same_keeper logs old after store has.same.keeper tells);
+        told = tt;
+      }
 
   -- A CHANGE OF THE VIEWS
 
@@ -123,7 +171,7 @@ module _ {T K Kind Delta : Type 0} {ghosts : Ghosts T Kind Op Delta} {keeping : 
         record {
           views = ap (λ (vs : List View). vs ++ without_member world.view i ∷ []) s.views;
           keys = s.keys;
-          running = both_at (λ j code running. Running logs code running) ps.members world.nodes i None None refl (λ j other. s.running j);
+          running = both_at (λ j code running. Running logs (ps.forgotten j) code running) ps.members world.nodes i None None refl (λ j other. s.running j);
           links = s.links;
           stores = here_or_other ps.members i None (λ j member. Tell logs member.keeper (world.stores (place_of (without_member world.view i) j))) (λ member is. absurd (cc is))
               (λ j member other was. subst (λ (p : ℕ). Tell logs member.keeper (world.stores p)) (sym (place_without world.view i j other)) (s.stores j member was));
@@ -177,8 +225,8 @@ module _ {T K Kind Delta : Type 0} {ghosts : Ghosts T Kind Op Delta} {keeping : 
           record {
             views = ap (λ (vs : List View). vs ++ joined ∷ []) s.views;
             keys = s.keys;
-            running = λ j. subst (λ (ns : ℕ → Option (nodes.Node Kind Op Shown)). Running logs (with_at ps.members given (Some new) j) (ns j)) (sym nodes_joined)
-                (both_at (λ k code running. Running logs code running) ps.members world.nodes given (Some new) (Some (loaded_node world.keys given joined no_entries)) (loaded_node world.keys given joined no_entries, refl, new_stands) (λ k other. s.running k) j);
+            running = λ j. subst (λ (ns : ℕ → Option (nodes.Node Kind Op Shown)). Running logs (ps.forgotten j) (with_at ps.members given (Some new) j) (ns j)) (sym nodes_joined)
+                (both_at (λ k code running. Running logs (ps.forgotten k) code running) ps.members world.nodes given (Some new) (Some (loaded_node world.keys given joined no_entries)) (loaded_node world.keys given joined no_entries, refl, whole kinds logs (ps.forgotten given) new (loaded_node world.keys given joined no_entries) new_stands) (λ k other. s.running k) j);
             links = s.links;
             stores = here_or_other ps.members given (Some new) (λ j member. Tell logs member.keeper (with_at world.stores place no_entries (place_of joined j)))
                 (λ member is. (let same : new ≡ member = cc is in
@@ -224,11 +272,12 @@ module _ {T K Kind Delta : Type 0} {ghosts : Ghosts T Kind Op Delta} {keeping : 
       back_stands =
           subst (λ (ks : List (nodes.KeyDecl Kind)). StandsForNode ghosts.kind_of ghosts.IsDataOf kinds logs new (loaded_node ks given replaced (world.stores old_place))) (sym s.keys)
           (subst (λ (v : View). StandsForNode ghosts.kind_of ghosts.IsDataOf kinds logs new (loaded_node keys v.given (with_replaced v i) (world.stores old_place))) last
-          (back.stands kinds logs back.table (world.stores old_place) back.told of_kinds histories spells.1))
+          (limited_stands kinds logs (loaded_node keys (now_of ps).given (with_replaced (now_of ps) i) (world.stores old_place)) back.made new back.limited (back.stands kinds logs back.table (world.stores old_place) back.told of_kinds histories spells.1)))
 
       back_tells : Tell logs new.keeper (world.stores old_place)
       back_tells = λ table told.
-          let still : keeping.table new.keeper ≡ Some back.table = subst (λ (o : Option Table). Becomes o (keeping.table new.keeper) (λ t. t)) back.told back.loaded.table in
+          let made : keeping.table back.made.keeper ≡ Some back.table = subst (λ (o : Option Table). Becomes o (keeping.table back.made.keeper) (λ t. t)) back.told back.loaded.table in
+          let still : keeping.table new.keeper ≡ Some back.table = ap (λ (k : K). keeping.table k) (limited_keeper back.made new back.limited) ∙ made in
           let same : back.table ≡ table = (let e : Some back.table ≡ Some table = sym still ∙ told in cc e) in
           subst (λ (t : Table). IsTable t × SpellsStore ghosts spelling kinds logs t (world.stores old_place)) same spells
 
@@ -237,10 +286,10 @@ module _ {T K Kind Delta : Type 0} {ghosts : Ghosts T Kind Op Delta} {keeping : 
           record {
             views = ap (λ (vs : List View). vs ++ replaced ∷ []) s.views;
             keys = s.keys;
-            running = λ j. subst (λ (ns : ℕ → Option (nodes.Node Kind Op Shown)). Running logs (with_at (with_at ps.members i None) given (Some new) j) (ns j)) (sym nodes_back)
-                (both_at (λ k code running. Running logs code running) (with_at ps.members i None) (with_at world.nodes i None) given (Some new) (Some (loaded_node world.keys given replaced (world.stores old_place)))
-                (loaded_node world.keys given replaced (world.stores old_place), refl, back_stands)
-                (λ k other. both_at (λ l code running. Running logs code running) ps.members world.nodes i None None refl (λ l apart. s.running l) k) j);
+            running = λ j. subst (λ (ns : ℕ → Option (nodes.Node Kind Op Shown)). Running logs (ps.forgotten j) (with_at (with_at ps.members i None) given (Some new) j) (ns j)) (sym nodes_back)
+                (both_at (λ k code running. Running logs (ps.forgotten k) code running) (with_at ps.members i None) (with_at world.nodes i None) given (Some new) (Some (loaded_node world.keys given replaced (world.stores old_place)))
+                (loaded_node world.keys given replaced (world.stores old_place), refl, whole kinds logs (ps.forgotten given) new (loaded_node world.keys given replaced (world.stores old_place)) back_stands)
+                (λ k other. both_at (λ l code running. Running logs (ps.forgotten l) code running) ps.members world.nodes i None None refl (λ l apart. s.running l) k) j);
             links = s.links;
             stores = here_or_other (with_at ps.members i None) given (Some new) (λ j member. Tell logs member.keeper (world.stores (place_of replaced j)))
                 (λ member is. (let same : new ≡ member = cc is in

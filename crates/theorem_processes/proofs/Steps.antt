@@ -31,18 +31,21 @@ use Rattle.member_node.specs.declared.reply.Fate as done
 use Rattle.member_node.specs.declared.reply.Output.{Output}
 use Rattle.member_node.specs.Inputs.{StandsForInput}
 use Rattle.member_node.specs.Keys.{declared}
-use Rattle.member_node.specs.Members.{IsSafe, StandsForNode, StandsForMessage}
+use Rattle.member_node.specs.Limits.{highest_limit}
+use Rattle.member_node.specs.Members.{IsSafe, StandsForMessage}
 use Rattle.member_node.specs.Replies.{meant_fate}
-use Rattle.member_node.specs.Steps.{replication, IsImage}
 use Rattle.member_node.proofs.Fates.{entries_same}
 use Rattle.world_members.specs.Sending.{messages_to}
-use Rattle.world_members.specs.Standing.{StandsForRunning, TellsStore}
+use Rattle.world_members.specs.Standing.{TellsStore}
 use Rattle.world_members.proofs.Answering.{names_apart, all_fine}
 use Rattle.world_members.proofs.Linking.{sent_to, posts_here, posts_elsewhere, messages_stand}
 use Rattle.world_members.proofs.Lists.{zip_append}
 use Rattle.world_members.proofs.Storing.{store_stands}
+use Rattle.theorem_processes.specs.Forgetting.{StandsButForEnds, StandsForProcess}
 use Rattle.theorem_processes.specs.Processes.{Processes, Makes, after_step}
-use Rattle.theorem_processes.specs.Runs.{StandFor, Tells}
+use Rattle.theorem_processes.specs.Runs.{lasting, StandFor, Tells}
+use Rattle.theorem_processes.proofs.Forgetting.{IsImageButForEnds, carried}
+use Rattle.theorem_processes.proofs.OtherEnds.{with_ends, adds_alike}
 use Rattle.theorem_processes.proofs.Tables.{both_at}
 use Rattle.theorem_processes.proofs.Ways.{IsWay, Reached, IsAtWork, at_work, way_of, way_before, safe_there, safe_alike, member_of_view, places_there}
 
@@ -50,7 +53,7 @@ module _ {T K Kind Delta : Type 0} {ghosts : Ghosts T Kind Op Delta} {keeping : 
     (events : List (Event Op)) (ps : Processes ghosts keeping) (world : worlds.World Kind Op Shown) (r : Reached {ghosts = ghosts} {keeping = keeping} spelling kinds decls count events ps world)
     (at : ℕ) (given : given_input.Input T Kind Op Delta ghosts) (fate : done.Fate) (output : Output T Kind Op Delta ghosts) (after : Node T K Kind Op Delta ghosts keeping) (m : Makes spelling ps at given fate output after) where
   abbrev D : Replication Kind Op Shown
-  D = replication ghosts spelling
+  D = lasting ghosts spelling
 
   abbrev keys : List (nodes.KeyDecl Kind)
   keys = map declared decls
@@ -61,24 +64,28 @@ module _ {T K Kind Delta : Type 0} {ghosts : Ghosts T Kind Op Delta} {keeping : 
   now : (logs : Text → History Op) × IsWay D count keys logs events
   now = way_of D count keys events world r.is_run
 
-  work : IsAtWork {ghosts = ghosts} {keeping = keeping} spelling kinds decls count now.0 world at m.before
+  work : IsAtWork {ghosts = ghosts} {keeping = keeping} spelling kinds decls count now.0 ps world at m.before
   work = at_work spelling kinds decls count now.0 ps world (r.stand now.0 now.1) at m.before m.runs
 
   abbrev node : nodes.Node Kind Op Shown
   node = work.node
 
-  node_stands : (logs : Text → History Op) → Stand logs → StandsForNode ghosts.kind_of ghosts.IsDataOf kinds logs m.before node
+  node_stands : (logs : Text → History Op) → Stand logs → StandsButForEnds kinds logs (ps.forgotten at) m.before node
   node_stands logs s =
       let there = at_work spelling kinds decls count logs ps world s at m.before m.runs in
       let same : there.node ≡ node = (let e : Some there.node ≡ Some node = sym there.runs ∙ work.runs in cc e) in
-      subst (λ (n : nodes.Node Kind Op Shown). StandsForNode ghosts.kind_of ghosts.IsDataOf kinds logs m.before n) same there.stands
+      subst (StandsButForEnds kinds logs (ps.forgotten at) m.before) same there.stands
 
-  has_room : is_full node ≡ false
-  has_room = elim (eqb_tells node.steps 16384) [ inl e ↦ absurd (let a = work.stands.steps in let b = m.makes.had_room in let c = e.1 in omega arith) | inr other ↦ other.0 ]
+  -- its own limit is at most the highest
+  has_room : is_full D node ≡ false
+  has_room = elim (eqb_tells node.steps highest_limit) [
+    | inl e ↦ absurd (let a = work.stands.stands.steps in let b = m.makes.had_room in let c = e.1 in let d = m.before.few_limit in omega arith)
+    | inr other ↦ other.0
+  ]
 
   -- an event in which the member takes the input, and links whose messages are those of the world
   module _ (sent : Input Op) (event : Fate → Event Op) (links : Links Op)
-      (lawful : (n : nodes.Node Kind Op Shown) → world.nodes at ≡ Some n → is_full n ≡ false → (f : Fate) → FitsFate D n sent f → IsLawful D world (event f))
+      (lawful : (n : nodes.Node Kind Op Shown) → world.nodes at ≡ Some n → is_full D n ≡ false → (f : Fate) → FitsFate D n sent f → IsLawful D world (event f))
       (happens_so : (n : nodes.Node Kind Op Shown) → world.nodes at ≡ Some n → (f : Fate) → happens D world (event f) ≡ worlds.after_step (record world { links = links }) at n f (step D n sent f))
       (puts_out : (n : nodes.Node Kind Op Shown) → world.nodes at ≡ Some n → (f : Fate) → output_of D world (event f) ≡ Some (step D n sent f).output)
       (same_messages : (a b : ℕ) → (links a b).messages ≡ (world.links a b).messages) (input_stands : (logs : Text → History Op) → Stand logs → StandsForInput kinds logs m.before.keys.items given sent) where
@@ -97,8 +104,13 @@ module _ {T K Kind Delta : Type 0} {ghosts : Ghosts T Kind Op Delta} {keeping : 
         safe_there D count keys (events ++ event f ∷ []) (happens D world (event f)) (run_with f fits) logs way at (step D node sent f).node
         (ap (λ (w : worlds.World Kind Op Shown). w.nodes at) (happens_so node work.runs f) ∙ with_at_same world.nodes at (Some (step D node sent f).node))
 
-    image : (logs : Text → History Op) → Stand logs → IsSafe logs (step D node sent (meant_fate fate)).node → IsImage spelling kinds logs m.before fate output after node sent
-    image logs s safe = m.makes.image kinds logs node sent (node_stands logs s) (input_stands logs s) safe
+    image : (logs : Text → History Op) → Stand logs → IsSafe logs (step D node sent (meant_fate fate)).node → IsImageButForEnds spelling kinds logs (ps.forgotten at) m.before fate output after node sent
+    image logs s safe =
+        let before = node_stands logs s in
+        let other = with_ends before.ends node in
+        let entries = ap (λ (x : Stepped Kind Op Shown). x.node.entries) (adds_alike D node before.ends sent (meant_fate fate)).alike in
+        carried spelling kinds logs (ps.forgotten at) m.before fate output after node sent before
+        (m.makes.image kinds logs other sent before.stands (input_stands logs s) (safe_alike (step D node sent (meant_fate fate)).node (step D other sent (meant_fate fate)).node entries safe))
 
     -- the entries after the step are the same whatever the store did, so the step is the model's, and its fate fits
     fits : FitsFate D node sent (meant_fate fate)
@@ -117,7 +129,7 @@ module _ {T K Kind Delta : Type 0} {ghosts : Ghosts T Kind Op Delta} {keeping : 
     abbrev next_store : Store Op
     next_store = after_store (meant_fate fate) (map keyed_entry (to_store node stepped.node)) (world.stores place)
 
-    module _ (logs : Text → History Op) (s : Stand logs) (im : IsImage spelling kinds logs m.before fate output after node sent) where
+    module _ (logs : Text → History Op) (s : Stand logs) (im : IsImageButForEnds spelling kinds logs (ps.forgotten at) m.before fate output after node sent) where
       abbrev IsMeant : Message T Kind Op Delta ghosts → Sent Op → Type 0
       IsMeant = StandsForMessage ghosts.kind_of ghosts.IsDataOf kinds logs
 
@@ -141,8 +153,8 @@ module _ {T K Kind Delta : Type 0} {ghosts : Ghosts T Kind Op Delta} {keeping : 
 
       stored : Keeps after.keeper next_store
       stored =
-          store_stands ghosts spelling kinds logs keeping alike fate (to_store node stepped.node) m.before.keeper after.keeper (world.stores place) im.table (names_apart spelling kinds logs after node stepped.node im.stands)
-          (all_fine spelling kinds logs after node stepped.node im.stands im.kept) (s.stores at m.before m.runs)
+          store_stands ghosts spelling kinds logs keeping alike fate (to_store node stepped.node) m.before.keeper after.keeper (world.stores place) im.table (names_apart spelling kinds logs after node (with_ends im.stands.ends stepped.node) im.stands.stands)
+          (all_fine spelling kinds logs after node (with_ends im.stands.ends stepped.node) im.stands.stands im.stored) (s.stores at m.before m.runs)
 
       kept : (i : ℕ) (member : Node T K Kind Op Delta ghosts keeping) → with_at ps.members at (Some after) i ≡ Some member → Keeps member.keeper (with_at world.stores place next_store (place_of world.view i))
       kept i member is = elim (eqb_tells i at) [
@@ -162,7 +174,7 @@ module _ {T K Kind Delta : Type 0} {ghosts : Ghosts T Kind Op Delta} {keeping : 
           record {
             views = s.views;
             keys = s.keys;
-            running = both_at (λ j code running. StandsForRunning {ghosts = ghosts} {keeping = keeping} spelling kinds logs code running) ps.members world.nodes at (Some after) (Some stepped.node) (stepped.node, refl, im.stands) (λ j other. s.running j);
+            running = both_at (λ j code running. StandsForProcess {ghosts = ghosts} {keeping = keeping} kinds logs (ps.forgotten j) code running) ps.members world.nodes at (Some after) (Some stepped.node) (stepped.node, refl, im.stands) (λ j other. s.running j);
             links = linked;
             stores = kept;
           }

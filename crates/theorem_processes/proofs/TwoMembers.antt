@@ -1,5 +1,5 @@
 -- What real calls make of two processes meets the premises.
-use Rattle.std.proofs.Common.{◌≡◌, ℕ, ◌<◌, ◌≤◌, suc, List, [], ◌∷◌, ◌++◌, length, get_or, refl, sym, ap, subst, ◌∙◌, arith, Bool, Some, None, inl, inr}
+use Rattle.std.proofs.Common.{◌≡◌, ℕ, ◌<◌, ◌≤◌, List, [], ◌∷◌, length, get_or, refl, sym, ap, subst, ◌∙◌, arith, Bool, Some, None, inl, inr}
 use Rattle.std.specs.Prelude.{if◌then◌else◌, ◌==◌, slice_get}
 use Rattle.std.proofs.lemmas.Bool.{ne_eqb}
 use Rattle.std.proofs.lemmas.Bool.Decides.{eqb_tells}
@@ -15,6 +15,7 @@ use Rattle.member_node.specs.declared.node.Node.{Node}
 use Rattle.member_node.specs.declared.input.Input.TheVariants as input
 use Rattle.member_quorum.specs.declared.level.Level.TheVariants.{All}
 use Rattle.world_members.specs.Sending.{messages_to}
+use Rattle.theorem_processes.specs.Forgetting.{HasForgotten}
 use Rattle.theorem_processes.specs.Processes.{IsMade, Begin}
 use Rattle.theorem_processes.specs.Worked.{two, IsPosting, IsTaking, AreMet}
 
@@ -44,14 +45,14 @@ module _ {T K Kind Delta : Type 0} {ghosts : Ghosts T Kind Op Delta} {keeping : 
       ∙ ap (λ (b : Bool). if b then Some other else None) (ne_eqb i 1 (λ e. absurd (omega arith)))
 
   begin_two : Begin decls 2 (two one other)
-  begin_two = record { some = omega arith; few = omega arith; view = refl; made = made; no_more = no_more; silent = λ from to. refl }
+  begin_two = record { some = omega arith; few = omega arith; view = refl; made = made; no_more = no_more; remembers = λ i. refl; silent = λ from to. refl }
 
-  module _ (spelling : Spelling T Kind Op Delta) (deltas : DeltaSpelling T Kind Op Delta) (after middle last : Node T K Kind Op Delta ghosts keeping) (bytes : List ℕ)
-      (posting : IsPosting spelling deltas one 1 bytes after) (once : IsTaking spelling deltas other 0 bytes middle) (again : IsTaking spelling deltas middle 0 bytes last) where
+  module _ (spelling : Spelling T Kind Op Delta) (deltas : DeltaSpelling T Kind Op Delta) (after middle last forgetful : Node T K Kind Op Delta ghosts keeping) (bytes : List ℕ)
+      (posting : IsPosting spelling deltas one 1 bytes after) (once : IsTaking spelling deltas other 0 bytes middle) (again : IsTaking spelling deltas middle 0 bytes last) (forgets : HasForgotten 1 last forgetful) where
     posted : slice_get (messages_to posting.output.posts 1) 0 ≡ Some posting.message
     posted = ap (λ (posts : List (Post T Kind Op Delta ghosts)). slice_get (messages_to posts 1) 0) posting.one
 
-    pub are_met : AreMet spelling deltas decls after last
+    pub are_met : AreMet spelling deltas decls after forgetful
     are_met =
         record {
           new_one = one;
@@ -67,8 +68,7 @@ module _ {T K Kind Delta : Type 0} {ghosts : Ghosts T Kind Op Delta} {keeping : 
             (tt, record { before = one; runs = refl; makes = posting.makes }),
             (
               (record { post = posting.message; posted = posted; spelled = posting.spelled; read_so = once.read_so }, record { before = other; runs = refl; makes = once.makes }),
-              ((record { post = posting.message; posted = posted; spelled = posting.spelled; read_so = again.read_so }, record { before = middle; runs = refl; makes = again.makes }), tt),
+              ((record { post = posting.message; posted = posted; spelled = posting.spelled; read_so = again.read_so }, record { before = middle; runs = refl; makes = again.makes }), ((last, refl, forgets), tt)),
             ),
           );
-          ends = refl;
         }

@@ -31,15 +31,16 @@ use Rattle.member_node.specs.declared.key.KeyDecl.{KeyDecl}
 use Rattle.member_node.specs.declared.node.Node.{Node}
 use Rattle.member_node.specs.Keys.{AreOfKinds, declared}
 use Rattle.member_node.specs.Members.{StandsForMessage}
-use Rattle.member_node.specs.Steps.{replication}
 use Rattle.member_node.specs.Stores.{SpellsStore}
-use Rattle.world_members.specs.Standing.{StandsForRunning, TellsStore}
+use Rattle.world_members.specs.Standing.{TellsStore}
 use Rattle.world_members.proofs.Storing.{spells_nothing}
+use Rattle.theorem_processes.specs.Forgetting.{StandsForProcess}
 use Rattle.theorem_processes.specs.Processes.{Processes, Happening, Begin, IsSpelledBy, MayHappen, AllHappen, happened, after_all}
-use Rattle.theorem_processes.specs.Processes.Happening.{Steps, Takes, Refuses, Leaves, Joins, Returns}
-use Rattle.theorem_processes.specs.Runs.{AreOneRun, HoldHistories, events_of, all_events}
+use Rattle.theorem_processes.specs.Processes.Happening.{Steps, Takes, Refuses, Forgets, Limits, Leaves, Joins, Returns}
+use Rattle.theorem_processes.specs.Runs.{lasting, AreOneRun, HoldHistories, events_of, all_events}
+use Rattle.theorem_processes.proofs.Forgetting.{whole}
 use Rattle.theorem_processes.proofs.Inputs.{Advances, gives, takes}
-use Rattle.theorem_processes.proofs.Membership.{refuses, leaves, joins, returns}
+use Rattle.theorem_processes.proofs.Membership.{refuses, forgets_ends, limits, leaves, joins, returns}
 use Rattle.theorem_processes.proofs.Ways.{IsWay, Reached, IsAtWork, at_work, way_of, way_by}
 
 module _ {T K Kind Delta : Type 0} {ghosts : Ghosts T Kind Op Delta} {keeping : Keeping K} (spelling : Spelling T Kind Op Delta) (deltas : DeltaSpelling T Kind Op Delta) (alike : (a b : K) → is_some (keeping.table a) ≡ is_some (keeping.table b)) (kinds : Text → Kind) (decls : List (KeyDecl T Kind Op Delta)) (of_kinds : AreOfKinds kinds decls) (count : ℕ)
@@ -54,14 +55,14 @@ module _ {T K Kind Delta : Type 0} {ghosts : Ghosts T Kind Op Delta} {keeping : 
     abbrev first : worlds.World Kind Op Shown
     first = start count (map declared decls)
 
-    running : (logs : Text → History Op) → ((key : Text) → IsHistory (logs key)) → (i : ℕ) → StandsForRunning {ghosts = ghosts} {keeping = keeping} spelling kinds logs (ps.members i) (first.nodes i)
+    running : (logs : Text → History Op) → ((key : Text) → IsHistory (logs key)) → (i : ℕ) → StandsForProcess {ghosts = ghosts} {keeping = keeping} kinds logs (ps.forgotten i) (ps.members i) (first.nodes i)
     running logs histories i = elim (cases_lt i count) [
       | inl within ↦
           let made = begin.made i within in
-          subst (λ (o : Option (Node T K Kind Op Delta ghosts keeping)). StandsForRunning {ghosts = ghosts} {keeping = keeping} spelling kinds logs o (first.nodes i)) (sym made.1)
-          (loaded_node (map declared decls) i (first_view count) no_entries, ap (λ (b : Bool). if b then Some (loaded_node (map declared decls) i (first_view count) no_entries) else None) (lt-ltb i count within), made.2.is_new kinds logs histories of_kinds)
+          subst (λ (o : Option (Node T K Kind Op Delta ghosts keeping)). StandsForProcess {ghosts = ghosts} {keeping = keeping} kinds logs (ps.forgotten i) o (first.nodes i)) (sym made.1)
+          (loaded_node (map declared decls) i (first_view count) no_entries, ap (λ (b : Bool). if b then Some (loaded_node (map declared decls) i (first_view count) no_entries) else None) (lt-ltb i count within), whole kinds logs (ps.forgotten i) made.0 (loaded_node (map declared decls) i (first_view count) no_entries) (made.2.is_new kinds logs histories of_kinds))
       | inr past ↦
-          subst (λ (o : Option (Node T K Kind Op Delta ghosts keeping)). StandsForRunning {ghosts = ghosts} {keeping = keeping} spelling kinds logs o (first.nodes i)) (sym (begin.no_more i past))
+          subst (λ (o : Option (Node T K Kind Op Delta ghosts keeping)). StandsForProcess {ghosts = ghosts} {keeping = keeping} kinds logs (ps.forgotten i) o (first.nodes i)) (sym (begin.no_more i past))
           (ap (λ (b : Bool). if b then Some (loaded_node (map declared decls) i (first_view count) no_entries) else None) (le-ltb i count past))
     ]
 
@@ -94,6 +95,8 @@ module _ {T K Kind Delta : Type 0} {ghosts : Ghosts T Kind Op Delta} {keeping : 
   advances events ps world r (Steps at given fate output after) ok = gives spelling alike kinds decls count events ps world r at given fate output after ok.0 ok.1
   advances events ps world r (Takes from to index bytes read fate output after) ok = takes spelling alike kinds decls count events ps world r deltas across from to index bytes read fate output after ok.0 ok.1
   advances events ps world r (Refuses at after) ok = refuses spelling alike kinds decls of_kinds count events ps world r at after ok.0 ok.1 ok.2
+  advances events ps world r (Forgets at before after) ok = forgets_ends spelling alike kinds decls of_kinds count events ps world r at before after ok.0 ok.1 ok.2
+  advances events ps world r (Limits at limit after) ok = limits spelling alike kinds decls of_kinds count events ps world r at limit after ok.0 ok.1 ok.2
   advances events ps world r (Leaves i) ok = leaves spelling alike kinds decls of_kinds count events ps world r i ok.0 ok.1
   advances events ps world r (Joins place new) ok = joins spelling alike kinds decls of_kinds count events ps world r place new ok.0 ok.1 ok.2 ok.3
   advances events ps world r (Returns i keeper new) ok = returns spelling alike kinds decls of_kinds count events ps world r i keeper new ok.0 ok.1 ok.2
@@ -119,7 +122,7 @@ module _ {T K Kind Delta : Type 0} {ghosts : Ghosts T Kind Op Delta} {keeping : 
         record {
           world = came.0;
           is_run = came.1.is_run;
-          stand = λ logs are. came.1.stand logs (way_by (replication ghosts spelling) count (map declared decls) logs (all_events hs) are);
+          stand = λ logs are. came.1.stand logs (way_by (lasting ghosts spelling) count (map declared decls) logs (all_events hs) are);
           told = λ next may. (advances (all_events hs) end came.0 came.1 next may).told;
         }
 
@@ -132,13 +135,13 @@ module _ {T K Kind Delta : Type 0} {ghosts : Ghosts T Kind Op Delta} {keeping : 
     abbrev taken : ℕ → Text → History Op
     taken i = held (came.0.nodes i)
 
-    now : (logs : Text → History Op) × IsWay (replication ghosts spelling) count (map declared decls) logs (all_events hs)
-    now = way_of (replication ghosts spelling) count (map declared decls) (all_events hs) came.0 came.1.is_run
+    now : (logs : Text → History Op) × IsWay (lasting ghosts spelling) count (map declared decls) logs (all_events hs)
+    now = way_of (lasting ghosts spelling) count (map declared decls) (all_events hs) came.0 came.1.is_run
 
-    safe : IsSafe (replication ghosts spelling) (variables_of (replication ghosts spelling) (start count (map declared decls)) (all_events hs)) came.0
-    safe = runs_are_safe (replication ghosts spelling) count (map declared decls) (all_events hs) came.0 came.1.is_run
+    safe : IsSafe (lasting ghosts spelling) (variables_of (lasting ghosts spelling) (start count (map declared decls)) (all_events hs)) came.0
+    safe = runs_are_safe (lasting ghosts spelling) count (map declared decls) (all_events hs) came.0 came.1.is_run
 
-    work : (i : ℕ) (member : Node T K Kind Op Delta ghosts keeping) → end.members i ≡ Some member → IsAtWork {ghosts = ghosts} {keeping = keeping} spelling kinds decls count now.0 came.0 i member
+    work : (i : ℕ) (member : Node T K Kind Op Delta ghosts keeping) → end.members i ≡ Some member → IsAtWork {ghosts = ghosts} {keeping = keeping} spelling kinds decls count now.0 end came.0 i member
     work i member is = at_work spelling kinds decls count now.0 end came.0 (came.1.stand now.0 now.1) i member is
 
     is_taken : (i : ℕ) (node : nodes.Node Kind Op Shown) → came.0.nodes i ≡ Some node → (key : Text) → (node.entries key).history ≡ taken i key
@@ -151,18 +154,18 @@ module _ {T K Kind Delta : Type 0} {ghosts : Ghosts T Kind Op Delta} {keeping : 
           taken = taken;
           images = λ i member is.
               let there = work i member is in
-              λ k d within. (there.node.entries (get_or member.keys.items k d).name, is_taken i there.node there.runs (get_or member.keys.items k d).name, (there.stands.entries k d within).held);
+              λ k d within. (there.node.entries (get_or member.keys.items k d).name, is_taken i there.node there.runs (get_or member.keys.items k d).name, (there.stands.stands.entries k d within).held);
           histories = λ i member key is. (let there = work i member is in subst IsHistory (is_taken i there.node there.runs key) (all_have _ _ safe.logs i there.node key there.runs));
           pruned = λ i j a b key are.
               let one = work i a are.0 in
               let other = work j b are.1 in
               subst (λ (H : History Op). IsExactlyPruned (union H (taken j key))) (is_taken i one.node one.runs key)
-              (subst (λ (J : History Op). IsExactlyPruned (union (one.node.entries key).history J)) (is_taken j other.node other.runs key) (unions_are_pruned (replication ghosts spelling) _ _ safe i j one.node other.node key one.runs other.runs));
+              (subst (λ (J : History Op). IsExactlyPruned (union (one.node.entries key).history J)) (is_taken j other.node other.runs key) (unions_are_pruned (lasting ghosts spelling) _ _ safe i j one.node other.node key one.runs other.runs));
           alike = λ i j a b key are same.
               let one = work i a are.0 in
               let other = work j b are.1 in
               sym (is_taken i one.node one.runs key)
-              ∙ same_history (replication ghosts spelling) (variables_of (replication ghosts spelling) (start count (map declared decls)) (all_events hs)) came.0 safe i j one.node other.node one.runs other.runs key
+              ∙ same_history (lasting ghosts spelling) (variables_of (lasting ghosts spelling) (start count (map declared decls)) (all_events hs)) came.0 safe i j one.node other.node one.runs other.runs key
               (λ origin. ap (λ (H : History Op). at H origin) (is_taken i one.node one.runs key) ∙ same origin ∙ ap (λ (H : History Op). at H origin) (sym (is_taken j other.node other.runs key)))
               ∙ is_taken j other.node other.runs key;
         }

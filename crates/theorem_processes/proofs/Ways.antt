@@ -29,11 +29,10 @@ use Rattle.member_keeper.specs.declared.keeper.Keeper.{Ghosts as Keeping}
 use Rattle.member_node.specs.declared.key.KeyDecl.{KeyDecl}
 use Rattle.member_node.specs.declared.node.Node.{Node}
 use Rattle.member_node.specs.Keys.{declared}
-use Rattle.member_node.specs.Members.{IsSafe, StandsForNode}
-use Rattle.member_node.specs.Steps.{replication}
-use Rattle.world_members.specs.Standing.{StandsForRunning}
+use Rattle.member_node.specs.Members.{IsSafe}
+use Rattle.theorem_processes.specs.Forgetting.{StandsButForEnds, StandsForProcess}
 use Rattle.theorem_processes.specs.Processes.{Processes}
-use Rattle.theorem_processes.specs.Runs.{StandFor}
+use Rattle.theorem_processes.specs.Runs.{lasting, StandFor}
 
 -- a member with the same entries
 pub safe_alike : {Kind : Type 0} {logs : Text → History Op} (one other : nodes.Node Kind Op Shown) → other.entries ≡ one.entries → IsSafe logs one → IsSafe logs other
@@ -87,17 +86,17 @@ module _ {Kind : Type 0} (D : Replication Kind Op Shown) (count : ℕ) (keys : L
 module _ {T K Kind Delta : Type 0} {ghosts : Ghosts T Kind Op Delta} {keeping : Keeping K} (spelling : Spelling T Kind Op Delta) (kinds : Text → Kind) (decls : List (KeyDecl T Kind Op Delta)) (count : ℕ) where
   -- the way is a run, and in all logs of it the processes stand for the world
   pub record Reached (events : List (Event Op)) (ps : Processes ghosts keeping) (world : worlds.World Kind Op Shown) : Type 0 where
-    pub is_run : IsRun (replication ghosts spelling) count (map declared decls) events world
-    pub stand : (logs : Text → History Op) → IsWay (replication ghosts spelling) count (map declared decls) logs events → StandFor spelling kinds decls logs ps world
+    pub is_run : IsRun (lasting ghosts spelling) count (map declared decls) events world
+    pub stand : (logs : Text → History Op) → IsWay (lasting ghosts spelling) count (map declared decls) logs events → StandFor spelling kinds decls logs ps world
 
-  -- the model's member that a running one stands for
-  pub record IsAtWork (logs : Text → History Op) (world : worlds.World Kind Op Shown) (i : ℕ) (member : Node T K Kind Op Delta ghosts keeping) : Type 0 where
+  -- the model's member that a running one stands for, but for ends that it has forgotten
+  pub record IsAtWork (logs : Text → History Op) (ps : Processes ghosts keeping) (world : worlds.World Kind Op Shown) (i : ℕ) (member : Node T K Kind Op Delta ghosts keeping) : Type 0 where
     pub node : nodes.Node Kind Op Shown
     pub runs : world.nodes i ≡ Some node
-    pub stands : StandsForNode ghosts.kind_of ghosts.IsDataOf kinds logs member node
+    pub stands : StandsButForEnds kinds logs (ps.forgotten i) member node
 
-  pub at_work : (logs : Text → History Op) (ps : Processes ghosts keeping) (world : worlds.World Kind Op Shown) → StandFor spelling kinds decls logs ps world → (i : ℕ) (member : Node T K Kind Op Delta ghosts keeping) → ps.members i ≡ Some member → IsAtWork logs world i member
-  at_work logs ps world s i member runs = by (subst (λ (o : Option (Node T K Kind Op Delta ghosts keeping)). StandsForRunning {ghosts = ghosts} {keeping = keeping} spelling kinds logs o (world.nodes i)) runs (s.running i))
+  pub at_work : (logs : Text → History Op) (ps : Processes ghosts keeping) (world : worlds.World Kind Op Shown) → StandFor spelling kinds decls logs ps world → (i : ℕ) (member : Node T K Kind Op Delta ghosts keeping) → ps.members i ≡ Some member → IsAtWork logs ps world i member
+  at_work logs ps world s i member runs = by (subst (λ (o : Option (Node T K Kind Op Delta ghosts keeping)). StandsForProcess {ghosts = ghosts} {keeping = keeping} kinds logs (ps.forgotten i) o (world.nodes i)) runs (s.running i))
     where
-      by : StandsForRunning {ghosts = ghosts} {keeping = keeping} spelling kinds logs (Some member) (world.nodes i) → IsAtWork logs world i member
+      by : StandsForProcess {ghosts = ghosts} {keeping = keeping} kinds logs (ps.forgotten i) (Some member) (world.nodes i) → IsAtWork logs ps world i member
       by there = record { node = there.0; runs = there.1; stands = there.2 }

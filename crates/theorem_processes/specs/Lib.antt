@@ -1,3 +1,4 @@
+pub mod Forgetting
 pub mod Processes
 pub mod Runs
 pub mod Worked

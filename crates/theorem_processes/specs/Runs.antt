@@ -1,4 +1,5 @@
 -- The run of the model that the processes of a cluster make.
+--     lasting        what the members follow, with the highest limit of steps
 --     events_of, all_events        the events of the model that something is
 --     Tells        what a step tells is what an event puts out
 --     StandFor        the processes stand for a world
@@ -8,6 +9,7 @@ use Rattle.std.specs.Prelude.{◌≡◌, ℕ, List, [], ◌∷◌, Some, map, fl
 use Rattle.std.specs.List.{AllZip, AllByRecursion}
 use Rattle.model_history.specs.Texts.{Text}
 use Rattle.model_history.specs.History.{History, at, union, IsHistory, IsExactlyPruned}
+use Rattle.model_members.specs.DataType.{Replication}
 use Rattle.model_members.specs.Entry.{Entry}
 use Rattle.model_members.specs.Node as nodes
 use Rattle.model_members.specs.View.{place_of}
@@ -29,13 +31,21 @@ use Rattle.member_node.specs.declared.input.Input.{Input}
 use Rattle.member_node.specs.declared.input.Input.TheVariants as input
 use Rattle.member_node.specs.declared.reply.Output.{Output}
 use Rattle.member_node.specs.Keys.{declared}
+use Rattle.member_node.specs.Limits.{highest_limit}
 use Rattle.member_node.specs.Members.{StandsForMessage, StandsForEntry}
 use Rattle.member_node.specs.Operations.{finished_meant}
 use Rattle.member_node.specs.Replies.{meant, meant_fate}
 use Rattle.member_node.specs.Steps.{replication}
-use Rattle.world_members.specs.Standing.{StandsForRunning, TellsStore}
+use Rattle.world_members.specs.Standing.{TellsStore}
+use Rattle.theorem_processes.specs.Forgetting.{StandsForProcess}
 use Rattle.theorem_processes.specs.Processes.{Processes, Happening, MayHappen}
-use Rattle.theorem_processes.specs.Processes.Happening.{Steps, Takes, Refuses, Leaves, Joins, Returns}
+use Rattle.theorem_processes.specs.Processes.Happening.{Steps, Takes, Refuses, Forgets, Limits, Leaves, Joins, Returns}
+
+-- THE MODEL
+
+-- what the members follow, each of which may make as many steps as the highest limit. One with a lower limit refuses earlier, and what it refuses is no event
+abbrev pub lasting : {T Kind Delta : Type 0} → Ghosts T Kind Op Delta → Spelling T Kind Op Delta → Replication Kind Op Shown
+lasting ghosts spelling = record (replication ghosts spelling) { most_steps = highest_limit }
 
 -- WHAT HAPPENS, AS EVENTS OF THE MODEL
 
@@ -51,11 +61,13 @@ given_inputs input.PruneTick = nodes.Input.PruneTick ∷ []
 given_inputs (input.Timeout op) = nodes.Input.Timeout op ∷ []
 
 module _ {T K Kind Delta : Type 0} {ghosts : Ghosts T Kind Op Delta} {keeping : Keeping K} where
-  -- one event each, but a refused step is none
+  -- one event each, but a refused step is none, nor is what a member forgets, or another limit
   abbrev pub events_of : Happening ghosts keeping → List (Event Op)
   events_of (Steps at given fate output after) = map (λ sent. InputAt at sent (meant_fate fate)) (given_inputs given)
   events_of (Takes from to index bytes read fate output after) = Delivery from to index (meant_fate fate) ∷ []
   events_of (Refuses at after) = []
+  events_of (Forgets at before after) = []
+  events_of (Limits at limit after) = []
   events_of (Leaves i) = Removal i ∷ []
   events_of (Joins place new) = Joining place ∷ []
   events_of (Returns i keeper new) = Restart i ∷ []
@@ -68,18 +80,18 @@ module _ {T K Kind Delta : Type 0} {ghosts : Ghosts T Kind Op Delta} {keeping : 
 -- the reply to a step, and the operation that ended, are what the event puts out in the world
 pub record Tells {T Kind Delta : Type 0} {ghosts : Ghosts T Kind Op Delta} (spelling : Spelling T Kind Op Delta) (world : worlds.World Kind Op Shown) (output : Output T Kind Op Delta ghosts) (event : Event Op) : Type 0 where
   pub meaning : nodes.Output Op Shown
-  pub put_out : output_of (replication ghosts spelling) world event ≡ Some meaning
+  pub put_out : output_of (lasting ghosts spelling) world event ≡ Some meaning
   pub reply : meaning.reply ≡ meant output.reply
   pub ended : meaning.ended ≡ option_map finished_meant output.finished
 
 -- WHAT PROCESSES STAND FOR
 
 module _ {T K Kind Delta : Type 0} {ghosts : Ghosts T Kind Op Delta} {keeping : Keeping K} (spelling : Spelling T Kind Op Delta) (kinds : Text → Kind) (decls : List (KeyDecl T Kind Op Delta)) where
-  -- the views, the keys, each running member, what each posted to each, and what the keepers of running members tell
+  -- the views, the keys, each running member but for ends that it has forgotten, what each posted to each, and what the keepers of running members tell
   pub record StandFor (logs : Text → History Op) (ps : Processes ghosts keeping) (world : worlds.World Kind Op Shown) : Type 0 where
     pub views : views_of world ≡ ps.views
     pub keys : world.keys ≡ map declared decls
-    pub running : (i : ℕ) → StandsForRunning spelling kinds logs (ps.members i) (world.nodes i)
+    pub running : (i : ℕ) → StandsForProcess kinds logs (ps.forgotten i) (ps.members i) (world.nodes i)
     pub links : (from to : ℕ) → AllZip (StandsForMessage ghosts.kind_of ghosts.IsDataOf kinds logs) (ps.posted from to) (world.links from to).messages
     pub stores : (i : ℕ) (member : Node T K Kind Op Delta ghosts keeping) → ps.members i ≡ Some member
         → TellsStore ghosts keeping spelling kinds logs (Some member.keeper) (world.stores (place_of world.view i))
@@ -93,8 +105,8 @@ module _ {T K Kind Delta : Type 0} {ghosts : Ghosts T Kind Op Delta} {keeping : 
   -- WHAT HAPPENED IS ONE RUN
   pub record AreOneRun (deltas : DeltaSpelling T Kind Op Delta) (count : ℕ) (happenings : List (Happening ghosts keeping)) (ps : Processes ghosts keeping) : Type 0 where
     pub world : worlds.World Kind Op Shown
-    pub is_run : IsRun (replication ghosts spelling) count (map declared decls) (all_events happenings) world
-    pub stand : (logs : Text → History Op) → AreLogsOf (replication ghosts spelling) count (map declared decls) (all_events happenings) logs → StandFor logs ps world
+    pub is_run : IsRun (lasting ghosts spelling) count (map declared decls) (all_events happenings) world
+    pub stand : (logs : Text → History Op) → AreLogsOf (lasting ghosts spelling) count (map declared decls) (all_events happenings) logs → StandFor logs ps world
     pub told : (next : Happening ghosts keeping) → MayHappen spelling deltas decls ps next → IsTold world next
 
   -- WHAT MEMBERS HOLD

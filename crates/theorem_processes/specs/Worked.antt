@@ -1,4 +1,4 @@
--- What real calls make of two processes: one member posts, and the other takes the bytes of the post twice.
+-- What real calls make of two processes: one member posts, the other takes the bytes of the post twice, and then forgets.
 use Rattle.std.specs.Prelude.{◌≡◌, ℕ, List, [], ◌∷◌, Some, None, ◌==◌, if◌then◌else◌}
 use Rattle.model_history.specs.Texts.{Text}
 use Rattle.model_members.specs.View.{first_view}
@@ -17,12 +17,12 @@ use Rattle.member_node.specs.declared.reply.Fate.{Fate}
 use Rattle.member_node.specs.declared.reply.Output.{Output}
 use Rattle.member_node.specs.Steps.{IsStepOf}
 use Rattle.theorem_processes.specs.Processes.{Processes, Happening, Begin, AllHappen, IsSpelledBy}
-use Rattle.theorem_processes.specs.Processes.Happening.{Steps, Takes}
+use Rattle.theorem_processes.specs.Processes.Happening.{Steps, Takes, Forgets}
 
 module _ {T K Kind Delta : Type 0} {ghosts : Ghosts T Kind Op Delta} {keeping : Keeping K} where
-  -- two members that have posted nothing yet
+  -- two members that have posted and forgotten nothing yet
   abbrev pub two : Node T K Kind Op Delta ghosts keeping → Node T K Kind Op Delta ghosts keeping → Processes ghosts keeping
-  two one other = record { views = first_view 2 ∷ []; members = λ i. if i == 0 then Some one else (if i == 1 then Some other else None); posted = λ from to. [] }
+  two one other = record { views = first_view 2 ∷ []; members = λ i. if i == 0 then Some one else (if i == 1 then Some other else None); forgotten = λ i. 0; posted = λ from to. [] }
 
 module _ {T K Kind Delta : Type 0} (ghosts : Ghosts T Kind Op Delta) (keeping : Keeping K) where
   -- what was read, and what the step made of it
@@ -57,7 +57,8 @@ module _ {T K Kind Delta : Type 0} {ghosts : Ghosts T Kind Op Delta} {keeping : 
     pub read_so : IsSpelledBy spelling deltas read bytes
     pub makes : IsStepOf spelling old (input.Take from read) fate output new
 
-  -- ALL PREMISES ARE MET: member 0 made a step, member 1 took the bytes of its first post twice, and this is what the two are then
+  -- ALL PREMISES ARE MET: member 0 made a step, member 1 took the bytes of its first post twice and forgot its operations below 1,
+  -- and this is what the two are then
   pub record AreMet (decls : List (KeyDecl T Kind Op Delta)) (one other : Node T K Kind Op Delta ghosts keeping) : Type 0 where
     pub new_one : Node T K Kind Op Delta ghosts keeping
     pub new_other : Node T K Kind Op Delta ghosts keeping
@@ -68,5 +69,4 @@ module _ {T K Kind Delta : Type 0} {ghosts : Ghosts T Kind Op Delta} {keeping : 
     pub bytes : List ℕ
     pub once : Take ghosts keeping
     pub again : Take ghosts keeping
-    pub happen : AllHappen spelling deltas decls (two new_one new_other) (Steps 0 given fate output one ∷ takes bytes once ∷ takes bytes again ∷ [])
-    pub ends : again.after ≡ other
+    pub happen : AllHappen spelling deltas decls (two new_one new_other) (Steps 0 given fate output one ∷ takes bytes once ∷ takes bytes again ∷ Forgets 1 1 other ∷ [])

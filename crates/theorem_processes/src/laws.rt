@@ -14,8 +14,8 @@ use model_kinds::Op;
 /// Members in processes, each making steps of its contract, and taking of bytes what a transport hands over that guarantees one
 /// thing: as from a member it hands over only bytes that spell what this member posted to that one. Then what happened is one
 /// run of the model, whatever the order was, and whatever was handed over again, late or never: the members stand for those of
-/// the world that the run leads to, what they posted is what lies on its links, and what each step tells is what its event
-/// puts out. So whatever is proved of every run holds of them.
+/// the world that the run leads to, but for ends of operations that they were told to forget, what they posted is what lies on
+/// its links, and what each step tells is what its event puts out. So whatever is proved of every run holds of them.
 pub fn processes_are_one_run<T: SpelledDelta<Op = Op>, K: Keeper>()
     ensures { (kinds : Text → T.Kind) (decls : List (KeyDecl T T.Kind operation.Op T.Delta)) (count : ℕ) (first : Processes T.Replica K.Keeper) (happenings : List (Happening T.Replica K.Keeper))
         → AreOfKinds kinds decls → Begin decls count first → AllHappen T.SpelledData.own T.SpelledDelta.own decls first happenings

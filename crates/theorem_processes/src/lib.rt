@@ -4,14 +4,17 @@
 //!
 //! - Let members make steps of their contract, each in its process, and let each message that one takes
 //!   be read of bytes that spell a post of the sender to it: in any order, again or never. Members
-//!   may leave, join, and come back over what their keeper holds. Then what happened, in the order of
-//!   time, is a run of the model: the members stand for those of its world, what they posted is what
-//!   lies on its links, and what each step told is what its event puts out
-//!   (`processes_are_one_run` (`AreOneRun`, over `AllHappen`)).
+//!   may leave, join, and come back over what their keeper holds, each with any limit of steps, which
+//!   may be changed later. Then what happened, in the order of time, is a run of the model: the
+//!   members stand for those of its world, what they posted is what lies on its links, and what each
+//!   step told is what its event puts out (`processes_are_one_run` (`AreOneRun`, over `AllHappen`)).
+//! - Members may forget how their first operations ended, at any time. That is no event of the model:
+//!   such a member stands for that of the world without some of the ends below the number to which it
+//!   forgot, and for all else it is as if it had forgotten nothing (`StandsButForEnds`, over `AreLeft`).
 //! - So each member holds images of histories of that run, of which any two together are exactly
 //!   pruned; members that count as many records hold the same (`processes_hold_histories`).
-//! - Real calls meet the premises: two members, of which one posts, and the other takes the bytes of
-//!   the post twice (`a_post_is_taken_twice` (`AreMet`)).
+//! - Real calls meet the premises: two members with the highest limit, of which one posts, and the
+//!   other takes the bytes of the post twice, and then forgets (`a_post_is_taken_twice` (`AreMet`)).
 #![tactic(auto)]
 
 mod laws;

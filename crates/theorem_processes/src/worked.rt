@@ -8,12 +8,12 @@ use base_vectors::Id;
 use data_delta_codec::SpelledDelta;
 use member_codec::{read_message, spell_message};
 use member_keeper::MemoryKeeper;
-use member_node::{Input, KeyDecl, Level, Node, Output, Post};
+use member_node::{HIGHEST_LIMIT, Input, KeyDecl, Level, Node, Output, Post};
 use member_views::{View, ViewList};
 use model_kinds::Op;
 use std::alloc::Global;
 
-/// A new member of a view, over a keeper that has nothing.
+/// A new member of a view, with the highest limit of steps, over a keeper that has nothing.
 fn member<T: SpelledDelta<Op = Op>>(
     alloc: Global,
     number: u8,
@@ -34,7 +34,7 @@ fn member<T: SpelledDelta<Op = Op>>(
     };
     let keeper = MemoryKeeper::new(alloc, Vec::new(alloc));
     match Node::new(alloc, id, copy, keys, keeper) {
-        Ok(member) => Some(member),
+        Ok(member) => Some(member.with_limit(HIGHEST_LIMIT)),
         Err(_) => None,
     }
 }
@@ -95,8 +95,8 @@ fn taken<T: SpelledDelta<Op = Op>>(
     }
 }
 
-/// Two members, of which one posts to the other, and this takes the bytes of the post twice: real calls meet the premises of
-/// the theorem. There is no answer where memory was refused.
+/// Two members, of which one posts to the other, and this takes the bytes of the post twice, and then forgets its operations below 1, of
+/// which there are none: real calls meet the premises of the theorem. There is no answer where memory was refused.
 pub fn a_post_is_taken_twice<T: SpelledDelta<Op = Op>>(
     alloc: Global,
     keys: &[KeyDecl<T>],
@@ -115,5 +115,6 @@ pub fn a_post_is_taken_twice<T: SpelledDelta<Op = Op>>(
     let bytes = posted(alloc, &mut one, other.id(), key, op)?;
     taken(alloc, &mut other, one.id(), bytes.as_slice())?;
     taken(alloc, &mut other, one.id(), bytes.as_slice())?;
+    other.forget(1);
     Some((one, other))
 }

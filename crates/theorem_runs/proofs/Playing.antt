@@ -51,7 +51,7 @@ module _ {Kind Op Shown : Type 0} (D : Replication Kind Op Shown) where
           let same : record { at = i; before = node; input = input; fate = fate } ≡ turn = cc e in
           subst (IsTurnAt world i input) same (record { runs = runs; input_is = refl })
 
-  steps_at : (world : World Kind Op Shown) (i : ℕ) (input : Input Op) (fate : Fate) (turn : Turn Kind Op Shown) → IsTurnAt world i input turn → is_full turn.before ≡ false → FitsFate D turn.before turn.input fate → StepsAt D world i input fate
+  steps_at : (world : World Kind Op Shown) (i : ℕ) (input : Input Op) (fate : Fate) (turn : Turn Kind Op Shown) → IsTurnAt world i input turn → is_full D turn.before ≡ false → FitsFate D turn.before turn.input fate → StepsAt D world i input fate
   steps_at world i input fate turn is room fits = record { node = turn.before; runs = is.runs; has_room = room; fate_fits = subst (λ (x : Input Op). FitsFate D turn.before x fate) is.input_is fits }
 
   -- what holds of the events and the world of a script goes on holding as allowed events happen
@@ -90,12 +90,12 @@ module _ {Kind Op Shown : Type 0} (D : Replication Kind Op Shown) where
         by_test false e = did_plays p (event NoStore) (output_lines D head (output_of D p.world (event NoStore))) (allowed NoStore) plays (lawful NoStore (is_empty (stores D turn.before turn.input) e))
 
     given_plays : (p : Playing Kind Op Shown) (head : Head Op) (event : Fate → Event Op) → ((fate : Fate) → Allowed (event fate))
-        → ((turn : Turn Kind Op Shown) → turn_of p.world (event NoStore) ≡ Some turn → is_full turn.before ≡ false → (fate : Fate) → FitsFate D turn.before turn.input fate → IsLawful D p.world (event fate)) → Plays p → Plays (given D p head event)
+        → ((turn : Turn Kind Op Shown) → turn_of p.world (event NoStore) ≡ Some turn → is_full D turn.before ≡ false → (fate : Fate) → FitsFate D turn.before turn.input fate → IsLawful D p.world (event fate)) → Plays p → Plays (given D p head event)
     given_plays p head event allowed lawful plays = by_turn (turn_of p.world (event NoStore)) refl
       where
-        by_turn : (o : Option (Turn Kind Op Shown)) → turn_of p.world (event NoStore) ≡ o → Plays (elim o [ None ↦ told p head Answer.Gone | Some turn ↦ if is_full turn.before then told p head HistoryFull else take_turn D p head event turn ])
+        by_turn : (o : Option (Turn Kind Op Shown)) → turn_of p.world (event NoStore) ≡ o → Plays (elim o [ None ↦ told p head Answer.Gone | Some turn ↦ if is_full D turn.before then told p head HistoryFull else take_turn D p head event turn ])
         by_turn None e = plays
-        by_turn (Some turn) e = if_tells (λ q. Q q.events q.world) (is_full turn.before) (told p head HistoryFull) (take_turn D p head event turn) (λ full. plays) (λ room. turn_plays p head event turn allowed (lawful turn e room) plays)
+        by_turn (Some turn) e = if_tells (λ q. Q q.events q.world) (is_full D turn.before) (told p head HistoryFull) (take_turn D p head event turn) (λ full. plays) (λ room. turn_plays p head event turn allowed (lawful turn e room) plays)
 
     input_plays : (p : Playing Kind Op Shown) (head : Head Op) (i : ℕ) (input : Input Op) → ((fate : Fate) → Allowed (InputAt i input fate)) → IsGiven D p.world input → Plays p → Plays (given D p head (InputAt i input))
     input_plays p head i input allowed is_given plays =

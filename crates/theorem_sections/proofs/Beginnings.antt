@@ -98,12 +98,12 @@ module _ {Kind Op Shown : Type 0} (D : Replication Kind Op Shown) where
           subst (AreSteps D b) (sym among.1) (steps_first D b (until u (histories i)) begin.0 (subst (AreSteps D b) (sym begin.1) (steps_of_node i b is)))
 
       -- full members
-      pub full_until : node_full (member_after D world histories i n) ≡ true → node_full (member_until D world histories i u) ≡ true
+      pub full_until : node_full D (member_after D world histories i n) ≡ true → node_full D (member_until D world histories i u) ≡ true
       full_until full = by (world.nodes i) refl full
         where
-          by : (o : Option (Node Kind Op Shown)) → world.nodes i ≡ o → node_full (option_map (λ b. replayed D b firsts) o) ≡ true → node_full (option_map (λ b. replayed D b (until u (histories i))) o) ≡ true
+          by : (o : Option (Node Kind Op Shown)) → world.nodes i ≡ o → node_full D (option_map (λ b. replayed D b firsts) o) ≡ true → node_full D (option_map (λ b. replayed D b (until u (histories i))) o) ≡ true
           by None is e = e
-          by (Some b) is e = subst (λ es. is_full (replayed D b es) ≡ true) among.1 (full_stays D b firsts among.0 (steps_until b is) e)
+          by (Some b) is e = subst (λ es. is_full D (replayed D b es) ≡ true) among.1 (full_stays D b firsts among.0 (steps_until b is) e)
 
       -- closed operations
       pub closed_until : (op k : ℕ) (e : Entry Op Shown) → slice_get (histories i) k ≡ Some e → e.output.reply ≡ Reply.Pending op → k < n → is_open op (member_after D world histories i n) ≡ false → is_open op (member_until D world histories i u) ≡ false

@@ -42,7 +42,7 @@ module _ {Kind Op Shown E X S : Type 0} (D : Replication Kind Op Shown) (view : 
 
   -- the model's member makes the step, and then stands for the state after it
   pub record StepsTo (n : Node Kind Op Shown) (m : Entry Op Shown) (after : S) : Type 0 where
-    pub has_room : IsFalse (is_full n)
+    pub has_room : IsFalse (is_full D n)
     pub fits : FitsFate D n m.input m.fate
     pub output : m.output ≡ (step D n m.input m.fate).output
     pub stands : Stands after (step D n m.input m.fate).node

@@ -90,19 +90,19 @@ module _ {Kind Op Shown : Type 0} (D : Replication Kind Op Shown) where
   FrontIsOver world made = (k : ℕ) (m : Made Op Shown) → suc k < length made → slice_get made k ≡ Some m → (op : ℕ) → pending_op m.line.answer ≡ Some op → IsOverAt D op (world.nodes m.at)
 
   -- whoever goes on has seen the end of its last command
-  over_at_last : (world : World Kind Op Shown) (m : Made Op Shown) (op : ℕ) → pending_op m.line.answer ≡ Some op → IsUnder D op (world.nodes m.at) → has_ended world m (pending_op m.line.answer) ≡ true → IsOverAt D op (world.nodes m.at)
-  over_at_last world m op waits under ended = by (world.nodes m.at) under (subst (λ o. has_ended world m o ≡ true) waits ended)
+  over_at_last : (world : World Kind Op Shown) (m : Made Op Shown) (op : ℕ) → pending_op m.line.answer ≡ Some op → IsUnder D op (world.nodes m.at) → has_ended D world m (pending_op m.line.answer) ≡ true → IsOverAt D op (world.nodes m.at)
+  over_at_last world m op waits under ended = by (world.nodes m.at) under (subst (λ o. has_ended D world m o ≡ true) waits ended)
     where
-      by : (o : Option (Node Kind Op Shown)) → IsUnder D op o → (not (is_open op o) || node_full o) ≡ true → IsOverAt D op o
+      by : (o : Option (Node Kind Op Shown)) → IsUnder D op o → (not (is_open op o) || node_full D o) ≡ true → IsOverAt D op o
       by None under e = tt
-      by (Some n) under e = elim (either (not (is_open op (Some n))) (is_full n) e) [ inl closed ↦ inl (not_true (is_open op (Some n)) closed, under) | inr full ↦ inr full ]
+      by (Some n) under e = elim (either (not (is_open op (Some n))) (is_full D n) e) [ inl closed ↦ inl (not_true (is_open op (Some n)) closed, under) | inr full ↦ inr full ]
 
-  all_over : (s : Section Kind Op Shown) (made : List (Made Op Shown)) → AreUnder (world_of s) made → FrontIsOver (world_of s) made → goes_on s (last_of made) ≡ true → AreOver (world_of s) made
+  all_over : (s : Section Kind Op Shown) (made : List (Made Op Shown)) → AreUnder (world_of s) made → FrontIsOver (world_of s) made → goes_on D s (last_of made) ≡ true → AreOver (world_of s) made
   all_over s made under over goes k m there op waits = elim (same_or_not (suc k) (length made)) [
     | inl is ↦
         let last : last_of made ≡ Some m = last_at made k m there (omega (arith, is)) in
-        let on : goes_on s (Some m) ≡ true = subst (λ o. goes_on s o ≡ true) last goes in
-        over_at_last (world_of s) m op waits (under k m there op waits) (second_true _ (has_ended (world_of s) m (pending_op m.line.answer)) on)
+        let on : goes_on D s (Some m) ≡ true = subst (λ o. goes_on D s o ≡ true) last goes in
+        over_at_last (world_of s) m op waits (under k m there op waits) (second_true _ (has_ended D (world_of s) m (pending_op m.line.answer)) on)
     | inr isnt ↦ let less = get_below made k m there in over k m (below_length less isnt) there op waits
   ]
     where
@@ -182,7 +182,7 @@ module _ {Kind Op Shown : Type 0} (D : Replication Kind Op Shown) where
         pub has : Has t after
         pub made : after.made ≡ client.made ++ made_by command (played D s.playing (step_of command)).world one.line ∷ []
 
-      makes_next : (s : Section Kind Op Shown) (client : Client Op Shown) (command : Command Op) (rest : List (Command Op)) → client.to_come ≡ command ∷ rest → goes_on s (last_of client.made) ≡ true → Goes D s.playing (moved D s (NextCommand c)).playing
+      makes_next : (s : Section Kind Op Shown) (client : Client Op Shown) (command : Command Op) (rest : List (Command Op)) → client.to_come ≡ command ∷ rest → goes_on D s (last_of client.made) ≡ true → Goes D s.playing (moved D s (NextCommand c)).playing
           → Runs D members keys (moved D s (NextCommand c)).playing → moved D s (NextCommand c) ≡ commanded_by D s c client (command ∷ rest) → Has s client → MakesNext s (moved D s (NextCommand c)) client command
       makes_next s client command rest to_come goes steps runs is h =
           let p = played D s.playing (step_of command) in
@@ -273,23 +273,23 @@ module _ {Kind Op Shown : Type 0} (D : Replication Kind Op Shown) where
       abbrev pub one_if : Bool → ℕ
       one_if b = if b then 1 else 0
 
-      move_makes : (s : Section Kind Op Shown) (m : Move) (client : Client Op Shown) → may_come s m ≡ true → Has s client → HasMore (moved D s m) client (one_if (is_command_of c m))
+      move_makes : (s : Section Kind Op Shown) (m : Move) (client : Client Op Shown) → may_come D s m ≡ true → Has s client → HasMore (moved D s m) client (one_if (is_command_of c m))
       move_makes s (NextCommand d) client may h = elim (eqb_tells d c) [
-        | inl is ↦ subst (λ b. HasMore (moved D s (NextCommand d)) client (one_if b)) (sym is.0) (subst (λ e. HasMore (moved D s (NextCommand e)) client 1) (sym is.1) (own (subst (λ e. may_come s (NextCommand e) ≡ true) is.1 may)))
+        | inl is ↦ subst (λ b. HasMore (moved D s (NextCommand d)) client (one_if b)) (sym is.0) (subst (λ e. HasMore (moved D s (NextCommand e)) client 1) (sym is.1) (own (subst (λ e. may_come D s (NextCommand e) ≡ true) is.1 may)))
         | inr isnt ↦
             subst (λ b. HasMore (moved D s (NextCommand d)) client (one_if b)) (sym isnt.0)
             (stands_still s (moved D s (NextCommand d)) client client (goes_move s (NextCommand d) h.runs) (moved_runs D members keys s (NextCommand d) h.runs) (silent_move s (NextCommand d) h.silent)
             (still_by_other s d client (λ e. isnt.1 (sym e)) h.its) refl refl h)
       ]
         where
-          own : may_come s (NextCommand c) ≡ true → HasMore (moved D s (NextCommand c)) client 1
-          own e = by_commands client.to_come refl (subst (λ o. may_command s o ≡ true) h.its e)
+          own : may_come D s (NextCommand c) ≡ true → HasMore (moved D s (NextCommand c)) client 1
+          own e = by_commands client.to_come refl (subst (λ o. may_command D s o ≡ true) h.its e)
             where
-              by_commands : (cs : List (Command Op)) → client.to_come ≡ cs → (nat_le 1 (length client.to_come) && goes_on s (last_of client.made)) ≡ true → HasMore (moved D s (NextCommand c)) client 1
-              by_commands [] is e = absurd (let f = subst (λ cs. nat_le 1 (length cs) ≡ true) is (first_true (nat_le 1 (length client.to_come)) (goes_on s (last_of client.made)) e) in cc f)
+              by_commands : (cs : List (Command Op)) → client.to_come ≡ cs → (nat_le 1 (length client.to_come) && goes_on D s (last_of client.made)) ≡ true → HasMore (moved D s (NextCommand c)) client 1
+              by_commands [] is e = absurd (let f = subst (λ cs. nat_le 1 (length cs) ≡ true) is (first_true (nat_le 1 (length client.to_come)) (goes_on D s (last_of client.made)) e) in cc f)
               by_commands (command ∷ rest) is e =
                   let more =
-                  makes_next s client command rest is (second_true (nat_le 1 (length client.to_come)) (goes_on s (last_of client.made)) e) (goes_move s (NextCommand c) h.runs) (moved_runs D members keys s (NextCommand c) h.runs)
+                  makes_next s client command rest is (second_true (nat_le 1 (length client.to_come)) (goes_on D s (last_of client.made)) e) (goes_move s (NextCommand c) h.runs) (moved_runs D members keys s (NextCommand c) h.runs)
                   (ap (commanded D s c) h.its ∙ ap (commanded_by D s c client) is) h in
                   record { after = more.after; has = more.has; more = made_by command (played D s.playing (step_of command)).world more.one.line ∷ []; made = more.made; as_many = refl }
       move_makes s (NextMessage from to) client may h =
@@ -301,8 +301,8 @@ module _ {Kind Op Shown : Type 0} (D : Replication Kind Op Shown) where
       pub moves_make : (s : Section Kind Op Shown) (ms : List Move) (client : Client Op Shown) → may_all_come D s ms ≡ true → Has s client → HasMore (moved_all D s ms) client (count_by (is_command_of c) ms)
       moves_make s [] client may h = record { after = client; has = h; more = []; made = sym (append-nil client.made); as_many = refl }
       moves_make s (m ∷ ms) client may h =
-          let first = move_makes s m client (first_true (may_come s m) (may_all_come D (moved D s m) ms) may) h in
-          let here = moves_make (moved D s m) ms first.after (second_true (may_come s m) (may_all_come D (moved D s m) ms) may) first.has in
+          let first = move_makes s m client (first_true (may_come D s m) (may_all_come D (moved D s m) ms) may) h in
+          let here = moves_make (moved D s m) ms first.after (second_true (may_come D s m) (may_all_come D (moved D s m) ms) may) first.has in
           record {
             after = here.after;
             has = here.has;
@@ -331,8 +331,8 @@ module _ {Kind Op Shown : Type 0} (D : Replication Kind Op Shown) where
         let n : length client.made ≡ length last.made = ap (λ (x : Client Op Shown). length x.made) one in
         absurd (omega (arith, low, high, n))
     came_by c commands s (m ∷ ms) client may h k low last its high =
-        by m refl (is_command_of c m) refl (move_makes c commands s m client (first_true (may_come s m) (may_all_come D (moved D s m) ms) may) h)
-        (λ after has h'. came_by c commands (moved D s m) ms after (second_true (may_come s m) (may_all_come D (moved D s m) ms) may) has k h' last its high)
+        by m refl (is_command_of c m) refl (move_makes c commands s m client (first_true (may_come D s m) (may_all_come D (moved D s m) ms) may) h)
+        (λ after has h'. came_by c commands (moved D s m) ms after (second_true (may_come D s m) (may_all_come D (moved D s m) ms) may) has k h' last its high)
       where
         Further : Type 0
         Further = (after : Client Op Shown) → Has c commands (moved D s m) after → length after.made ≤ k → Came (moved D s m) ms c k
@@ -369,11 +369,11 @@ module _ {Kind Op Shown : Type 0} (D : Replication Kind Op Shown) where
 
   pub may_first : (s : Section Kind Op Shown) (xs ys : List Move) → may_all_come D s (xs ++ ys) ≡ true → may_all_come D s xs ≡ true
   may_first s [] ys e = refl
-  may_first s (x ∷ xs) ys e = both_true (may_come s x) (may_all_come D (moved D s x) xs) (first_true (may_come s x) _ e) (may_first (moved D s x) xs ys (second_true (may_come s x) _ e))
+  may_first s (x ∷ xs) ys e = both_true (may_come D s x) (may_all_come D (moved D s x) xs) (first_true (may_come D s x) _ e) (may_first (moved D s x) xs ys (second_true (may_come D s x) _ e))
 
   pub may_then : (s : Section Kind Op Shown) (xs ys : List Move) → may_all_come D s (xs ++ ys) ≡ true → may_all_come D (moved_all D s xs) ys ≡ true
   may_then s [] ys e = e
-  may_then s (x ∷ xs) ys e = may_then (moved D s x) xs ys (second_true (may_come s x) _ e)
+  may_then s (x ∷ xs) ys e = may_then (moved D s x) xs ys (second_true (may_come D s x) _ e)
 
   -- A SECTION
 
@@ -399,8 +399,8 @@ module _ {Kind Op Shown : Type 0} (D : Replication Kind Op Shown) where
       none_left : at_end.after.to_come ≡ []
       none_left = by at_end.after.to_come refl
         where
-          over : ((length at_end.after.to_come == 0) && goes_on end (last_of at_end.after.made)) ≡ true
-          over = at_index (λ (client : Client Op Shown). (length client.to_come == 0) && goes_on end (last_of client.made)) end.clients c at_end.after section.over at_end.has.its
+          over : ((length at_end.after.to_come == 0) && goes_on D end (last_of at_end.after.made)) ≡ true
+          over = at_index (λ (client : Client Op Shown). (length client.to_come == 0) && goes_on D end (last_of client.made)) end.clients c at_end.after section.over at_end.has.its
 
           by : (cs : List (Command Op)) → at_end.after.to_come ≡ cs → at_end.after.to_come ≡ []
           by [] is = is
@@ -423,10 +423,10 @@ module _ {Kind Op Shown : Type 0} (D : Replication Kind Op Shown) where
       pub lawful_there : may_all_come D here (NextCommand c ∷ comes.rest) ≡ true
       lawful_there = subst (λ (s : Section Kind Op Shown). may_all_come D s (NextCommand c ∷ comes.rest) ≡ true) (sym comes.is) (may_then first comes.early (NextCommand c ∷ comes.rest) (subst (λ ms. may_all_come D first ms ≡ true) comes.way section.lawful))
 
-      pub may_there : goes_on here (last_of client.made) ≡ true
+      pub may_there : goes_on D here (last_of client.made) ≡ true
       may_there =
-          let e : may_come here (NextCommand c) ≡ true = first_true (may_come here (NextCommand c)) _ lawful_there in
-          second_true (nat_le 1 (length client.to_come)) (goes_on here (last_of client.made)) (subst (λ o. may_command here o ≡ true) comes.its e)
+          let e : may_come D here (NextCommand c) ≡ true = first_true (may_come D here (NextCommand c)) _ lawful_there in
+          second_true (nat_le 1 (length client.to_come)) (goes_on D here (last_of client.made)) (subst (λ o. may_command D here o ≡ true) comes.its e)
 
       pub end_from : end ≡ moved_all D here (NextCommand c ∷ comes.rest)
       end_from = section.leads ∙ ap (moved_all D first) comes.way ∙ moved-append D first comes.early (NextCommand c ∷ comes.rest) ∙ ap (λ (s : Section Kind Op Shown). moved_all D s (NextCommand c ∷ comes.rest)) (sym comes.is)
@@ -464,8 +464,8 @@ module _ {Kind Op Shown : Type 0} (D : Replication Kind Op Shown) where
       pub next_made : NextMade
       next_made = by client.to_come refl
         where
-          may : (nat_le 1 (length client.to_come) && goes_on here (last_of client.made)) ≡ true
-          may = subst (λ o. may_command here o ≡ true) comes.its (first_true (may_come here (NextCommand c)) _ lawful_there)
+          may : (nat_le 1 (length client.to_come) && goes_on D here (last_of client.made)) ≡ true
+          may = subst (λ o. may_command D here o ≡ true) comes.its (first_true (may_come D here (NextCommand c)) _ lawful_there)
 
           by : (cs : List (Command Op)) → client.to_come ≡ cs → NextMade
           by [] is = absurd (let f = subst (λ cs. nat_le 1 (length cs) ≡ true) is (first_true (nat_le 1 (length client.to_come)) _ may) in cc f)

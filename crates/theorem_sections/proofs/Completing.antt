@@ -79,22 +79,22 @@ in_others view i t m other = to_filter (λ j. not (j == i)) (identities_of view)
 module _ {Kind Op Shown : Type 0} (D : Replication Kind Op Shown) where
   -- FULL MEMBERS STAY FULL
 
-  full_next : (world : World Kind Op Shown) (event : Event Op) → IsLawful D world event → KeepsMembers event → (i : ℕ) (o : Option (Node Kind Op Shown)) → world.nodes i ≡ o → node_full o ≡ true → node_full ((happens D world event).nodes i) ≡ true
+  full_next : (world : World Kind Op Shown) (event : Event Op) → IsLawful D world event → KeepsMembers event → (i : ℕ) (o : Option (Node Kind Op Shown)) → world.nodes i ≡ o → node_full D o ≡ true → node_full D ((happens D world event).nodes i) ≡ true
   full_next world event lawful keeps i None is full = absurd (cc full)
   full_next world event lawful keeps i (Some n) is full = by (node_then D world event lawful keeps i n is)
     where
-      by : NodeThen D world (happens D world event) event i n → node_full ((happens D world event).nodes i) ≡ true
-      by (IsTheSame there) = ap node_full there ∙ full
+      by : NodeThen D world (happens D world event) event i n → node_full D ((happens D world event).nodes i) ≡ true
+      by (IsTheSame there) = ap (node_full D) there ∙ full
       by (HasStepped input fate room makes there) = absurd (true≢false (sym full ∙ room))
 
-  full_run : (world : World Kind Op Shown) (events : List (Event Op)) → AreLawful D world events → AllByRecursion KeepsMembers events → (i : ℕ) → node_full (world.nodes i) ≡ true → node_full ((run D world events).nodes i) ≡ true
+  full_run : (world : World Kind Op Shown) (events : List (Event Op)) → AreLawful D world events → AllByRecursion KeepsMembers events → (i : ℕ) → node_full D (world.nodes i) ≡ true → node_full D ((run D world events).nodes i) ≡ true
   full_run world [] lawful keeps i full = full
   full_run world (event ∷ events) lawful keeps i full = full_run (happens D world event) events lawful.1 keeps.1 i (full_next world event lawful.0 keeps.0 i (world.nodes i) refl full)
 
-  full_on : (p q : Playing Kind Op Shown) → Goes D p q → q.world.view ≡ p.world.view → some_full p.world ≡ true → some_full q.world ≡ true
+  full_on : (p q : Playing Kind Op Shown) → Goes D p q → q.world.view ≡ p.world.view → some_full D p.world ≡ true → some_full D q.world ≡ true
   full_on p q goes view full =
-      ap (λ (v : View). list_any (λ i. node_full (q.world.nodes i)) (identities_of v)) view
-      ∙ any_more (λ i. node_full (p.world.nodes i)) (λ i. node_full (q.world.nodes i)) (λ i f. subst (λ (w : World Kind Op Shown). node_full (w.nodes i) ≡ true) goes.leads (full_run p.world goes.events goes.lawful goes.keeps i f)) (identities_of p.world.view) full
+      ap (λ (v : View). list_any (λ i. node_full D (q.world.nodes i)) (identities_of v)) view
+      ∙ any_more (λ i. node_full D (p.world.nodes i)) (λ i. node_full D (q.world.nodes i)) (λ i f. subst (λ (w : World Kind Op Shown). node_full D (w.nodes i) ≡ true) goes.leads (full_run p.world goes.events goes.lawful goes.keeps i f)) (identities_of p.world.view) full
 
   -- WHAT A COMMAND DOES
 
@@ -133,7 +133,7 @@ module _ {Kind Op Shown : Type 0} (D : Replication Kind Op Shown) where
     makes_given : (input : Input Op) → ((i op : ℕ) → ClosesOther i op command.at input) → (o : Option (Node Kind Op Shown)) → p.world.nodes command.at ≡ o → CommandMakes p command (given_to D p its_head (InputAt command.at input) command.at input o)
     makes_given input closes None is = makes_nothing Gone refl
     makes_given input closes (Some node) is =
-        if_tells (CommandMakes p command) (is_full node) (told p its_head HistoryFull) (take_turn D p its_head (InputAt command.at input) (turn_by command.at node input NoStore)) (λ full. makes_nothing HistoryFull refl) (λ room. makes_a_step input closes node is)
+        if_tells (CommandMakes p command) (is_full D node) (told p its_head HistoryFull) (take_turn D p its_head (InputAt command.at input) (turn_by command.at node input NoStore)) (λ full. makes_nothing HistoryFull refl) (λ room. makes_a_step input closes node is)
 
     command_makes : CommandMakes p command (played D p (step_of command))
     command_makes = by (input_of (views_of p.world) command.ask) refl
@@ -164,18 +164,18 @@ module _ {Kind Op Shown : Type 0} (D : Replication Kind Op Shown) where
       fits : (f u : ℕ) → s.due f u ≤ length ((world_of s).links f u).messages
       stands : (c : ℕ) (client : Client Op Shown) → slice_get s.clients c ≡ Some client → Stands (world_of s) s.due client.made
 
-    module _ (s : Section Kind Op Shown) (holds : Holds s) (room : some_full (world_of s) ≡ false) where
-      not_full : (i : ℕ) → is_member V i ≡ true → node_full ((world_of s).nodes i) ≡ false
-      not_full i member = by (node_full ((world_of s).nodes i)) refl
+    module _ (s : Section Kind Op Shown) (holds : Holds s) (room : some_full D (world_of s) ≡ false) where
+      not_full : (i : ℕ) → is_member V i ≡ true → node_full D ((world_of s).nodes i) ≡ false
+      not_full i member = by (node_full D ((world_of s).nodes i)) refl
         where
-          by : (b : Bool) → node_full ((world_of s).nodes i) ≡ b → b ≡ false
+          by : (b : Bool) → node_full D ((world_of s).nodes i) ≡ b → b ≡ false
           by false e = refl
           by true e =
               let there : IsIn (running (world_of s)) i = found_at (running (world_of s)) i (ap (λ (v : View). is_member v i) holds.calm.view ∙ member) in
-              absurd (true≢false (sym (any_in (λ j. node_full ((world_of s).nodes j)) (running (world_of s)) i there e) ∙ room))
+              absurd (true≢false (sym (any_in (λ j. node_full D ((world_of s).nodes j)) (running (world_of s)) i there e) ∙ room))
 
       -- whoever goes on has the results of all that it made
-      have_results : (made : List (Made Op Shown)) → Stands (world_of s) s.due made → goes_on s (last_of made) ≡ true → HaveResults (world_of s) made
+      have_results : (made : List (Made Op Shown)) → Stands (world_of s) s.due made → goes_on D s (last_of made) ≡ true → HaveResults (world_of s) made
       have_results made stands goes k m there op waits = elim (stands k m there op waits) [
         | inl has ↦ has
         | inr (waiting, last) ↦ closed waiting (last_at made k m there last)
@@ -183,23 +183,23 @@ module _ {Kind Op Shown : Type 0} (D : Replication Kind Op Shown) where
         where
           closed : StillWaiting D m.at op members keys V (world_of s) s.due m.sent m.line.posts → last_of made ≡ Some m → HasResult D m.at op (world_of s)
           closed waiting is =
-              let on : goes_on s (Some m) ≡ true = subst (λ o. goes_on s o ≡ true) is goes in
-              let ended : has_ended (world_of s) m (Some op) ≡ true = subst (λ o. has_ended (world_of s) m o ≡ true) waits (second_true _ (has_ended (world_of s) m (pending_op m.line.answer)) on) in
+              let on : goes_on D s (Some m) ≡ true = subst (λ o. goes_on D s o ≡ true) is goes in
+              let ended : has_ended D (world_of s) m (Some op) ≡ true = subst (λ o. has_ended D (world_of s) m o ≡ true) waits (second_true _ (has_ended D (world_of s) m (pending_op m.line.answer)) on) in
               has_when_closed D m.at op members keys V (world_of s) holds.calm s.due m.sent m.line.posts waiting
-              (elim (either (not (is_open op ((world_of s).nodes m.at))) (node_full ((world_of s).nodes m.at)) ended) [
+              (elim (either (not (is_open op ((world_of s).nodes m.at))) (node_full D ((world_of s).nodes m.at)) ended) [
                 | inl shut ↦ not_true (is_open op ((world_of s).nodes m.at)) shut
                 | inr full ↦ absurd (true≢false (sym full ∙ not_full m.at waiting.i_member))
               ])
 
       -- whoever gives up has its result
-      result_at_last : (made : List (Made Op Shown)) → Stands (world_of s) s.due made → (m : Made Op Shown) → last_of made ≡ Some m → (op : ℕ) → pending_op m.line.answer ≡ Some op → gives_up s m (Some op) ≡ true → HasResult D m.at op (world_of s)
+      result_at_last : (made : List (Made Op Shown)) → Stands (world_of s) s.due made → (m : Made Op Shown) → last_of made ≡ Some m → (op : ℕ) → pending_op m.line.answer ≡ Some op → gives_up D s m (Some op) ≡ true → HasResult D m.at op (world_of s)
       result_at_last made stands m last op waits gives = let place = last_there made m last in by (stands place.0 m place.1 op waits)
         where
           its_open : Bool
           its_open = is_open op ((world_of s).nodes m.at)
 
           heard_all : (is_open op ((world_of s).nodes m.at) && are_posts_heard s m && are_answers_heard s m.at op) ≡ true
-          heard_all = elim (either (is_open op ((world_of s).nodes m.at) && are_posts_heard s m && are_answers_heard s m.at op) (some_full (world_of s)) (second_true (has_room ((world_of s).nodes m.at)) _ gives)) [
+          heard_all = elim (either (is_open op ((world_of s).nodes m.at) && are_posts_heard s m && are_answers_heard s m.at op) (some_full D (world_of s)) (second_true (has_room D ((world_of s).nodes m.at)) _ gives)) [
             | inl all ↦ all
             | inr full ↦ absurd (true≢false (sym full ∙ room))
           ]
@@ -330,7 +330,7 @@ module _ {Kind Op Shown : Type 0} (D : Replication Kind Op Shown) where
     Stored s t = (xs : List (Event Op)) → t.playing.events ≡ s.playing.events ++ xs → AllByRecursion StoreHolds xs
 
     -- a message is heard
-    hears : (s : Section Kind Op Shown) (from to : ℕ) (message : Message Op) (node : Node Kind Op Shown) → message_at (world_of s) from to (s.due from to) ≡ Some message → (world_of s).nodes to ≡ Some node → is_full node ≡ false
+    hears : (s : Section Kind Op Shown) (from to : ℕ) (message : Message Op) (node : Node Kind Op Shown) → message_at (world_of s) from to (s.due from to) ≡ Some message → (world_of s).nodes to ≡ Some node → is_full D node ≡ false
         → ByEvent s (deliver D s.playing from to (s.due from to)) (heard D s from to).due
     hears s from to message node there runs room =
         deliver_by D (λ q. ByEvent s q (heard D s from to).due) s.playing from to (s.due from to) message node there runs (λ full. absurd (true≢false (sym full ∙ room)))
@@ -363,9 +363,9 @@ module _ {Kind Op Shown : Type 0} (D : Replication Kind Op Shown) where
       | inr isnt ↦ others d other (sym (set_else s.clients c d after isnt) ∙ there)
     ]
 
-    holds_heard : (s : Section Kind Op Shown) (from to : ℕ) → Holds s → may_hear s from to ≡ true → Stored s (heard D s from to) → Holds (heard D s from to)
+    holds_heard : (s : Section Kind Op Shown) (from to : ℕ) → Holds s → may_hear D s from to ≡ true → Stored s (heard D s from to) → Holds (heard D s from to)
     holds_heard s from to holds may stored =
-        by_node ((world_of s).nodes to) refl (second_true (is_here && is_there && is_due) (has_room ((world_of s).nodes to)) may)
+        by_node ((world_of s).nodes to) refl (second_true (is_here && is_there && is_due) (has_room D ((world_of s).nodes to)) may)
       where
         is_here : Bool
         is_here = list_any (λ i. i == from) (running (world_of s))
@@ -377,7 +377,7 @@ module _ {Kind Op Shown : Type 0} (D : Replication Kind Op Shown) where
         is_due = is_some (message_at (world_of s) from to (s.due from to))
 
         message : (m : Message Op) × (message_at (world_of s) from to (s.due from to) ≡ Some m)
-        message = some_of is_some (message_at (world_of s) from to (s.due from to)) refl (second_true (is_here && is_there) is_due (first_true (is_here && is_there && is_due) (has_room ((world_of s).nodes to)) may))
+        message = some_of is_some (message_at (world_of s) from to (s.due from to)) refl (second_true (is_here && is_there) is_due (first_true (is_here && is_there && is_due) (has_room D ((world_of s).nodes to)) may))
 
         with_event : ByEvent s (deliver D s.playing from to (s.due from to)) (heard D s from to).due → Holds (heard D s from to)
         with_event by =
@@ -392,15 +392,15 @@ module _ {Kind Op Shown : Type 0} (D : Replication Kind Op Shown) where
               stands = λ c client its. stands_then s holds q (heard D s from to).due by runs ok client.made (holds.stands c client its);
             }
 
-        by_node : (o : Option (Node Kind Op Shown)) → (world_of s).nodes to ≡ o → has_room ((world_of s).nodes to) ≡ true → Holds (heard D s from to)
-        by_node None is free = absurd (let e : has_room {Kind = Kind} {Op = Op} {Shown = Shown} None ≡ true = subst (λ o. has_room o ≡ true) is free in cc e)
-        by_node (Some node) is free = with_event (hears s from to message.0 node message.1 is (not_true (is_full node) (subst (λ o. has_room o ≡ true) is free)))
+        by_node : (o : Option (Node Kind Op Shown)) → (world_of s).nodes to ≡ o → has_room D ((world_of s).nodes to) ≡ true → Holds (heard D s from to)
+        by_node None is free = absurd (let e : has_room D None ≡ true = subst (λ o. has_room D o ≡ true) is free in cc e)
+        by_node (Some node) is free = with_event (hears s from to message.0 node message.1 is (not_true (is_full D node) (subst (λ o. has_room D o ≡ true) is free)))
 
-    holds_timed_out : (s : Section Kind Op Shown) (c : ℕ) (client : Client Op Shown) (m : Made Op Shown) (op : ℕ) → Holds s → slice_get s.clients c ≡ Some client → has_room ((world_of s).nodes m.at) ≡ true → HasResult D m.at op (world_of s)
+    holds_timed_out : (s : Section Kind Op Shown) (c : ℕ) (client : Client Op Shown) (m : Made Op Shown) (op : ℕ) → Holds s → slice_get s.clients c ≡ Some client → has_room D ((world_of s).nodes m.at) ≡ true → HasResult D m.at op (world_of s)
         → Stored s (timed_out_op D s c client m.at (Some op)) → Runs D members keys (played D s.playing (ScriptStep.Timeout m.at op)) → Holds (timed_out_op D s c client m.at (Some op))
     holds_timed_out s c client m op holds its free has stored runs =
         with_event (given_by D (λ q. ByEvent s q s.due) s.playing (TimeoutHead m.at op) (InputAt m.at (Input.Timeout op)) (turn_by m.at has.node (Input.Timeout op) NoStore) (input_turn (world_of s) m.at has.node (Input.Timeout op) NoStore has.runs)
-        (λ full. absurd (true≢false (sym full ∙ not_true (is_full has.node) (subst (λ o. has_room o ≡ true) has.runs free))))
+        (λ full. absurd (true≢false (sym full ∙ not_true (is_full D has.node) (subst (λ o. has_room D o ≡ true) has.runs free))))
         (λ room.
         let t = turn_taken D s.playing (TimeoutHead m.at op) (InputAt m.at (Input.Timeout op)) (turn_by m.at has.node (Input.Timeout op) NoStore) in
         record {
@@ -432,7 +432,7 @@ module _ {Kind Op Shown : Type 0} (D : Replication Kind Op Shown) where
             }
 
     -- a client's next command
-    holds_commanded : (s : Section Kind Op Shown) (c : ℕ) (client : Client Op Shown) (command : Command Op) (rest : List (Command Op)) → Holds s → some_full (world_of s) ≡ false → slice_get s.clients c ≡ Some client → goes_on s (last_of client.made) ≡ true
+    holds_commanded : (s : Section Kind Op Shown) (c : ℕ) (client : Client Op Shown) (command : Command Op) (rest : List (Command Op)) → Holds s → some_full D (world_of s) ≡ false → slice_get s.clients c ≡ Some client → goes_on D s (last_of client.made) ≡ true
         → Stored s (commanded_by D s c client (command ∷ rest)) → Runs D members keys (played D s.playing (step_of command)) → Holds (commanded_by D s c client (command ∷ rest))
     holds_commanded s c client command rest holds room its goes stored runs = by (command_makes s.playing command holds.silent)
       where
@@ -495,43 +495,43 @@ module _ {Kind Op Shown : Type 0} (D : Replication Kind Op Shown) where
                   (λ d other at. stands_then s holds p s.due event runs ok other.made (holds.stands d other at));
             }
 
-    holds_move : (s : Section Kind Op Shown) (m : Move) → Holds s → some_full (world_of s) ≡ false → may_come s m ≡ true → Stored s (moved D s m) → Holds (moved D s m)
+    holds_move : (s : Section Kind Op Shown) (m : Move) → Holds s → some_full D (world_of s) ≡ false → may_come D s m ≡ true → Stored s (moved D s m) → Holds (moved D s m)
     holds_move s (NextMessage from to) holds room may stored = holds_heard s from to holds may stored
     holds_move s (NextCommand c) holds room may stored = by_client (slice_get s.clients c) refl may stored (moved_runs D members keys s (NextCommand c) holds.runs)
       where
-        by_commands : (client : Client Op Shown) → slice_get s.clients c ≡ Some client → (cs : List (Command Op)) → (nat_le 1 (length cs) && goes_on s (last_of client.made)) ≡ true → Stored s (commanded_by D s c client cs) → Runs D members keys (commanded_by D s c client cs).playing → Holds (commanded_by D s c client cs)
-        by_commands client its [] may stored runs = absurd (let e = first_true (nat_le 1 0) (goes_on s (last_of client.made)) may in cc e)
-        by_commands client its (command ∷ rest) may stored runs = holds_commanded s c client command rest holds room its (second_true (nat_le 1 (length (command ∷ rest))) (goes_on s (last_of client.made)) may) stored runs
+        by_commands : (client : Client Op Shown) → slice_get s.clients c ≡ Some client → (cs : List (Command Op)) → (nat_le 1 (length cs) && goes_on D s (last_of client.made)) ≡ true → Stored s (commanded_by D s c client cs) → Runs D members keys (commanded_by D s c client cs).playing → Holds (commanded_by D s c client cs)
+        by_commands client its [] may stored runs = absurd (let e = first_true (nat_le 1 0) (goes_on D s (last_of client.made)) may in cc e)
+        by_commands client its (command ∷ rest) may stored runs = holds_commanded s c client command rest holds room its (second_true (nat_le 1 (length (command ∷ rest))) (goes_on D s (last_of client.made)) may) stored runs
 
-        by_client : (o : Option (Client Op Shown)) → slice_get s.clients c ≡ o → may_command s o ≡ true → Stored s (commanded D s c o) → Runs D members keys (commanded D s c o).playing → Holds (commanded D s c o)
+        by_client : (o : Option (Client Op Shown)) → slice_get s.clients c ≡ o → may_command D s o ≡ true → Stored s (commanded D s c o) → Runs D members keys (commanded D s c o).playing → Holds (commanded D s c o)
         by_client None its may stored runs = absurd (cc may)
         by_client (Some client) its may stored runs = by_commands client its client.to_come may stored runs
     holds_move s (ItsTimeout c) holds room may stored = by_client (slice_get s.clients c) refl may stored (moved_runs D members keys s (ItsTimeout c) holds.runs)
       where
-        by_op : (client : Client Op Shown) → slice_get s.clients c ≡ Some client → (m : Made Op Shown) → last_of client.made ≡ Some m → (o : Option ℕ) → pending_op m.line.answer ≡ o → gives_up s m o ≡ true → Stored s (timed_out_op D s c client m.at o) → Runs D members keys (timed_out_op D s c client m.at o).playing
+        by_op : (client : Client Op Shown) → slice_get s.clients c ≡ Some client → (m : Made Op Shown) → last_of client.made ≡ Some m → (o : Option ℕ) → pending_op m.line.answer ≡ o → gives_up D s m o ≡ true → Stored s (timed_out_op D s c client m.at o) → Runs D members keys (timed_out_op D s c client m.at o).playing
             → Holds (timed_out_op D s c client m.at o)
         by_op client its m last None waits gives stored runs = absurd (cc gives)
         by_op client its m last (Some op) waits gives stored runs =
-            holds_timed_out s c client m op holds its (first_true (has_room ((world_of s).nodes m.at)) _ gives) (result_at_last s holds room client.made (holds.stands c client its) m last op waits gives) stored runs
+            holds_timed_out s c client m op holds its (first_true (has_room D ((world_of s).nodes m.at)) _ gives) (result_at_last s holds room client.made (holds.stands c client its) m last op waits gives) stored runs
 
-        by_made : (client : Client Op Shown) → slice_get s.clients c ≡ Some client → (o : Option (Made Op Shown)) → last_of client.made ≡ o → may_time_out s client o ≡ true → Stored s (timed_out_made D s c client o) → Runs D members keys (timed_out_made D s c client o).playing
+        by_made : (client : Client Op Shown) → slice_get s.clients c ≡ Some client → (o : Option (Made Op Shown)) → last_of client.made ≡ o → may_time_out D s client o ≡ true → Stored s (timed_out_made D s c client o) → Runs D members keys (timed_out_made D s c client o).playing
             → Holds (timed_out_made D s c client o)
         by_made client its None last may stored runs = absurd (cc may)
-        by_made client its (Some m) last may stored runs = by_op client its m last (pending_op m.line.answer) refl (second_true (not client.timed_out) (gives_up s m (pending_op m.line.answer)) may) stored runs
+        by_made client its (Some m) last may stored runs = by_op client its m last (pending_op m.line.answer) refl (second_true (not client.timed_out) (gives_up D s m (pending_op m.line.answer)) may) stored runs
 
-        by_client : (o : Option (Client Op Shown)) → slice_get s.clients c ≡ o → may_call_timeout s o ≡ true → Stored s (timed_out D s c o) → Runs D members keys (timed_out D s c o).playing → Holds (timed_out D s c o)
+        by_client : (o : Option (Client Op Shown)) → slice_get s.clients c ≡ o → may_call_timeout D s o ≡ true → Stored s (timed_out D s c o) → Runs D members keys (timed_out D s c o).playing → Holds (timed_out D s c o)
         by_client None its may stored runs = absurd (cc may)
         by_client (Some client) its may stored runs = by_made client its (last_of client.made) refl may stored runs
 
     -- all moves
-    room_back : (s t : Section Kind Op Shown) → Goes D s.playing t.playing → (world_of t).view ≡ (world_of s).view → some_full (world_of t) ≡ false → some_full (world_of s) ≡ false
-    room_back s t goes view room = by (some_full (world_of s)) refl
+    room_back : (s t : Section Kind Op Shown) → Goes D s.playing t.playing → (world_of t).view ≡ (world_of s).view → some_full D (world_of t) ≡ false → some_full D (world_of s) ≡ false
+    room_back s t goes view room = by (some_full D (world_of s)) refl
       where
-        by : (b : Bool) → some_full (world_of s) ≡ b → b ≡ false
+        by : (b : Bool) → some_full D (world_of s) ≡ b → b ≡ false
         by false e = refl
         by true e = absurd (true≢false (sym (full_on s.playing t.playing goes view e) ∙ room))
 
-    holds_moves : (s : Section Kind Op Shown) (ms : List Move) → Holds s → may_all_come D s ms ≡ true → some_full (world_of (moved_all D s ms)) ≡ false → Stored s (moved_all D s ms) → Holds (moved_all D s ms)
+    holds_moves : (s : Section Kind Op Shown) (ms : List Move) → Holds s → may_all_come D s ms ≡ true → some_full D (world_of (moved_all D s ms)) ≡ false → Stored s (moved_all D s ms) → Holds (moved_all D s ms)
     holds_moves s [] holds may room stored = holds
     holds_moves s (m ∷ ms) holds may room stored =
         let t = moved D s m in
@@ -540,11 +540,11 @@ module _ {Kind Op Shown : Type 0} (D : Replication Kind Op Shown) where
         let here : Stored s t = λ xs is. all_first StoreHolds xs rest.0 (stored (xs ++ rest.0) (rest.1 ∙ ap (λ es. es ++ rest.0) is ∙ append_assoc s.playing.events xs rest.0)) in
         let there : Stored t (moved_all D t ms) = λ xs is. all_last StoreHolds first.0 xs (stored (first.0 ++ xs) (is ∙ ap (λ es. es ++ xs) first.1 ∙ append_assoc s.playing.events first.0 xs)) in
         let free = room_back s (moved_all D s (m ∷ ms)) (goes_moves D members keys s (m ∷ ms) holds.runs) (all_view D s (m ∷ ms)) room in
-        holds_moves t ms (holds_move s m holds free (first_true (may_come s m) (may_all_come D t ms) may) here) (second_true (may_come s m) (may_all_come D t ms) may) room there
+        holds_moves t ms (holds_move s m holds free (first_true (may_come D s m) (may_all_come D t ms) may) here) (second_true (may_come D s m) (may_all_come D t ms) may) room there
 
   -- A SECTION
 
-  module _ (members : ℕ) (keys : List (KeyDecl Kind)) (before : Playing Kind Op Shown) (is_run : IsRun D members keys before.events before.world) (clients : List (List (Command Op))) (moves : List Move) (end : Section Kind Op Shown) (section : IsSection D before clients moves end) (undisturbed : IsUndisturbed before end) where
+  module _ (members : ℕ) (keys : List (KeyDecl Kind)) (before : Playing Kind Op Shown) (is_run : IsRun D members keys before.events before.world) (clients : List (List (Command Op))) (moves : List Move) (end : Section Kind Op Shown) (section : IsSection D before clients moves end) (undisturbed : IsUndisturbed D before end) where
     abbrev V : View
     V = before.world.view
 
@@ -566,12 +566,12 @@ module _ {Kind Op Shown : Type 0} (D : Replication Kind Op Shown) where
 
     holds_end : Holds members keys V end
     holds_end = subst (Holds members keys V) (sym section.leads)
-        (holds_moves members keys V first moves holds_first section.lawful (subst (λ (s : Section Kind Op Shown). some_full (world_of s) ≡ false) section.leads undisturbed.room)
+        (holds_moves members keys V first moves holds_first section.lawful (subst (λ (s : Section Kind Op Shown). some_full D (world_of s) ≡ false) section.leads undisturbed.room)
         (λ xs is. undisturbed.stores xs (ap (λ (s : Section Kind Op Shown). s.playing.events) section.leads ∙ is)))
 
     pub all_finish : AllFinish before end
     all_finish c k op client made get there waits =
-        let over = at_index (λ (x : Client Op Shown). (length x.to_come == 0) && goes_on end (last_of x.made)) end.clients c client section.over get in
-        let has = have_results members keys V end holds_end undisturbed.room client.made (holds_end.stands c client get) (second_true (length client.to_come == 0) (goes_on end (last_of client.made)) over) k made there op waits in
+        let over = at_index (λ (x : Client Op Shown). (length x.to_come == 0) && goes_on D end (last_of x.made)) end.clients c client section.over get in
+        let has = have_results members keys V end holds_end undisturbed.room client.made (holds_end.stands c client get) (second_true (length client.to_come == 0) (goes_on D end (last_of client.made)) over) k made there op waits in
         let result = find_there op has.node.finished has.result has.among has.its in
         (result.0, ap (ending_of ((world_of end).nodes made.at)) waits ∙ ap (λ o. ending_of o (Some op)) has.runs ∙ ap (λ o. Some (ending_by op (Some has.node) o)) result.1)

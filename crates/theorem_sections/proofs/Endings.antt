@@ -43,16 +43,16 @@ module _ {Kind Op Shown : Type 0} (D : Replication Kind Op Shown) where
   -- a running member is as it was, or has made a step
   pub data NodeThen (world next : World Kind Op Shown) (event : Event Op) (i : ℕ) (n : Node Kind Op Shown) : Type 0 where
     IsTheSame : next.nodes i ≡ Some n → NodeThen world next event i n
-    HasStepped : (input : Input Op) (fate : Fate) → is_full n ≡ false → MakesStep world event i input fate → next.nodes i ≡ Some (step D n input fate).node → NodeThen world next event i n
+    HasStepped : (input : Input Op) (fate : Fate) → is_full D n ≡ false → MakesStep world event i input fate → next.nodes i ≡ Some (step D n input fate).node → NodeThen world next event i n
 
   stepped_then : (world : World Kind Op Shown) (links : Links Op) (event : Event Op) (t i : ℕ) (o : Option (Node Kind Op Shown)) (input : Input Op) (fate : Fate) (n : Node Kind Op Shown) → world.nodes t ≡ o → MakesStep world event t input fate
-      → ((m : Node Kind Op Shown) → o ≡ Some m → is_full m ≡ false) → world.nodes i ≡ Some n → NodeThen world (stepped_at D (record world { links = links }) t o input fate) event i n
+      → ((m : Node Kind Op Shown) → o ≡ Some m → is_full D m ≡ false) → world.nodes i ≡ Some n → NodeThen world (stepped_at D (record world { links = links }) t o input fate) event i n
   stepped_then world links event t i None input fate n is makes room runs = IsTheSame runs
   stepped_then world links event t i (Some old) input fate n is makes room runs = elim (eqb_tells i t) [
     | inl same ↦
         let there : Some old ≡ Some n = sym is ∙ ap world.nodes (sym same.1) ∙ runs in
         let one : old ≡ n = cc there in
-        HasStepped input fate (subst (λ (m : Node Kind Op Shown). is_full m ≡ false) one (room old refl)) (subst (λ j. MakesStep world event j input fate) (sym same.1) makes)
+        HasStepped input fate (subst (λ (m : Node Kind Op Shown). is_full D m ≡ false) one (room old refl)) (subst (λ j. MakesStep world event j input fate) (sym same.1) makes)
         (ap (with_at world.nodes t (Some (step D old input fate).node)) same.1 ∙ with_at_same world.nodes t (Some (step D old input fate).node) ∙ ap (λ (m : Node Kind Op Shown). Some (step D m input fate).node) one)
     | inr isnt ↦ IsTheSame (with_at_other world.nodes t (Some (step D old input fate).node) i isnt.1 ∙ runs)
   ]
@@ -60,12 +60,12 @@ module _ {Kind Op Shown : Type 0} (D : Replication Kind Op Shown) where
   pub node_then : (world : World Kind Op Shown) (event : Event Op) → IsLawful D world event → KeepsMembers event → (i : ℕ) (n : Node Kind Op Shown) → world.nodes i ≡ Some n → NodeThen world (happens D world event) event i n
   node_then world (InputAt t input fate) lawful keeps i n runs =
       stepped_then world world.links (InputAt t input fate) t i (world.nodes t) input fate n refl (ByInput refl)
-      (λ m there. let same : Some lawful.1.node ≡ Some m = sym lawful.1.runs ∙ there in let one : lawful.1.node ≡ m = cc same in subst (λ (x : Node Kind Op Shown). is_full x ≡ false) one lawful.1.has_room) runs
+      (λ m there. let same : Some lawful.1.node ≡ Some m = sym lawful.1.runs ∙ there in let one : lawful.1.node ≡ m = cc same in subst (λ (x : Node Kind Op Shown). is_full D x ≡ false) one lawful.1.has_room) runs
   node_then world (Delivery from to index fate) lawful keeps i n runs =
       let event : Event Op = Delivery from to index fate in
       subst (λ (o : Option (Message Op)). NodeThen world (delivered D world from to index o fate) event i n) (sym lawful.1)
       (stepped_then world (moved_on world.links from to index) event to i (world.nodes to) (Take from lawful.0) fate n refl (ByDelivery from index lawful.0 refl lawful.1 refl)
-      (λ m there. let same : Some lawful.2.node ≡ Some m = sym lawful.2.runs ∙ there in let one : lawful.2.node ≡ m = cc same in subst (λ (x : Node Kind Op Shown). is_full x ≡ false) one lawful.2.has_room) runs)
+      (λ m there. let same : Some lawful.2.node ≡ Some m = sym lawful.2.runs ∙ there in let one : lawful.2.node ≡ m = cc same in subst (λ (x : Node Kind Op Shown). is_full D x ≡ false) one lawful.2.has_room) runs)
   node_then world (Loss from to) lawful keeps i n runs = IsTheSame runs
   node_then world (Removal j) lawful keeps i n runs = absurd keeps
   node_then world (Joining place) lawful keeps i n runs = absurd keeps
@@ -232,7 +232,7 @@ module _ {Kind Op Shown : Type 0} (D : Replication Kind Op Shown) where
 
   abbrev pub IsOverAt : ℕ → Option (Node Kind Op Shown) → Type 0
   IsOverAt op None = ⊤
-  IsOverAt op (Some n) = ((is_open op (Some n) ≡ false) × (op < n.next_op)) ⊎ (is_full n ≡ true)
+  IsOverAt op (Some n) = ((is_open op (Some n) ≡ false) × (op < n.next_op)) ⊎ (is_full D n ≡ true)
 
   abbrev pub IsOverSo : ℕ → Option (Node Kind Op Shown) → Option (Node Kind Op Shown) → Type 0
   IsOverSo op o p = IsOverAt op p × (ending_of o (Some op) ≡ ending_of p (Some op))
@@ -249,7 +249,7 @@ module _ {Kind Op Shown : Type 0} (D : Replication Kind Op Shown) where
   over_next world event lawful keeps i op None is over = subst (IsOverSo op None) (sym (none_then world event keeps i is)) (tt, refl)
   over_next world event lawful keeps i op (Some n) is over = by (node_then world event lawful keeps i n is)
     where
-      stepped : (input : Input Op) (fate : Fate) → is_full n ≡ false → ((is_open op (Some n) ≡ false) × (op < n.next_op)) ⊎ (is_full n ≡ true) → IsOverSo op (Some n) (Some (step D n input fate).node)
+      stepped : (input : Input Op) (fate : Fate) → is_full D n ≡ false → ((is_open op (Some n) ≡ false) × (op < n.next_op)) ⊎ (is_full D n ≡ true) → IsOverSo op (Some n) (Some (step D n input fate).node)
       stepped input fate room (inl (closed, under)) =
           let still = closed_stays D n input fate op under closed in
           (inl (still, (let a = number_grows D n input fate in omega (arith, a, under))), told_closed op n (step D n input fate).node closed still (closed_finished D n input fate op closed))

@@ -67,16 +67,16 @@ module _ {Kind Op Shown : Type 0} (D : Replication Kind Op Shown) (world : World
   pub record Ends (s : Section Kind Op Shown) : Type 0 where
     pub moves : List Move
     pub lawful : may_all_come D s moves ≡ true
-    pub over : is_over (moved_all D s moves) ≡ true
+    pub over : is_over D (moved_all D s moves) ≡ true
     pub lines : section_lines (moved_all D s moves) ≡ flat_map (map (λ (step : ClientStep Op Shown). step.line)) paths
     pub keepers : (place : ℕ) → IsKept keeping (moved_all D s moves).playing [] place
     pub events : (moved_all D s moves).playing.events ≡ keeping.early ++ events_of (sent_so_far world) placed
     pub comes : (moved_all D s moves).playing.world ≡ run D world (events_of (sent_so_far world) placed)
 
-  pub ends_more : (s t : Section Kind Op Shown) (m : Move) → may_come s m ≡ true → moved D s m ≡ t → Ends t → Ends s
+  pub ends_more : (s t : Section Kind Op Shown) (m : Move) → may_come D s m ≡ true → moved D s m ≡ t → Ends t → Ends s
   ends_more s t m may is end =
       let e : Ends (moved D s m) = subst Ends (sym is) end in
-      record { moves = m ∷ e.moves; lawful = both_true (may_come s m) (may_all_come D (moved D s m) e.moves) may e.lawful; over = e.over; lines = e.lines; keepers = e.keepers; events = e.events; comes = e.comes }
+      record { moves = m ∷ e.moves; lawful = both_true (may_come D s m) (may_all_come D (moved D s m) e.moves) may e.lawful; over = e.over; lines = e.lines; keepers = e.keepers; events = e.events; comes = e.comes }
 
   -- another client comes
   pub put_client : (s : Section Kind Op Shown) (c : ℕ) (client client' : Client Op Shown) (p : Playing Kind Op Shown) (done rest done' rest' : List (Placed Op Shown)) → State s done rest → slice_get s.clients c ≡ Some client
@@ -98,9 +98,9 @@ module _ {Kind Op Shown : Type 0} (D : Replication Kind Op Shown) (world : World
 
   -- COMMANDS
 
-  pub may_next : (s : Section Kind Op Shown) (c : ℕ) (client : Client Op Shown) (command : Command Op) (commands : List (Command Op)) → slice_get s.clients c ≡ Some client → client.to_come ≡ command ∷ commands → goes_on s (last_of client.made) ≡ true → may_come s (NextCommand c) ≡ true
+  pub may_next : (s : Section Kind Op Shown) (c : ℕ) (client : Client Op Shown) (command : Command Op) (commands : List (Command Op)) → slice_get s.clients c ≡ Some client → client.to_come ≡ command ∷ commands → goes_on D s (last_of client.made) ≡ true → may_come D s (NextCommand c) ≡ true
   may_next s c client command commands get to_come goes =
-      ap (may_command s) get ∙ both_true (nat_le 1 (length client.to_come)) (goes_on s (last_of client.made)) (ap (λ cs. nat_le 1 (length cs)) to_come ∙ le-leb 1 (suc (length commands)) (omega arith)) goes
+      ap (may_command D s) get ∙ both_true (nat_le 1 (length client.to_come)) (goes_on D s (last_of client.made)) (ap (λ cs. nat_le 1 (length cs)) to_come ∙ le-leb 1 (suc (length commands)) (omega arith)) goes
 
   pub command_moves : (s : Section Kind Op Shown) (c : ℕ) (client : Client Op Shown) (command : Command Op) (commands : List (Command Op)) (p : Playing Kind Op Shown) (line : Told Op Shown)
       → slice_get s.clients c ≡ Some client → client.to_come ≡ command ∷ commands → played D s.playing (step_of command) ≡ p → p.lines ≡ line ∷ [] → moved D s (NextCommand c) ≡ with_client s c (client_after client commands (made_by command p.world line)) p
@@ -123,10 +123,10 @@ module _ {Kind Op Shown : Type 0} (D : Replication Kind Op Shown) (world : World
       still (Some b) e = refl
   none_played s done rest along c command step none late Answer.HistoryFull h =
       let i = command.at in
-      let full = some_of node_full ((world_of s).nodes i) refl (full_now D world histories placed keeping all runs_in s done rest along step.upto i late h.3) in
+      let full = some_of (node_full D) ((world_of s).nodes i) refl (full_now D world histories placed keeping all runs_in s done rest along step.upto i late h.3) in
       command_plays D s.playing command h.2.0 (subst (λ vs. IsInputOf vs command h.2.0) (sym along.going.same_views) h.2.1)
       ∙ ap (given_to D s.playing (head_of command) (InputAt i h.2.0) i h.2.0) full.1
-      ∙ given_full D s.playing (head_of command) (InputAt i h.2.0) i h.2.0 full.0 (subst (λ o. node_full o ≡ true) full.1 (full_now D world histories placed keeping all runs_in s done rest along step.upto i late h.3))
+      ∙ given_full D s.playing (head_of command) (InputAt i h.2.0) i h.2.0 full.0 (subst (λ o. node_full D o ≡ true) full.1 (full_now D world histories placed keeping all runs_in s done rest along step.upto i late h.3))
   none_played s done rest along c command step none late answer h = absurd h
 
   pub no_more : (c : ℕ) (command : Command Op) (step : ClientStep Op Shown) (mid after : List (Placed Op Shown)) (o : Option ℕ) (p : Option ℕ) → p ≡ None → TimesOut D world histories c command.at step p o
@@ -228,7 +228,7 @@ module _ {Kind Op Shown : Type 0} (D : Replication Kind Op Shown) (world : World
             let client' = client_after client commands m in
             let plays = none_played s done rest state.along c command step none late' step.line.answer answered in
             let goes' : GoesFrom client'.made step.upto =
-            λ t done' rest' along' late''. ap (goes_on t) (last_pushed client.made m) ∙ ap (λ o. has_ended (world_of t) m o) waits in
+            λ t done' rest' along' late''. ap (goes_on D t) (last_pushed client.made m) ∙ ap (λ o. has_ended D (world_of t) m o) waits in
             let tells : TellsLine D world histories placed keeping all runs_in c m step = record { client = left.1.told.0; head = left.1.told.1; answer = refl; posts = posts; ended = left.1.ends } in
             let past' = past ++ step ∷ [] in
             let whole' : all_steps ≡ past' ++ steps = whole ∙ sym (append_assoc past (step ∷ []) steps) in

@@ -55,36 +55,36 @@ module _ {Kind Op Shown : Type 0} (D : Replication Kind Op Shown) where
   abbrev pub explored : ℕ → Section Kind Op Shown → (Section Kind Op Shown → Bool) → Bool
   explored zero s test = false
   explored (suc n) s test =
-      when (is_over s) (λ _. test s)
-      && (each_place s.clients (λ c. when (may_come s (NextCommand c)) (λ _. explored n (moved D s (NextCommand c)) test) && when (may_come s (ItsTimeout c)) (λ _. explored n (moved D s (ItsTimeout c)) test))
-      && list_all (λ from. list_all (λ to. when (may_come s (NextMessage from to)) (λ _. explored n (moved D s (NextMessage from to)) test)) (running (world_of s))) (running (world_of s)))
+      when (is_over D s) (λ _. test s)
+      && (each_place s.clients (λ c. when (may_come D s (NextCommand c)) (λ _. explored n (moved D s (NextCommand c)) test) && when (may_come D s (ItsTimeout c)) (λ _. explored n (moved D s (ItsTimeout c)) test))
+      && list_all (λ from. list_all (λ to. when (may_come D s (NextMessage from to)) (λ _. explored n (moved D s (NextMessage from to)) test)) (running (world_of s))) (running (world_of s)))
 
   module _ (test : Section Kind Op Shown → Bool) where
     -- one move of those that are tried
-    pub tried : (n : ℕ) (s : Section Kind Op Shown) (m : Move) → explored (suc n) s test ≡ true → may_come s m ≡ true → explored n (moved D s m) test ≡ true
+    pub tried : (n : ℕ) (s : Section Kind Op Shown) (m : Move) → explored (suc n) s test ≡ true → may_come D s m ≡ true → explored n (moved D s m) test ≡ true
     tried n s (NextCommand c) e may =
-        let there = some_of (may_command s) (slice_get s.clients c) refl may in
-        let each = first_true _ _ (second_true (when (is_over s) (λ _. test s)) _ e) in
-        when_true (may_come s (NextCommand c)) (λ _. explored n (moved D s (NextCommand c)) test) may
+        let there = some_of (may_command D s) (slice_get s.clients c) refl may in
+        let each = first_true _ _ (second_true (when (is_over D s) (λ _. test s)) _ e) in
+        when_true (may_come D s (NextCommand c)) (λ _. explored n (moved D s (NextCommand c)) test) may
         (first_true _ _ (at_place_of s.clients c there.0 _ there.1 each))
     tried n s (ItsTimeout c) e may =
-        let there = some_of (may_call_timeout s) (slice_get s.clients c) refl may in
-        let each = first_true _ _ (second_true (when (is_over s) (λ _. test s)) _ e) in
-        when_true (may_come s (ItsTimeout c)) (λ _. explored n (moved D s (ItsTimeout c)) test) may
+        let there = some_of (may_call_timeout D s) (slice_get s.clients c) refl may in
+        let each = first_true _ _ (second_true (when (is_over D s) (λ _. test s)) _ e) in
+        when_true (may_come D s (ItsTimeout c)) (λ _. explored n (moved D s (ItsTimeout c)) test) may
         (second_true _ _ (at_place_of s.clients c there.0 _ there.1 each))
     tried n s (NextMessage from to) e may =
         let here = list_any (λ i. i == from) (running (world_of s)) in
         let there = list_any (λ i. i == to) (running (world_of s)) in
         let due = is_some (message_at (world_of s) from to (s.due from to)) in
-        let room = has_room ((world_of s).nodes to) in
-        let each = second_true _ _ (second_true (when (is_over s) (λ _. test s)) _ e) in
-        when_true (may_come s (NextMessage from to)) (λ _. explored n (moved D s (NextMessage from to)) test) may
+        let room = has_room D ((world_of s).nodes to) in
+        let each = second_true _ _ (second_true (when (is_over D s) (λ _. test s)) _ e) in
+        when_true (may_come D s (NextMessage from to)) (λ _. explored n (moved D s (NextMessage from to)) test) may
         (all_at (running (world_of s)) to _ (second_true here there (first_true (here && there) due (first_true (here && there && due) room may)))
         (all_at (running (world_of s)) from _ (first_true here there (first_true (here && there) due (first_true (here && there && due) room may))) each))
 
-    pub found : (n : ℕ) (s : Section Kind Op Shown) (ms : List Move) → explored n s test ≡ true → may_all_come D s ms ≡ true → is_over (moved_all D s ms) ≡ true → test (moved_all D s ms) ≡ true
+    pub found : (n : ℕ) (s : Section Kind Op Shown) (ms : List Move) → explored n s test ≡ true → may_all_come D s ms ≡ true → is_over D (moved_all D s ms) ≡ true → test (moved_all D s ms) ≡ true
     found zero s ms e lawful over = absurd (cc e)
-    found (suc n) s [] e lawful over = when_true (is_over s) (λ _. test s) over (first_true _ _ e)
+    found (suc n) s [] e lawful over = when_true (is_over D s) (λ _. test s) over (first_true _ _ e)
     found (suc n) s (m ∷ ms) e lawful over = found n (moved D s m) ms (tried n s m e (first_true _ _ lawful)) (second_true _ _ lawful) over
 
 -- A SCRIPT OF ONE THREAD STEP
@@ -97,7 +97,7 @@ module _ {Kind Op Shown : Type 0} (D : Replication Kind Op Shown) (value_text : 
     abbrev pub at_start : Section Kind Op Shown
     at_start = opened (opening answers members keys) clients
 
-    pub has_this : (moves : List Move) → may_all_come D at_start moves ≡ true → is_over (moved_all D at_start moves) ≡ true → text ≡ text_of (moved_all D at_start moves)
+    pub has_this : (moves : List Move) → may_all_come D at_start moves ≡ true → is_over D (moved_all D at_start moves) ≡ true → text ≡ text_of (moved_all D at_start moves)
         → HasReport D value_text answers members keys (RunStep.Threads clients ∷ []) text
     has_this moves lawful over told =
         let end = moved_all D at_start moves in
@@ -113,7 +113,7 @@ module _ {Kind Op Shown : Type 0} (D : Replication Kind Op Shown) (value_text : 
     has_only_this n all other h =
         let section = h.plays.3.2 in
         let end = h.plays.3.1 in
-        let reached = found D (λ end. bytes_eq (text_of end) text) n at_start h.plays.3.0 all section.lawful (subst (λ e. is_over e ≡ true) section.leads section.over) in
+        let reached = found D (λ end. bytes_eq (text_of end) text) n at_start h.plays.3.0 all section.lawful (subst (λ e. is_over D e ≡ true) section.leads section.over) in
         let told : text_of end ≡ text = bytes_eq-tells (text_of end) text (subst (λ e. bytes_eq (text_of e) text ≡ true) (sym section.leads) reached) in
         let lines : h.lines ≡ section_lines end ∷ [] = h.plays.5 ∙ ap (λ rest. h.plays.0 ∷ rest) h.plays.4.0 ∙ ap (λ first. first ∷ []) h.plays.3.3 in
         let last : h.last ≡ end.playing = h.plays.4.1 ∙ h.plays.3.4 in
@@ -132,7 +132,7 @@ module _ {Kind Op Shown : Type 0} (D : Replication Kind Op Shown) (value_text : 
     has_only_these second n all other h =
         let section = h.plays.3.2 in
         let end = h.plays.3.1 in
-        let reached = found D (λ end. bytes_eq (text_of end) text || bytes_eq (text_of end) second) n at_start h.plays.3.0 all section.lawful (subst (λ e. is_over e ≡ true) section.leads section.over) in
+        let reached = found D (λ end. bytes_eq (text_of end) text || bytes_eq (text_of end) second) n at_start h.plays.3.0 all section.lawful (subst (λ e. is_over D e ≡ true) section.leads section.over) in
         let tells = either_text end text second (bytes_eq (text_of end) text) (bytes_eq (text_of end) second) refl refl (subst (λ e. (bytes_eq (text_of e) text || bytes_eq (text_of e) second) ≡ true) (sym section.leads) reached) in
         let lines : h.lines ≡ section_lines end ∷ [] = h.plays.5 ∙ ap (λ rest. h.plays.0 ∷ rest) h.plays.4.0 ∙ ap (λ first. first ∷ []) h.plays.3.3 in
         let last : h.last ≡ end.playing = h.plays.4.1 ∙ h.plays.3.4 in
@@ -145,7 +145,7 @@ module _ {Kind Op Shown : Type 0} (D : Replication Kind Op Shown) (value_text : 
       abbrev pub text_then : Playing Kind Op Shown → List (Line Op Shown) → Text
       text_then p lines = lines_text value_text 1 (lines ∷ map plain_line (played D p step).lines ∷ []) ++ final_block D value_text (played D p step).world
 
-      pub has_this_then : (moves : List Move) → may_all_come D at_start moves ≡ true → is_over (moved_all D at_start moves) ≡ true → text ≡ text_then (moved_all D at_start moves).playing (section_lines (moved_all D at_start moves))
+      pub has_this_then : (moves : List Move) → may_all_come D at_start moves ≡ true → is_over D (moved_all D at_start moves) ≡ true → text ≡ text_then (moved_all D at_start moves).playing (section_lines (moved_all D at_start moves))
           → HasReport D value_text answers members keys (RunStep.Threads clients ∷ RunStep.Plain step ∷ []) text
       has_this_then moves lawful over told =
           let end = moved_all D at_start moves in
@@ -164,7 +164,7 @@ module _ {Kind Op Shown : Type 0} (D : Replication Kind Op Shown) (value_text : 
           let end = h.plays.3.1 in
           let p = h.plays.2 in
           let rest = h.plays.4 in
-          let reached = found D (λ end. bytes_eq (text_then end.playing (section_lines end)) text) n at_start h.plays.3.0 all section.lawful (subst (λ e. is_over e ≡ true) section.leads section.over) in
+          let reached = found D (λ end. bytes_eq (text_then end.playing (section_lines end)) text) n at_start h.plays.3.0 all section.lawful (subst (λ e. is_over D e ≡ true) section.leads section.over) in
           let told : text_then end.playing (section_lines end) ≡ text =
           bytes_eq-tells (text_then end.playing (section_lines end)) text (subst (λ (e : Section Kind Op Shown). bytes_eq (text_then e.playing (section_lines e)) text ≡ true) (sym section.leads) reached) in
           let later : h.plays.1 ≡ map plain_line (played D p step).lines ∷ [] = rest.5 ∙ ap (λ ls. rest.0 ∷ ls) rest.4.0 ∙ ap (λ l. l ∷ []) rest.3.0 in

@@ -17,7 +17,7 @@ use Rattle.theorem_operations.proofs.PlayedInputs.{turn_by}
 
 module _ {Kind Op Shown : Type 0} (D : Replication Kind Op Shown) where
   abbrev pub given_turn : Playing Kind Op Shown → Head Op → (Fate → Event Op) → Option (Turn Kind Op Shown) → Playing Kind Op Shown
-  given_turn p head event turn = elim turn [ None ↦ told p head Gone | Some turn ↦ if is_full turn.before then told p head HistoryFull else take_turn D p head event turn ]
+  given_turn p head event turn = elim turn [ None ↦ told p head Gone | Some turn ↦ if is_full D turn.before then told p head HistoryFull else take_turn D p head event turn ]
 
   -- to this member, if it runs
   abbrev pub given_to : Playing Kind Op Shown → Head Op → (Fate → Event Op) → ℕ → Input Op → Option (Node Kind Op Shown) → Playing Kind Op Shown

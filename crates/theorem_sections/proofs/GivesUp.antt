@@ -100,7 +100,7 @@ module _ {Kind Op Shown : Type 0} (D : Replication Kind Op Shown) (world : World
     -- A CLIENT GIVES UP
 
     pub gives_up_now : (u i k op : ℕ) (made : Made Op Shown) (e : Entry Op Shown) → x.at ≡ i → x.entry.input ≡ Input.Timeout op → IsMadeBy D world histories placed keeping all runs_in made i e → slice_get (histories i) k ≡ Some e → e.output.reply ≡ Reply.Pending op
-        → u < x.entry.stamp → HasGivenUp D world histories i op e x.entry u → gives_up s made (Some op) ≡ true
+        → u < x.entry.stamp → HasGivenUp D world histories i op e x.entry u → gives_up D s made (Some op) ≡ true
     gives_up_now u i k op made e at input by stands reply early cause =
         let n = its_steps D world.view (views_of world) (world_of s) s.due x rest along.going in
         let late = late_first u early in
@@ -108,10 +108,10 @@ module _ {Kind Op Shown : Type 0} (D : Replication Kind Op Shown) (world : World
         let there : (world_of s).nodes i ≡ Some n.0 = subst (λ q. (world_of s).nodes q ≡ Some n.0) at n.1 in
         let open_heard = is_open op ((world_of s).nodes i) && are_posts_heard s made in
         let heard = are_answers_heard s i op in
-        let full = some_full (world_of s) in
-        subst (λ q. (has_room ((world_of s).nodes q) && ((is_open op ((world_of s).nodes q) && are_posts_heard s made && are_answers_heard s q op) || some_full (world_of s))) ≡ true) (sym by.at)
-        (both_true (has_room ((world_of s).nodes i)) ((open_heard && heard) || full)
-        (ap has_room there ∙ is_not (is_full n.0) n.2.0)
+        let full = some_full D (world_of s) in
+        subst (λ q. (has_room D ((world_of s).nodes q) && ((is_open op ((world_of s).nodes q) && are_posts_heard s made && are_answers_heard s q op) || some_full D (world_of s))) ≡ true) (sym by.at)
+        (both_true (has_room D ((world_of s).nodes i)) ((open_heard && heard) || full)
+        (ap (has_room D) there ∙ is_not (is_full D n.0) n.2.0)
         (⊎_elim
         (λ (cause : (x.entry.output.reply ≡ Reply.TimedOut) × (are_posts_taken D world histories i e u ≡ true) × (are_answers_taken D world histories i op u ≡ true)).
         or_left (open_heard && heard) full

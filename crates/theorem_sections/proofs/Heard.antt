@@ -125,19 +125,19 @@ module _ {Kind Op Shown : Type 0} (D : Replication Kind Op Shown) where
 
       -- FULL MEMBERS
 
-      pub full_now : (u i : ℕ) → Late u rest → node_full (member_until D world histories i u) ≡ true → node_full ((world_of s).nodes i) ≡ true
-      full_now u i late full = ap node_full (along.nodes i) ∙ by (world.nodes i) refl full
+      pub full_now : (u i : ℕ) → Late u rest → node_full D (member_until D world histories i u) ≡ true → node_full D ((world_of s).nodes i) ≡ true
+      full_now u i late full = ap (node_full D) (along.nodes i) ∙ by (world.nodes i) refl full
         where
-          by : (o : Option (Node Kind Op Shown)) → world.nodes i ≡ o → node_full (option_map (λ b. replayed D b (until u (histories i))) o) ≡ true → node_full (option_map (λ b. replayed D b (done_at i)) o) ≡ true
+          by : (o : Option (Node Kind Op Shown)) → world.nodes i ≡ o → node_full D (option_map (λ b. replayed D b (until u (histories i))) o) ≡ true → node_full D (option_map (λ b. replayed D b (done_at i)) o) ≡ true
           by None is e = e
           by (Some b) is e =
               let more = begins u i (runs_in i b is) late in
-              subst (λ es. is_full (replayed D b es) ≡ true) more.1 (full_stays D b (until u (histories i)) more.0 (subst (AreSteps D b) (sym more.1) (steps_done i b is)) e)
+              subst (λ es. is_full D (replayed D b es) ≡ true) more.1 (full_stays D b (until u (histories i)) more.0 (subst (AreSteps D b) (sym more.1) (steps_done i b is)) e)
 
-      pub some_full_now : (u : ℕ) → Late u rest → some_full_until D world histories u ≡ true → some_full (world_of s) ≡ true
+      pub some_full_now : (u : ℕ) → Late u rest → some_full_until D world histories u ≡ true → some_full D (world_of s) ≡ true
       some_full_now u late full =
-          any_more (λ i. node_full (member_until D world histories i u)) (λ i. node_full ((world_of s).nodes i)) (λ i. full_now u i late) (running (world_of s))
-          (subst (λ is. list_any (λ i. node_full (member_until D world histories i u)) is ≡ true) (sym running_same) full)
+          any_more (λ i. node_full D (member_until D world histories i u)) (λ i. node_full D ((world_of s).nodes i)) (λ i. full_now u i late) (running (world_of s))
+          (subst (λ is. list_any (λ i. node_full D (member_until D world histories i u)) is ≡ true) (sym running_same) full)
 
       -- CLOSED OPERATIONS
 
@@ -156,11 +156,11 @@ module _ {Kind Op Shown : Type 0} (D : Replication Kind Op Shown) where
               (subst (λ n. is_open op (Some n) ≡ false) (sym (replayed-append D b (until u (histories i)) more.0)) (closed_since D op (replayed D b (until u (histories i))) more.0 below e'))
 
       pub ended_now : (u i k : ℕ) (made : Made Op Shown) (e : Entry Op Shown) (pending : Option ℕ) → made.at ≡ i → ((op : ℕ) → pending ≡ Some op → e.output.reply ≡ Reply.Pending op) → Late u rest → slice_get (histories i) k ≡ Some e → e.stamp ≤ u
-          → has_ended_until D world histories i u pending ≡ true → has_ended (world_of s) made pending ≡ true
+          → has_ended_until D world histories i u pending ≡ true → has_ended D (world_of s) made pending ≡ true
       ended_now u i k made e None at reply late stands early ended = refl
       ended_now u i k made e (Some op) at reply late stands early ended =
-          subst (λ j. (not (is_open op ((world_of s).nodes j)) || node_full ((world_of s).nodes j)) ≡ true) (sym at)
-          (or_more (not (is_open op (member_until D world histories i u))) (node_full (member_until D world histories i u)) (not (is_open op ((world_of s).nodes i))) (node_full ((world_of s).nodes i))
+          subst (λ j. (not (is_open op ((world_of s).nodes j)) || node_full D ((world_of s).nodes j)) ≡ true) (sym at)
+          (or_more (not (is_open op (member_until D world histories i u))) (node_full D (member_until D world histories i u)) (not (is_open op ((world_of s).nodes i))) (node_full D ((world_of s).nodes i))
           (λ closed. is_not (is_open op ((world_of s).nodes i)) (closed_now u i op k e late stands (reply op refl) early (not_true (is_open op (member_until D world histories i u)) closed)))
           (full_now u i late) ended)
 
@@ -192,8 +192,8 @@ module _ {Kind Op Shown : Type 0} (D : Replication Kind Op Shown) where
       -- A CLIENT GOES ON
 
       pub goes_on_now : (u i k : ℕ) (made : Made Op Shown) (e : Entry Op Shown) → IsMadeBy made i e → ((op : ℕ) → pending_op made.line.answer ≡ Some op → e.output.reply ≡ Reply.Pending op) → Late u rest → slice_get (histories i) k ≡ Some e → e.stamp ≤ u
-          → (are_posts_taken D world histories i e u || some_full_until D world histories u) ≡ true → has_ended_until D world histories i u (pending_op made.line.answer) ≡ true → goes_on s (Some made) ≡ true
+          → (are_posts_taken D world histories i e u || some_full_until D world histories u) ≡ true → has_ended_until D world histories i u (pending_op made.line.answer) ≡ true → goes_on D s (Some made) ≡ true
       goes_on_now u i k made e by reply late stands early heard ended =
-          both_true (are_posts_heard s made || some_full (world_of s)) (has_ended (world_of s) made (pending_op made.line.answer))
-          (or_more (are_posts_taken D world histories i e u) (some_full_until D world histories u) (are_posts_heard s made) (some_full (world_of s)) (posts_now u i made e by late) (some_full_now u late) heard)
+          both_true (are_posts_heard s made || some_full D (world_of s)) (has_ended D (world_of s) made (pending_op made.line.answer))
+          (or_more (are_posts_taken D world histories i e u) (some_full_until D world histories u) (are_posts_heard s made) (some_full D (world_of s)) (posts_now u i made e by late) (some_full_now u late) heard)
           (ended_now u i k made e (pending_op made.line.answer) by.at reply late stands early ended)

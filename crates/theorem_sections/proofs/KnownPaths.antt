@@ -97,14 +97,14 @@ module _ {Kind Op Shown : Type 0} (D : Replication Kind Op Shown) (world : World
     early : (i count : ℕ) → count ≤ known i → AreUpTo u count (histories i)
     early i count few k e at l = knows i k e at (omega (arith, few, l))
 
-    one_full : (i : ℕ) → IsKnownFull D world histories i known → node_full (member_until D world histories i u) ≡ true
+    one_full : (i : ℕ) → IsKnownFull D world histories i known → node_full D (member_until D world histories i u) ≡ true
     one_full i f = full_until D world histories all runs_in u i f.0 (early i f.0 f.1) f.2
 
     some_full : KnowsFull D world histories known → some_full_until D world histories u ≡ true
-    some_full f = any_listed (λ i. node_full (member_until D world histories i u)) (running world) f.0 (by (world.nodes f.0) refl (one_full f.0 f.1)) (one_full f.0 f.1)
+    some_full f = any_listed (λ i. node_full D (member_until D world histories i u)) (running world) f.0 (by (world.nodes f.0) refl (one_full f.0 f.1)) (one_full f.0 f.1)
       where
-        by : (o : Option (Node Kind Op Shown)) → world.nodes f.0 ≡ o → node_full (member_until D world histories f.0 u) ≡ true → Is f.0
-        by None is full = absurd (let e = sym (ap (λ o. node_full (option_map (λ before. replayed D before (until u (histories f.0))) o)) is) ∙ full in cc e)
+        by : (o : Option (Node Kind Op Shown)) → world.nodes f.0 ≡ o → node_full D (member_until D world histories f.0 u) ≡ true → Is f.0
+        by None is full = absurd (let e = sym (ap (λ o. node_full D (option_map (λ before. replayed D before (until u (histories f.0))) o)) is) ∙ full in cc e)
         by (Some n) is full = runs_in f.0 n is
 
     -- the posts of an entry
@@ -131,9 +131,9 @@ module _ {Kind Op Shown : Type 0} (D : Replication Kind Op Shown) (world : World
     ended i k e None at reply h ends = refl
     ended i k e (Some op) at reply h ends = ⊎_elim
         (λ (closed : is_open op (member_after D world histories i (known i)) ≡ false).
-        or_left (not (is_open op (member_until D world histories i u))) (node_full (member_until D world histories i u))
+        or_left (not (is_open op (member_until D world histories i u))) (node_full D (member_until D world histories i u))
         (is_not (is_open op (member_until D world histories i u)) (closed_until D world histories all runs_in u i (known i) (early i (known i) (omega arith)) op k e at (reply op refl) h closed)))
-        (λ full. or_right (not (is_open op (member_until D world histories i u))) (node_full (member_until D world histories i u)) (one_full i full))
+        (λ full. or_right (not (is_open op (member_until D world histories i u))) (node_full D (member_until D world histories i u)) (one_full i full))
         ends
 
   -- ANSWERS
@@ -317,13 +317,13 @@ module _ {Kind Op Shown : Type 0} (D : Replication Kind Op Shown) (world : World
             (closed ∙ sym (ap (λ n. is_open op (Some n)) same ∙ closed_since D op (replayed D b firsts) others below closed))
             (sym (ap (λ n. finished_at op (Some n)) same ∙ finished_since D op (replayed D b firsts) others below closed))
 
-        by_full : (o : Option (Node Kind Op Shown)) → world.nodes command.at ≡ o → (count : ℕ) → count ≤ k.known command.at → node_full (member_after D world histories command.at count) ≡ true
+        by_full : (o : Option (Node Kind Op Shown)) → world.nodes command.at ≡ o → (count : ℕ) → count ≤ k.known command.at → node_full D (member_after D world histories command.at count) ≡ true
             → ending_of (option_map (λ b. replayed D b (take (k.known command.at) (histories command.at))) o) (Some op) ≡ ending_of (option_map (λ b. replayed D b (histories command.at)) o) (Some op)
         by_full None none count few full = refl
         by_full (Some b) runs count few full =
             let split : take count whole ++ drop count whole ≡ whole = take_and_drop (histories command.at) count in
             let steps : AreSteps D b (take count whole ++ drop count whole) = subst (AreSteps D b) (sym split) (steps_of_node D world histories all runs_in command.at b runs) in
-            let is_over : is_full (replayed D b (take count whole)) ≡ true = sym (ap (λ o. node_full (option_map (λ b. replayed D b (take count (histories command.at))) o)) runs) ∙ full in
+            let is_over : is_full D (replayed D b (take count whole)) ≡ true = sym (ap (λ o. node_full D (option_map (λ b. replayed D b (take count (histories command.at))) o)) runs) ∙ full in
             let none = full_ends D (replayed D b (take count whole)) (drop count whole) (steps_after D b (take count whole) (drop count whole) steps) is_over in
             ap (λ es. ending_of (Some (replayed D b es)) (Some op)) (take_whole_more count (k.known command.at) (histories command.at) none few)
 

@@ -140,13 +140,13 @@ module _ {Kind Op Shown : Type 0} (D : Replication Kind Op Shown) where
     room_is Stored fits has = ap (λ b. room b (next_answer p place)) (some_less (stores D node input) fits) ∙ ap (room true) has
     room_is StoreFailed fits has = ap (λ b. room b (next_answer p place)) (some_less (stores D node input) fits) ∙ ap (room true) has
 
-    pub given_is : (fate : Fate) → FitsFate D node input fate → HasAnswer p place fate → is_full node ≡ false → turn_of p.world (event fate) ≡ Some (turn_by i node input fate)
+    pub given_is : (fate : Fate) → FitsFate D node input fate → HasAnswer p place fate → is_full D node ≡ false → turn_of p.world (event fate) ≡ Some (turn_by i node input fate)
         → given_to D p head event i input (Some node) ≡ given_fate D (after_fate p place fate) head event (step D node input fate) fate
     given_is fate fits has has_room turn =
         ap (λ b. if b then told p head Answer.HistoryFull else given_room D p head event i input node) has_room ∙ room_is fate fits has
         ∙ ap (λ (o : Option (Turn Kind Op Shown)). did D (after_fate p place fate) (event fate) (output_lines D head (option_map (λ (turn : Turn Kind Op Shown). (step_in D turn).output) o))) turn
 
-    pub given_full : is_full node ≡ true → given_to D p head event i input (Some node) ≡ told p head Answer.HistoryFull
+    pub given_full : is_full D node ≡ true → given_to D p head event i input (Some node) ≡ told p head Answer.HistoryFull
     given_full full = ap (λ b. if b then told p head Answer.HistoryFull else given_room D p head event i input node) full
 
   -- COMMANDS

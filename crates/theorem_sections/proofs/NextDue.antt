@@ -106,7 +106,7 @@ module _ {Kind Op Shown : Type 0} (D : Replication Kind Op Shown) where
   to_next : (p : Playing Kind Op Shown) (head : Head Op) (i : ℕ) (input : Input Op) (o : Option (Node Kind Op Shown)) (a b : ℕ) → next_in (given_to D p head (InputAt i input) i input o).world a b ≡ next_in p.world a b
   to_next p head i input None a b = refl
   to_next p head i input (Some node) a b =
-      if_holds (λ (q : Playing Kind Op Shown). next_in q.world a b ≡ next_in p.world a b) (is_full node) (told p head Answer.HistoryFull) (given_room D p head (InputAt i input) i input node) refl
+      if_holds (λ (q : Playing Kind Op Shown). next_in q.world a b ≡ next_in p.world a b) (is_full D node) (told p head Answer.HistoryFull) (given_room D p head (InputAt i input) i input node) refl
       (room_next p head (InputAt i input) i input node a b (next_in p.world a b) (λ fate. stepped_next p.world i (p.world.nodes i) input fate a b))
 
   pub command_next : (p : Playing Kind Op Shown) (command : Command Op) (a b : ℕ) → next_in (played D p (step_of command)).world a b ≡ next_in p.world a b
@@ -122,20 +122,20 @@ module _ {Kind Op Shown : Type 0} (D : Replication Kind Op Shown) where
   happens_next world from to index message fate a b there =
       ap (λ o. next_in (delivered D world from to index o fate) a b) there ∙ stepped_next (record world { links = moved_on world.links from to index }) to (world.nodes to) (Input.Take from message) fate a b
 
-  taken_next : (p : Playing Kind Op Shown) (from to index : ℕ) (message : Message Op) (o : Option (Node Kind Op Shown)) (a b : ℕ) → message_at p.world from to index ≡ Some message → has_room o ≡ true
+  taken_next : (p : Playing Kind Op Shown) (from to index : ℕ) (message : Message Op) (o : Option (Node Kind Op Shown)) (a b : ℕ) → message_at p.world from to index ≡ Some message → has_room D o ≡ true
       → next_in (given_to D p (Head.DeliverHead from to index (Some message)) (Delivery from to index) to (Input.Take from message) o).world a b ≡ next_on (moved_on p.world.links from to index) a b
   taken_next p from to index message None a b there room = absurd (true≢false (sym room))
   taken_next p from to index message (Some node) a b there room =
       let head = Head.DeliverHead from to index (Some message) in
-      if_tells (λ (q : Playing Kind Op Shown). next_in q.world a b ≡ next_on (moved_on p.world.links from to index) a b) (is_full node) (told p head Answer.HistoryFull) (given_room D p head (Delivery from to index) to (Input.Take from message) node)
+      if_tells (λ (q : Playing Kind Op Shown). next_in q.world a b ≡ next_on (moved_on p.world.links from to index) a b) (is_full D node) (told p head Answer.HistoryFull) (given_room D p head (Delivery from to index) to (Input.Take from message) node)
       (λ full. absurd (true≢false (sym room ∙ ap not full)))
       (λ _. room_next p head (Delivery from to index) to (Input.Take from message) node a b (next_on (moved_on p.world.links from to index) a b) (λ fate. happens_next p.world from to index message fate a b there))
 
-  runs : (o : Option (Node Kind Op Shown)) → has_room o ≡ true → is_some o ≡ true
+  runs : (o : Option (Node Kind Op Shown)) → has_room D o ≡ true → is_some o ≡ true
   runs None room = room
   runs (Some node) room = refl
 
-  pub deliver_next : (p : Playing Kind Op Shown) (from to index a b : ℕ) → is_some (message_at p.world from to index) ≡ true → has_room (p.world.nodes to) ≡ true
+  pub deliver_next : (p : Playing Kind Op Shown) (from to index a b : ℕ) → is_some (message_at p.world from to index) ≡ true → has_room D (p.world.nodes to) ≡ true
       → next_in (deliver D p from to index).world a b ≡ next_on (moved_on p.world.links from to index) a b
   deliver_next p from to index a b there room =
       let message = some_of is_some (message_at p.world from to index) refl there in
@@ -177,12 +177,12 @@ module _ {Kind Op Shown : Type 0} (D : Replication Kind Op Shown) where
     timed_out_stands s c None a b stands = stands
     timed_out_stands s c (Some client) a b stands = timed_out_made_stands s c client (last_of client.made) a b stands
 
-    heard_elsewhere : (s : Section Kind Op Shown) (from to a b : ℕ) → is_some (message_at (world_of s) from to (s.due from to)) ≡ true → has_room ((world_of s).nodes to) ≡ true → (a ≡ from → b ≢ to) → Stands s a b → Stands (heard D s from to) a b
+    heard_elsewhere : (s : Section Kind Op Shown) (from to a b : ℕ) → is_some (message_at (world_of s) from to (s.due from to)) ≡ true → has_room D ((world_of s).nodes to) ≡ true → (a ≡ from → b ≢ to) → Stands s a b → Stands (heard D s from to) a b
     heard_elsewhere s from to a b there room other stands =
         stays s (heard D s from to) a b (table_else s.due from to (suc (s.due from to)) a b other)
         (deliver_next s.playing from to (s.due from to) a b there room ∙ moved_else s.playing.world.links from to (s.due from to) a b (λ is is'. absurd (other is is'))) stands
 
-    heard_here : (s : Section Kind Op Shown) (from to : ℕ) → is_some (message_at (world_of s) from to (s.due from to)) ≡ true → has_room ((world_of s).nodes to) ≡ true → Stands s from to → Stands (heard D s from to) from to
+    heard_here : (s : Section Kind Op Shown) (from to : ℕ) → is_some (message_at (world_of s) from to (s.due from to)) ≡ true → has_room D ((world_of s).nodes to) ≡ true → Stands s from to → Stands (heard D s from to) from to
     heard_here s from to there room stands =
         let index = s.due from to in
         let due : (heard D s from to).due from to ≡ suc index = table_here s.due from to (suc index) from to refl refl in
@@ -193,7 +193,7 @@ module _ {Kind Op Shown : Type 0} (D : Replication Kind Op Shown) where
           busy = λ h. delivered ∙ moved_else s.playing.world.links from to index from to (λ _ _ same. let n = stands.busy h in let e = stands.since in absurd (omega (arith, n, e, h, same))) ∙ stands.busy h;
         }
 
-    heard_stands : (s : Section Kind Op Shown) (from to a b : ℕ) → is_some (message_at (world_of s) from to (s.due from to)) ≡ true → has_room ((world_of s).nodes to) ≡ true → Stands s a b → Stands (heard D s from to) a b
+    heard_stands : (s : Section Kind Op Shown) (from to a b : ℕ) → is_some (message_at (world_of s) from to (s.due from to)) ≡ true → has_room D ((world_of s).nodes to) ≡ true → Stands s a b → Stands (heard D s from to) a b
     heard_stands s from to a b there room stands = ⊎_elim
         (λ (is : a ≡ from). ⊎_elim
         (λ (is' : b ≡ to).
@@ -204,20 +204,20 @@ module _ {Kind Op Shown : Type 0} (D : Replication Kind Op Shown) where
         (λ isnt. heard_elsewhere s from to a b there room (λ is. absurd (isnt is)) stands)
         (same_or_not a from)
 
-    moved_stands : (s : Section Kind Op Shown) (m : Move) (a b : ℕ) → may_come s m ≡ true → Stands s a b → Stands (moved D s m) a b
+    moved_stands : (s : Section Kind Op Shown) (m : Move) (a b : ℕ) → may_come D s m ≡ true → Stands s a b → Stands (moved D s m) a b
     moved_stands s (NextCommand c) a b may stands = commanded_stands s c (slice_get s.clients c) a b stands
     moved_stands s (ItsTimeout c) a b may stands = timed_out_stands s c (slice_get s.clients c) a b stands
     moved_stands s (NextMessage from to) a b may stands =
         let here = list_any (λ i. i == from) (running (world_of s)) in
         let there = list_any (λ i. i == to) (running (world_of s)) in
         let due = is_some (message_at (world_of s) from to (s.due from to)) in
-        let room = has_room ((world_of s).nodes to) in
+        let room = has_room D ((world_of s).nodes to) in
         heard_stands s from to a b (second_true (here && there) due (first_true (here && there && due) room may)) (second_true (here && there && due) room may) stands
 
     all_stand : (s : Section Kind Op Shown) (ms : List Move) (a b : ℕ) → may_all_come D s ms ≡ true → Stands s a b → Stands (moved_all D s ms) a b
     all_stand s [] a b may stands = stands
     all_stand s (m ∷ ms) a b may stands =
-        all_stand (moved D s m) ms a b (second_true (may_come s m) (may_all_come D (moved D s m) ms) may) (moved_stands s m a b (first_true (may_come s m) (may_all_come D (moved D s m) ms) may) stands)
+        all_stand (moved D s m) ms a b (second_true (may_come D s m) (may_all_come D (moved D s m) ms) may) (moved_stands s m a b (first_true (may_come D s m) (may_all_come D (moved D s m) ms) may) stands)
 
     pub next_stands : (clients : List (List (Command Op))) (moves : List Move) (end : Section Kind Op Shown) → IsSection D before clients moves end → (a b : ℕ) → Stands end a b
     next_stands clients moves end section a b =

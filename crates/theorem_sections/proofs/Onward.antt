@@ -72,7 +72,7 @@ module _ {Kind Op Shown : Type 0} (D : Replication Kind Op Shown) where
     where
       by : (o : Option (Turn Kind Op Shown)) → (given_turn D p head (InputAt i input) o).world.view ≡ p.world.view
       by None = refl
-      by (Some turn) = if_holds (λ (q : Playing Kind Op Shown). q.world.view ≡ p.world.view) (is_full turn.before) (told p head HistoryFull) (take_turn D p head (InputAt i input) turn) refl (taken_view p head i input turn)
+      by (Some turn) = if_holds (λ (q : Playing Kind Op Shown). q.world.view ≡ p.world.view) (is_full D turn.before) (told p head HistoryFull) (take_turn D p head (InputAt i input) turn) refl (taken_view p head i input turn)
 
   command_view : (p : Playing Kind Op Shown) (command : Command Op) → (played D p (step_of command)).world.view ≡ p.world.view
   command_view p command = by (input_of (views_of p.world) command.ask)
@@ -192,7 +192,7 @@ module _ {Kind Op Shown : Type 0} (D : Replication Kind Op Shown) where
 
       given_line : (o : Option (Node Kind Op Shown)) → p.world.nodes i ≡ o → OneLine command (given_to D p its_head (InputAt i input) i input o)
       given_line None is = plain_line Gone refl
-      given_line (Some node) is = if_holds (OneLine command) (is_full node) (told p its_head HistoryFull) (take_turn D p its_head (InputAt i input) (turn_by i node input NoStore)) (plain_line HistoryFull refl) (taken_line node is)
+      given_line (Some node) is = if_holds (OneLine command) (is_full D node) (told p its_head HistoryFull) (take_turn D p its_head (InputAt i input) (turn_by i node input NoStore)) (plain_line HistoryFull refl) (taken_line node is)
 
     pub one_line : OneLine command (played D p (step_of command))
     one_line = by (input_of (views_of p.world) command.ask)

@@ -91,7 +91,7 @@ module _ {Kind Op Shown : Type 0} (D : Replication Kind Op Shown) (world : World
 
   -- the client goes on once only later entries are to come
   abbrev pub GoesOnFrom : List (Made Op Shown) → ℕ → Type 0
-  GoesOnFrom made u = (s : Section Kind Op Shown) (done rest : List (Placed Op Shown)) → Goes s done rest → Late u rest → goes_on s (last_of made) ≡ true
+  GoesOnFrom made u = (s : Section Kind Op Shown) (done rest : List (Placed Op Shown)) → Goes s done rest → Late u rest → goes_on D s (last_of made) ≡ true
 
   pub record IsDue (c : ℕ) (client : Client Op Shown) (entries : List (Placed Op Shown)) (left : List (ClientStep Op Shown)) : Type 0 where
     pub timeout : Placed Op Shown
@@ -105,7 +105,7 @@ module _ {Kind Op Shown : Type 0} (D : Replication Kind Op Shown) (world : World
     pub at : last.at ≡ timeout.at
     pub gives : timeout.entry.input ≡ Input.Timeout op
     pub once : client.timed_out ≡ false
-    pub gives_up : (s : Section Kind Op Shown) (done rest : List (Placed Op Shown)) → Goes s done (timeout ∷ rest) → gives_up s last (Some op) ≡ true
+    pub gives_up : (s : Section Kind Op Shown) (done rest : List (Placed Op Shown)) → Goes s done (timeout ∷ rest) → gives_up D s last (Some op) ≡ true
     pub goes : GoesOnFrom client.made upto
     pub then_left : Left c upto others client.to_come left
 
@@ -171,7 +171,7 @@ module _ {Kind Op Shown : Type 0} (D : Replication Kind Op Shown) (world : World
 
         goes : GoesOnFrom (client.made ++ m ∷ []) step.upto
         goes s done rest along late =
-            ap (goes_on s) (last_pushed client.made m)
+            ap (goes_on D s) (last_pushed client.made m)
             ∙ goes_on_now D world histories placed keeping all runs_in s done rest along step.upto command.at k m x.entry new.by replied late here (subst (λ (e : Entry Op Shown). e.stamp ≤ step.upto) same r.before)
             (subst (λ (e : Entry Op Shown). (are_posts_taken D world histories command.at e step.upto || some_full_until D world histories step.upto) ≡ true) same r.heard)
             (subst (λ p. has_ended_until D world histories command.at step.upto p ≡ true) same_answer r.ended)

@@ -78,7 +78,7 @@ module _ {Kind Op Shown : Type 0} (D : Replication Kind Op Shown) (world : World
     past_is c client steps left e (Ready u goes l) = none_left c u client.to_come left e l
     past_is c client steps left e (Due d) = absurd (let f = d.first in cc f)
 
-    goes_last : (c : ℕ) (client : Client Op Shown) (left : List (ClientStep Op Shown)) → Position D world histories placed keeping all runs_in c client [] left → goes_on s (last_of client.made) ≡ true
+    goes_last : (c : ℕ) (client : Client Op Shown) (left : List (ClientStep Op Shown)) → Position D world histories placed keeping all runs_in c client [] left → goes_on D s (last_of client.made) ≡ true
     goes_last c client left (Ready u goes l) = goes s done [] state.along tt
     goes_last c client left (Due d) = absurd (let f = d.first in cc f)
 
@@ -87,15 +87,15 @@ module _ {Kind Op Shown : Type 0} (D : Replication Kind Op Shown) (world : World
         record {
           moves = [];
           lawful = refl;
-          over = all_by_get (λ (client : Client Op Shown). (length client.to_come == 0) && goes_on s (last_of client.made)) s.clients
+          over = all_by_get (λ (client : Client Op Shown). (length client.to_come == 0) && goes_on D s (last_of client.made)) s.clients
               (λ k client get.
               let within = slice_get_within s.clients k client get in
               let n = state.count in
               let path = get_within paths k (omega (arith, within, n)) in
               let at = state.each k path.0 path.1 in
               let same : at.0 ≡ client = cc (sym at.1 ∙ get) in
-              both_true (length client.to_come == 0) (goes_on s (last_of client.made)) (ap (λ cs. length cs == 0) (finished k client get))
-              (ap (λ (x : Client Op Shown). goes_on s (last_of x.made)) (sym same) ∙ goes_last k at.0 at.2.left at.2.position));
+              both_true (length client.to_come == 0) (goes_on D s (last_of client.made)) (ap (λ cs. length cs == 0) (finished k client get))
+              (ap (λ (x : Client Op Shown). goes_on D s (last_of x.made)) (sym same) ∙ goes_last k at.0 at.2.left at.2.position));
           lines = lines_of (world_of s) 0 s.clients paths state.count
               (λ k client steps get path.
               let at = state.each k steps path in
@@ -182,13 +182,13 @@ module _ {Kind Op Shown : Type 0} (D : Replication Kind Op Shown) (world : World
         let a = list_any (λ i. i == from) (running (world_of s)) in
         let b = list_any (λ i. i == x.at) (running (world_of s)) in
         let m = is_some (message_at (world_of s) from x.at (s.due from x.at)) in
-        let room = has_room ((world_of s).nodes x.at) in
+        let room = has_room D ((world_of s).nodes x.at) in
         let may : (((a && b) && m) && room) ≡ true =
         both_true ((a && b) && m) room
         (both_true (a && b) m
         (both_true a b (subst (λ v. IsTrue (is_member v from)) (sym same_view) given) (subst (λ v. IsTrue (is_member v x.at)) (sym same_view) state.along.going.members.0))
         (ap is_some (there D world histories placed keeping s.playing s.due done x rest state.along from message is given)))
-        (ap has_room its.1 ∙ is_not (is_full its.0) its.2.0) in
+        (ap (has_room D) its.1 ∙ is_not (is_full D its.0) its.2.0) in
         ends_more D world histories placed keeping all runs_in paths s (heard D s from x.at) (NextMessage from x.at) may refl
         (next (heard D s from x.at)
         (record {
@@ -235,9 +235,9 @@ module _ {Kind Op Shown : Type 0} (D : Replication Kind Op Shown) (world : World
           subst (λ i. PlaysEntry D world histories placed keeping s.playing s.due done x rest state.along (Head.TimeoutHead d.last.at d.op) (given_to D s.playing (Head.TimeoutHead d.last.at d.op) (InputAt i (Input.Timeout d.op)) i (Input.Timeout d.op) ((world_of s).nodes i)) s.due) place plays0 in
           let client' : Client Op Shown = record client { timed_out = true } in
           let gives = d.gives_up s done rest (subst (λ (y : Placed Op Shown). Along D world histories placed keeping s.playing s.due done (y ∷ rest)) is_x state.along) in
-          let may : may_come s (ItsTimeout c) ≡ true =
-          ap (may_call_timeout s) get ∙ ap (may_time_out s client) d.is_last
-          ∙ both_true (not client.timed_out) (gives_up s d.last (pending_op d.last.line.answer)) (is_not client.timed_out d.once) (ap (gives_up s d.last) d.waits ∙ gives) in
+          let may : may_come D s (ItsTimeout c) ≡ true =
+          ap (may_call_timeout D s) get ∙ ap (may_time_out D s client) d.is_last
+          ∙ both_true (not client.timed_out) (gives_up D s d.last (pending_op d.last.line.answer)) (is_not client.timed_out d.once) (ap (gives_up D s d.last) d.waits ∙ gives) in
           let moves : moved D s (ItsTimeout c) ≡ with_client s c client' q =
           ap (timed_out D s c) get ∙ ap (timed_out_made D s c client) d.is_last ∙ ap (timed_out_op D s c client d.last.at) d.waits in
           ends_more D world histories placed keeping all runs_in paths s (with_client s c client' q) (ItsTimeout c) may moves

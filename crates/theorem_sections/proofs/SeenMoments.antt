@@ -276,7 +276,7 @@ module _ {Kind Op Shown : Type 0} (D : Replication Kind Op Shown) where
         own = (its_commands D members keys p runs clients goes.0 goes.1 goes.2 c there client comes).0
 
         lawful_rest : may_all_come D on comes.rest ≡ true
-        lawful_rest = second_true (may_come there (NextCommand c)) (may_all_come D on comes.rest) (lawful_there D members keys p runs clients goes.0 goes.1 goes.2 c there client comes)
+        lawful_rest = second_true (may_come D there (NextCommand c)) (may_all_come D on comes.rest) (lawful_there D members keys p runs clients goes.0 goes.1 goes.2 c there client comes)
 
         -- after more moves it stands there still
         still : (ms : List Move) → may_all_come D on ms ≡ true → (later : Client Op Shown) → slice_get (moved_all D on ms).clients c ≡ Some later → slice_get later.made (length client.made) ≡ Some its_made
@@ -358,7 +358,7 @@ module _ {Kind Op Shown : Type 0} (D : Replication Kind Op Shown) where
               let between : may_all_come D there (NextCommand c ∷ mid) ≡ true = subst (λ (s : Section Kind Op Shown). may_all_come D s (NextCommand c ∷ mid) ≡ true) (sym comes.is) (may_then D first comes.early (NextCommand c ∷ mid) until) in
               record {
                 grows = subst (λ (s : Section Kind Op Shown). Appends D (played D there.playing (step_of (next there client comes).command)).events s.playing.events) (sym to_there) (events_on there client comes mid);
-                kept = still there client comes mid (second_true (may_come there (NextCommand c)) (may_all_come D (on there client comes) mid) between) client' (subst (λ (s : Section Kind Op Shown). slice_get s.clients c ≡ Some client') to_there comes'.its);
+                kept = still there client comes mid (second_true (may_come D there (NextCommand c)) (may_all_come D (on there client comes) mid) between) client' (subst (λ (s : Section Kind Op Shown). slice_get s.clients c ≡ Some client') to_there comes'.its);
               }
           by (Same is) = absurd (at_once there' (comes'.is ∙ ap (moved_all D first) (sym is) ∙ sym comes.is) comes'.its)
           by (After mid is) =

@@ -20,6 +20,7 @@ D = record {
   data_type = record { fits = λ k o. true; refusal = λ k i o H. None; blocked = λ k o r H. None; shown = λ k H. 0; deleted = λ H. false };
   digest = λ k e. [];
   log_length = 50;
+  most_steps = 16384;
 }
 
 abbrev pub keys : List (KeyDecl (Unit {0}))

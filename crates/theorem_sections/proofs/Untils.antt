@@ -87,13 +87,13 @@ module _ {Kind Op Shown : Type 0} (D : Replication Kind Op Shown) where
   steps_first n (e ∷ es) fs h = (h.0, h.1, h.2, steps_first (step D n e.input e.fate).node es fs h.3)
 
   -- a full member makes no more steps
-  pub full_ends : (n : Node Kind Op Shown) (fs : List (Entry Op Shown)) → AreSteps D n fs → is_full n ≡ true → fs ≡ []
+  pub full_ends : (n : Node Kind Op Shown) (fs : List (Entry Op Shown)) → AreSteps D n fs → is_full D n ≡ true → fs ≡ []
   full_ends n [] h full = refl
   full_ends n (f ∷ fs) h full = absurd (true≢false (sym full ∙ h.0))
 
-  pub full_stays : (n : Node Kind Op Shown) (es fs : List (Entry Op Shown)) → AreSteps D n (es ++ fs) → is_full (replayed D n es) ≡ true → is_full (replayed D n (es ++ fs)) ≡ true
+  pub full_stays : (n : Node Kind Op Shown) (es fs : List (Entry Op Shown)) → AreSteps D n (es ++ fs) → is_full D (replayed D n es) ≡ true → is_full D (replayed D n (es ++ fs)) ≡ true
   full_stays n es fs h full =
-      ap (λ xs. is_full (replayed D n (es ++ xs))) (full_ends (replayed D n es) fs (steps_after n es fs h) full) ∙ ap (λ xs. is_full (replayed D n xs)) (append-nil es) ∙ full
+      ap (λ xs. is_full D (replayed D n (es ++ xs))) (full_ends (replayed D n es) fs (steps_after n es fs h) full) ∙ ap (λ xs. is_full D (replayed D n xs)) (append-nil es) ∙ full
 
   pub numbers_grow : (n : Node Kind Op Shown) (es : List (Entry Op Shown)) → n.next_op ≤ (replayed D n es).next_op
   numbers_grow n [] = omega arith

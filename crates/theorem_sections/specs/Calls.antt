@@ -39,7 +39,7 @@ module _ {Kind Op Shown : Type 0} (D : Replication Kind Op Shown) (before : Play
     pub came : (c k : ℕ) (at_end : Client Op Shown) (made : Made Op Shown) → slice_get end.clients c ≡ Some at_end → slice_get at_end.made k ≡ Some made
         → (here : Section Kind Op Shown) × (client : Client Op Shown) × ComesAt c here client × (length client.made ≡ k)
     -- when a command comes, what the client's last one sent was heard, and what it waited for has ended, as far as a client may know
-    pub may : (c : ℕ) (here : Section Kind Op Shown) (client : Client Op Shown) → ComesAt c here client → goes_on here (last_of client.made) ≡ true
+    pub may : (c : ℕ) (here : Section Kind Op Shown) (client : Client Op Shown) → ComesAt c here client → goes_on D here (last_of client.made) ≡ true
     -- and what the report tells of the client's earlier commands is what stands then
     pub seen : (c : ℕ) (here : Section Kind Op Shown) (client : Client Op Shown) → ComesAt c here client
         → map (client_line (world_of here) c) client.made ≡ map (client_line (world_of end) c) client.made

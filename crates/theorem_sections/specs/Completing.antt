@@ -1,6 +1,7 @@
 -- When every operation of a section's clients finishes.
 use Rattle.std.specs.Prelude.{◌≡◌, ℕ, List, ◌++◌, false, Some, slice_get}
 use Rattle.std.specs.List.{AllByRecursion}
+use Rattle.model_members.specs.DataType.{Replication}
 use Rattle.model_members.specs.Node.{Finished}
 use Rattle.model_members.specs.Script.{Playing}
 use Rattle.model_members.specs.World.{Event}
@@ -14,13 +15,14 @@ StoreHolds (Event.InputAt i input fate) = HasNotFailed fate
 StoreHolds (Event.Delivery from to index fate) = HasNotFailed fate
 StoreHolds _ = Unit {0}
 
-module _ {Kind Op Shown : Type 0} (before : Playing Kind Op Shown) (end : Section Kind Op Shown) where
+module _ {Kind Op Shown : Type 0} (D : Replication Kind Op Shown) (before : Playing Kind Op Shown) (end : Section Kind Op Shown) where
   -- all running members have the last view installed before it, no store fails in it, and no running member is full at its end
   pub record IsUndisturbed : Type 0 where
     pub installed : AllInstalled before.world
     pub stores : (events : List (Event Op)) → end.playing.events ≡ before.events ++ events → AllByRecursion StoreHolds events
-    pub room : some_full (world_of end) ≡ false
+    pub room : some_full D (world_of end) ≡ false
 
+module _ {Kind Op Shown : Type 0} (before : Playing Kind Op Shown) (end : Section Kind Op Shown) where
   -- the line of each command that opened an operation tells how it finished
   abbrev pub AllFinish : Type 0
   AllFinish =

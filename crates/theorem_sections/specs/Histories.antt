@@ -106,7 +106,7 @@ module _ {Kind Op Shown : Type 0} (D : Replication Kind Op Shown) where
   AreSteps before [] = ⊤
   AreSteps before (e ∷ entries) =
       let stepped = step D before e.input e.fate in
-      IsFalse (is_full before) × FitsFate D before e.input e.fate × (e.output ≡ stepped.output) × AreSteps stepped.node entries
+      IsFalse (is_full D before) × FitsFate D before e.input e.fate × (e.output ≡ stepped.output) × AreSteps stepped.node entries
 
   abbrev pub replayed : Node Kind Op Shown → List (Entry Op Shown) → Node Kind Op Shown
   replayed before [] = before

@@ -33,7 +33,7 @@ module _ {Kind Op Shown : Type 0} (D : Replication Kind Op Shown) (world : World
 
   -- a member is known to be full
   abbrev pub IsKnownFull : ℕ → (ℕ → ℕ) → Type 0
-  IsKnownFull i known = (count : ℕ) × (count ≤ known i) × (node_full (member_after i count) ≡ true)
+  IsKnownFull i known = (count : ℕ) × (count ≤ known i) × (node_full D (member_after i count) ≡ true)
 
   abbrev pub KnowsFull : (ℕ → ℕ) → Type 0
   KnowsFull known = (i : ℕ) × IsKnownFull i known

@@ -45,7 +45,7 @@ module _ {Kind Op Shown : Type 0} (D : Replication Kind Op Shown) (world : World
   member_until i stamp = option_map (λ before. replayed D before (until stamp (histories i))) (world.nodes i)
 
   abbrev pub some_full_until : ℕ → Bool
-  some_full_until stamp = list_any (λ i. node_full (member_until i stamp)) (running world)
+  some_full_until stamp = list_any (λ i. node_full D (member_until i stamp)) (running world)
 
   -- j has taken, up to a stamp, all that i posted to it up to another
   abbrev pub has_taken : (i j posted stamp : ℕ) → Bool
@@ -70,7 +70,7 @@ module _ {Kind Op Shown : Type 0} (D : Replication Kind Op Shown) (world : World
   -- its operation has ended up to a stamp, or its member is full
   abbrev pub has_ended_until : ℕ → ℕ → Option ℕ → Bool
   has_ended_until i stamp None = true
-  has_ended_until i stamp (Some op) = not (is_open op (member_until i stamp)) || node_full (member_until i stamp)
+  has_ended_until i stamp (Some op) = not (is_open op (member_until i stamp)) || node_full D (member_until i stamp)
 
   pub record IsReplied (client : ℕ) (command : Command Op) (step : ClientStep Op Shown) (reply : Reply Shown) : Type 0 where
     pub index : ℕ
@@ -92,7 +92,7 @@ module _ {Kind Op Shown : Type 0} (D : Replication Kind Op Shown) (world : World
   IsAnsweredBy client command step Answer.Gone = (step.index ≡ None) × (step.line.posts ≡ []) × (world.nodes (command.at) ≡ None)
   IsAnsweredBy client command step Answer.NoSuchView = (step.index ≡ None) × (step.line.posts ≡ []) × (is_some (world.nodes (command.at)) ≡ true) × LacksView (views_of world) command
   IsAnsweredBy client command step Answer.HistoryFull =
-      (step.index ≡ None) × (step.line.posts ≡ []) × ((input : Input Op) × IsInputOf (views_of world) command input) × (node_full (member_until (command.at) step.upto) ≡ true)
+      (step.index ≡ None) × (step.line.posts ≡ []) × ((input : Input Op) × IsInputOf (views_of world) command input) × (node_full D (member_until (command.at) step.upto) ≡ true)
   IsAnsweredBy client command step _ = ⊥
 
   -- WHEN A TIMEOUT WAS CALLED

@@ -77,24 +77,12 @@ pending_op (Answer.Replied (Reply.Pending op)) = Some op
 pending_op _ = None
 
 module _ {Kind Op Shown : Type 0} where
-  abbrev pub node_full : Option (Node Kind Op Shown) → Bool
-  node_full None = false
-  node_full (Some node) = is_full node
-
-  -- one runs here, and may still make a step
-  abbrev pub has_room : Option (Node Kind Op Shown) → Bool
-  has_room None = false
-  has_room (Some node) = not (is_full node)
-
   abbrev pub is_open : ℕ → Option (Node Kind Op Shown) → Bool
   is_open op None = false
   is_open op (Some node) = list_any (λ (o : OpenOperation). o.op == op) node.open_operations
 
   abbrev pub running : World Kind Op Shown → List ℕ
   running world = identities_of world.view
-
-  abbrev pub some_full : World Kind Op Shown → Bool
-  some_full world = list_any (λ i. node_full (world.nodes i)) (running world)
 
   abbrev pub world_of : Section Kind Op Shown → World Kind Op Shown
   world_of s = s.playing.world
@@ -112,6 +100,37 @@ module _ {Kind Op Shown : Type 0} where
   -- and so was each answer of a running member to an operation
   abbrev pub are_answers_heard : Section Kind Op Shown → ℕ → ℕ → Bool
   are_answers_heard s at op = list_all (λ j. not (list_any (answers op) (unheard s j at))) (running (world_of s))
+
+  -- A SECTION FROM ITS FIRST MOVE ON
+
+  -- messages of before the section are not delivered in it
+  abbrev pub opened : Playing Kind Op Shown → List (List (Command Op)) → Section Kind Op Shown
+  opened p clients = record { playing = record p { lines = [] }; clients = map new_client clients; due = λ from to. length (p.world.links from to).messages }
+
+  abbrev pub made_by : Command Op → World Kind Op Shown → Told Op Shown → Made Op Shown
+  made_by command world line =
+      let i = command.at in
+      record { at = i; line = line; sent = λ to. length (world.links i to).messages }
+
+  -- the client after its next command
+  abbrev pub after_command : Client Op Shown → Command Op → List (Command Op) → Playing Kind Op Shown → Client Op Shown
+  after_command client command rest p = record { to_come = rest; made = client.made ++ map (made_by command p.world) p.lines; timed_out = false }
+
+  abbrev pub with_client : Section Kind Op Shown → ℕ → Client Op Shown → Playing Kind Op Shown → Section Kind Op Shown
+  with_client s c client p = record s { playing = record p { lines = [] }; clients = slice_set s.clients c client }
+
+module _ {Kind Op Shown : Type 0} (D : Replication Kind Op Shown) where
+  abbrev pub node_full : Option (Node Kind Op Shown) → Bool
+  node_full None = false
+  node_full (Some node) = is_full D node
+
+  -- one runs here, and may still make a step
+  abbrev pub has_room : Option (Node Kind Op Shown) → Bool
+  has_room None = false
+  has_room (Some node) = not (is_full D node)
+
+  abbrev pub some_full : World Kind Op Shown → Bool
+  some_full world = list_any (λ i. node_full (world.nodes i)) (running world)
 
   -- WHEN A CLIENT GOES ON
 
@@ -163,25 +182,8 @@ module _ {Kind Op Shown : Type 0} where
   abbrev pub is_over : Section Kind Op Shown → Bool
   is_over s = list_all (λ (client : Client Op Shown). (length client.to_come == 0) && goes_on s (last_of client.made)) s.clients
 
-  -- A SECTION FROM ITS FIRST MOVE ON
+  -- WHAT A MOVE DOES
 
-  -- messages of before the section are not delivered in it
-  abbrev pub opened : Playing Kind Op Shown → List (List (Command Op)) → Section Kind Op Shown
-  opened p clients = record { playing = record p { lines = [] }; clients = map new_client clients; due = λ from to. length (p.world.links from to).messages }
-
-  abbrev pub made_by : Command Op → World Kind Op Shown → Told Op Shown → Made Op Shown
-  made_by command world line =
-      let i = command.at in
-      record { at = i; line = line; sent = λ to. length (world.links i to).messages }
-
-  -- the client after its next command
-  abbrev pub after_command : Client Op Shown → Command Op → List (Command Op) → Playing Kind Op Shown → Client Op Shown
-  after_command client command rest p = record { to_come = rest; made = client.made ++ map (made_by command p.world) p.lines; timed_out = false }
-
-  abbrev pub with_client : Section Kind Op Shown → ℕ → Client Op Shown → Playing Kind Op Shown → Section Kind Op Shown
-  with_client s c client p = record s { playing = record p { lines = [] }; clients = slice_set s.clients c client }
-
-module _ {Kind Op Shown : Type 0} (D : Replication Kind Op Shown) where
   abbrev pub commanded_by : Section Kind Op Shown → ℕ → Client Op Shown → List (Command Op) → Section Kind Op Shown
   commanded_by s c client [] = s
   commanded_by s c client (command ∷ rest) = let p = played D s.playing (step_of command) in with_client s c (after_command client command rest p) p

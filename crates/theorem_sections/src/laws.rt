@@ -45,7 +45,7 @@ pub fn calls_stand_once<Kind, Operation, Shown>()
 /// whose end no running member is full, each operation that a client's command opened finishes, and its line tells how.
 pub fn client_operations_finish<Kind, Operation, Shown>()
     ensures { (D : Replication Kind Operation Shown) (members : ℕ) (keys : List (KeyDecl Kind)) (before : Playing Kind Operation Shown) → IsRun D members keys before.events before.world
-        → (clients : List (List (Command Operation))) (moves : List Move) (end : Section Kind Operation Shown) → IsSection D before clients moves end → IsUndisturbed before end → AllFinish before end }
+        → (clients : List (List (Command Operation))) (moves : List Move) (end : Section Kind Operation Shown) → IsSection D before clients moves end → IsUndisturbed D before end → AllFinish before end }
 {}
 
 /// The quorum theorem of a run that may have clients, by the lines of its report: while membership stays unchanged, a

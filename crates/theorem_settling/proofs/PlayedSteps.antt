@@ -117,7 +117,7 @@ module _ {Kind Op Shown : Type 0} (D : Replication Kind Op Shown) (members : ℕ
         makes = ByInput refl;
         does = record {
           event = InputAt i input r.fate;
-          lawful = (is_given, record { node = node; runs = runs; has_room = is_false (is_full node) room; fate_fits = r.fits });
+          lawful = (is_given, record { node = node; runs = runs; has_room = is_false (is_full D node) room; fate_fits = r.fits });
           keeps = tt;
           world = r.world;
           events = r.events;
@@ -146,7 +146,7 @@ module _ {Kind Op Shown : Type 0} (D : Replication Kind Op Shown) (members : ℕ
         makes = ByDelivery from index message refl sent refl;
         does = record {
           event = Delivery from to index r.fate;
-          lawful = (message, sent, record { node = node; runs = runs; has_room = is_false (is_full node) room; fate_fits = r.fits });
+          lawful = (message, sent, record { node = node; runs = runs; has_room = is_false (is_full D node) room; fate_fits = r.fits });
           keeps = tt;
           world = r.world;
           events = r.events;

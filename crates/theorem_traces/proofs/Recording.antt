@@ -54,11 +54,11 @@ module _ {Kind Op Shown : Type 0} (D : Replication Kind Op Shown) where
       → ((answer : Answer Shown) → IsPlainAnswer answer → P (told p head answer)) → ((q : Playing Kind Op Shown) → IsInput p q head i input → P q) → P (given D p head (InputAt i input))
   input_case P p head i input is_given plain takes = by_turn (turn_of p.world (InputAt i input NoStore)) refl
     where
-      by_turn : (o : Option (Turn Kind Op Shown)) → turn_of p.world (InputAt i input NoStore) ≡ o → P (elim o [ None ↦ told p head Gone | Some turn ↦ if is_full turn.before then told p head HistoryFull else take_turn D p head (InputAt i input) turn ])
+      by_turn : (o : Option (Turn Kind Op Shown)) → turn_of p.world (InputAt i input NoStore) ≡ o → P (elim o [ None ↦ told p head Gone | Some turn ↦ if is_full D turn.before then told p head HistoryFull else take_turn D p head (InputAt i input) turn ])
       by_turn None e = plain Gone tt
       by_turn (Some turn) e =
           let t = turn_at_is D p.world i input NoStore turn e in
-          if_tells P (is_full turn.before) (told p head HistoryFull) (take_turn D p head (InputAt i input) turn) (λ full. plain HistoryFull tt)
+          if_tells P (is_full D turn.before) (told p head HistoryFull) (take_turn D p head (InputAt i input) turn) (λ full. plain HistoryFull tt)
           (λ room.
           let taken = turn_taken D p head (InputAt i input) turn in
           let output : output_of D p.world (InputAt i input taken.fate) ≡ Some (step D turn.before input taken.fate).output =

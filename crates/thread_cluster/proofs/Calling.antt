@@ -40,7 +40,7 @@ stopped_not_view (Refused step.Memory) e = absurd cc
 stopped_not_view Memory e = absurd cc
 
 module _ {T K Kind Op Delta I F O : Type 0} {data_of : Data T Kind Op Delta} {keeping : Keeping K} (meaning : Ghosts (Node T K Kind Op Delta data_of keeping) I F O StepError)
-    (full_steps : (m : Node T K Kind Op Delta data_of keeping) (i : I) → meaning.MayRefuse m i step.HistoryFull → m.steps ≡ 16384) where
+    (full_steps : (m : Node T K Kind Op Delta data_of keeping) (i : I) → meaning.MayRefuse m i step.HistoryFull → m.steps ≡ m.limit) where
   made_all : (p : ℕ) (input : I) (session : ClientParts (Node T K Kind Op Delta data_of keeping) I F O StepError) → IsRefusedAt meaning p input session step.HistoryFull → HasMadeAll meaning p session
   made_all p input session r = record { start = r.start; starts = r.starts; now = r.now; replays = r.replays; steps = full_steps r.now input r.may }
 
@@ -124,7 +124,7 @@ module _ {T K Kind Op Delta F O : Type 0} {data_of : Data T Kind Op Delta} {keep
   }
 
 module _ {T K Kind Op Delta F : Type 0} {data_of : Data T Kind Op Delta} {keeping : Keeping K} (meaning : Ghosts (Node T K Kind Op Delta data_of keeping) (Input T Kind Op Delta data_of) F (Output T Kind Op Delta data_of) StepError)
-    (full_steps : (m : Node T K Kind Op Delta data_of keeping) (i : Input T Kind Op Delta data_of) → meaning.MayRefuse m i step.HistoryFull → m.steps ≡ 16384) (ids : ℕ → Option ℕ)
+    (full_steps : (m : Node T K Kind Op Delta data_of keeping) (i : Input T Kind Op Delta data_of) → meaning.MayRefuse m i step.HistoryFull → m.steps ≡ m.limit) (ids : ℕ → Option ℕ)
     (session : ClientParts (Node T K Kind Op Delta data_of keeping) (Input T Kind Op Delta data_of) F (Output T Kind Op Delta data_of) StepError) where
   pub full_somewhere : (error : CellError StepError) → IsCauseSomewhere meaning messages_of (λ id (output : Output T Kind Op Delta data_of). messages_to id output.posts) ids session error → stopped error ≡ call.HistoryFull → IsFullSomewhere meaning ids session
   full_somewhere CellFull cause e = record { place = cause.place; full = inl cause.full; sender = cause.sender; unheard = cause.unheard }

@@ -35,13 +35,13 @@ stopped (Refused step.Memory) = call.Memory
 stopped Memory = call.Memory
 
 module _ {T K Kind Op Delta I F O : Type 0} {data_of : Data T Kind Op Delta} {keeping : Keeping K} (meaning : Ghosts (Node T K Kind Op Delta data_of keeping) I F O StepError) where
-  -- the member of the place, after the history that the session knows, has made as many steps as a member may
+  -- the member of the place, after the history that the session knows, has made all its steps
   pub record HasMadeAll (p : ℕ) (session : ClientParts (Node T K Kind Op Delta data_of keeping) I F O StepError) : Type 0 where
     pub start : Node T K Kind Op Delta data_of keeping
     pub starts : StartsAt p session.seen.began start
     pub now : Node T K Kind Op Delta data_of keeping
     pub replays : Replays meaning start (at session.seen.known p) now
-    pub steps : now.steps ≡ 16384
+    pub steps : now.steps ≡ now.limit
 
   -- the history there is full, as far as the session knows, or the member makes no more steps
   abbrev pub IsFullThere : ℕ → ClientParts (Node T K Kind Op Delta data_of keeping) I F O StepError → Type 0

@@ -13,7 +13,7 @@
 //! - Refused, the session's calls stay. `Gone` comes exactly where no member has the identity, and
 //!   `NoSuchView` from an install alone, exactly where a member has the identity and the list lacks
 //!   the number. `HistoryFull` comes only where the history there has 16,384 entries or the member
-//!   made as many steps, as the session then knows (the same calls, clauses `call`, `install`,
+//!   made all its steps, as the session then knows (the same calls, clauses `call`, `install`,
 //!   `no_view`).
 //! - A turn that is answered `n`: each message of one member to another that stands in a history
 //!   which the session knew before is taken by its receiver in what the session knows then, at the

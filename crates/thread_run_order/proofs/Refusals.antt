@@ -23,7 +23,7 @@ use Rattle.world_members.specs.declared.world.World.{World}
 use Rattle.world_members.specs.Places.{item_at, identity_at, seat_of}
 use Rattle.world_members.specs.Ways.{Means}
 use Rattle.world_members.proofs.Seats.{item-set_same, item-set_other}
-use Rattle.world_members.proofs.Entering.{refused_world, refused_means, same_id, changes_with, links_with}
+use Rattle.world_members.proofs.Entering.{refused_world, refused_means, same_id, same_limit, changes_with, links_with}
 use Rattle.thread_run_order.specs.Images.{EntryOf}
 use Rattle.thread_run_order.proofs.Forward.{Goes}
 use Rattle.thread_run_order.proofs.Forward.Goes.{ends, refuses, steps}
@@ -75,7 +75,8 @@ module _ {T K Kind Delta : Type 0} {ghosts : Ghosts T Kind Op Delta} {keeping : 
         let sound_here = sound_in w same in
         let seat = seat_in w same place i here in
         let id = same_id spelling alike w i place now next was unchanged sound_here seat in
-        let c = changes_with w place now next was id i w.links sound_here seat in
+        let limit = same_limit spelling alike w i place now next was unchanged sound_here seat in
+        let c = changes_with w place now next was id limit i w.links sound_here seat in
         record {
           world = refused_world spelling alike w i place now next was unchanged sound_here seat;
           means = refused_means spelling alike w i place now next was unchanged sound_here seat kinds members decls p m;
@@ -83,7 +84,7 @@ module _ {T K Kind Delta : Type 0} {ghosts : Ghosts T Kind Op Delta} {keeping : 
             views = c.views;
             keys = c.keys;
             spare = c.spare;
-            links = links_with w place now next was id w.links;
+            links = links_with w place now next was id limit w.links;
             others = λ j other. ap (λ xs. item_at xs j) c.nodes ∙ item-set_other w.nodes.items place j (Some next) other;
           };
           is = ap (λ xs. item_at xs place) c.nodes ∙ item-set_same w.nodes.items place (Some next) c.within;

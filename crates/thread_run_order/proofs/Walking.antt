@@ -296,13 +296,13 @@ module _ {T K Kind Delta : Type 0} {ghosts : Ghosts T Kind Op Delta} {keeping : 
     module _ (change : ℕ → ℕ → Channel X → Channel X) where
       -- the world after it
       abbrev new : World T K Kind Op Delta ghosts keeping
-      new = with_member old x.place at_step.before at_step.next at_step.came.is makes.identity (over change old.links)
+      new = with_member old x.place at_step.before at_step.next at_step.came.is makes.identity makes.limit (over change old.links)
 
       abbrev changes : ChangesAt i x.place at_step.before at_step.next old new
-      changes = changes_with old x.place at_step.before at_step.next at_step.came.is makes.identity i (over change old.links) (sound_in spelling alike meaning unchanged_are kinds members decls p views sound old old_views) (seat_in spelling alike meaning unchanged_are kinds members decls p views sound old old_views x.place i here)
+      changes = changes_with old x.place at_step.before at_step.next at_step.came.is makes.identity makes.limit i (over change old.links) (sound_in spelling alike meaning unchanged_are kinds members decls p views sound old old_views) (seat_in spelling alike meaning unchanged_are kinds members decls p views sound old old_views x.place i here)
 
       new_links : (a b : ℕ) → channel_at new.links a b ≡ option_map (change a b) (channel_at old.links a b)
-      new_links a b = ap (λ links. channel_at links a b) (links_with old x.place at_step.before at_step.next at_step.came.is makes.identity (over change old.links)) ∙ channel_over change old.links a b
+      new_links a b = ap (λ links. channel_at links a b) (links_with old x.place at_step.before at_step.next at_step.came.is makes.identity makes.limit (over change old.links)) ∙ channel_over change old.links a b
 
       from_before : (a b : ℕ) → channel_at new.links a b ≡ option_map (change a b) (channel_at w.links a b)
       from_before a b = new_links a b ∙ ap (λ links. option_map (change a b) (channel_at links a b)) at_step.came.but.links

@@ -198,6 +198,7 @@ module _ {T K Kind Delta I F O R : Type 0} {data_of : Data T Kind Op Delta} {kee
         subst (λ vs. ArePlaced vs members spare.items) (sym views_are) (subst (λ (s : Vec (Option K) Global). ArePlaced world.views members s.items) (sym spare_is) (record {
           identities = λ place less. ap (option_map (λ (node : Node T K Kind Op Delta data_of keeping). node.id)) (members_are place) ∙ world.seated.members place less;
           spares = λ place less. world.seated.spares place less ∙ ap (λ o. not (is_some o)) (sym (members_are place));
+          limits = λ place less node is. world.seated.limits place less node (sym (members_are place) ∙ is);
         }))
 
     pub back_as_before : (keepers : List K) → ((place : ℕ) → slice_get keepers place ≡ first_keeper (machine_at members place) (item_at spare.items place)) → GivesBack world keepers

@@ -13,7 +13,7 @@ use Rattle.model_members.specs.Message.{Post}
 use Rattle.model_members.specs.Node as nodes
 use Rattle.model_members.specs.Script as script
 use Rattle.model_members.specs.World as worlds
-use Rattle.theorem_sections.specs.Sections.{node_full, finished_at, is_open, pending_op, ending_by, ending_of, Ending, Line}
+use Rattle.theorem_sections.specs.Sections.{finished_at, is_open, pending_op, ending_by, ending_of, Ending, Line}
 use Rattle.theorem_sections.specs.Histories as model
 use Rattle.theorem_sections.specs.Paths.{head_of}
 use Rattle.theorem_sections.specs.Knowing.{member_after}

@@ -8,6 +8,7 @@ pub mod Commands
 pub mod Steps
 pub mod Made
 pub mod Walked
+pub mod Limits
 pub mod Settled
 pub mod Assembled
 pub mod Kept

@@ -36,6 +36,7 @@ use Rattle.thread_run_order.specs.Runs.{answers_in}
 use Rattle.thread_section.specs.declared.giving.Rest.{Rest}
 use Rattle.thread_section.specs.Worlds.{HasRun, HaveRun, WasMadeOf}
 use Rattle.thread_section.proofs.Kept.{keeps_along}
+use Rattle.thread_section.proofs.Limits.{limit_at}
 
 module _ {M I F O R : Type 0} (meaning : Machine M I F O R) where
   pub has_run_some : (p : ℕ) (opening : Opening M I F O R) (began : Option (Opening M I F O R)) (history : List (Entry M I F O R)) (machine : M) → began ≡ Some opening → Began meaning p began history machine → HasRun meaning (machine_at opening.machines p) (Some machine)
@@ -127,6 +128,7 @@ module _ {T K Kind Delta : Type 0} {ghosts : Ghosts T Kind Op Delta} {keeping : 
   placed_after views starts nows spare run placed = record {
     identities = λ place less. id_at (machine_at starts place) (machine_at nows place) (run.each place) ∙ placed.identities place less;
     spares = λ place less. placed.spares place less ∙ ap not (sym (same_there meaning (machine_at starts place) (machine_at nows place) (run.each place)));
+    limits = λ place less. limit_at spelling meaning steps_are unchanged_are (machine_at starts place) (machine_at nows place) (run.each place) (placed.limits place less);
   }
 
   -- THE SAME KEEPERS

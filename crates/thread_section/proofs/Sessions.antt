@@ -34,6 +34,7 @@ use Rattle.member_node.specs.declared.reply.Output.{Output}
 use Rattle.member_node.specs.declared.reply.StepError.{StepError}
 use Rattle.member_node.specs.Counting.{LooksAt}
 use Rattle.member_node.specs.Members.{StandsForNode}
+use Rattle.member_node.specs.Replies.{program_steps}
 use Rattle.member_node.specs.Steps.{replication}
 use Rattle.thread_cluster.specs.Messages.{Looks}
 use Rattle.thread_cluster.specs.Knowing.{GoesOn, StartsAt, IsShownBy}
@@ -67,7 +68,8 @@ module _ {T K Kind Delta : Type 0} {ghosts : Ghosts T Kind Op Delta} {keeping : 
     pub few : (p : ℕ) → length (h p) ≤ 16384
     pub stand : (p i count : ℕ) (start now : Member) → ids p ≡ Some i → machine_at opening.machines p ≡ Some start → count ≤ length (h p)
         → Replays meaning start (take count (h p)) now → StandsAfter histories i count now
-    pub full : (p : ℕ) → length (h p) ≡ 16384 → (i : ℕ) × (ids p ≡ Some i) × (node_full (member_after (replication ghosts spelling) world histories i 16384) ≡ true)
+    pub limits : (p : ℕ) (start now : Member) (es : List (EntryOf ghosts keeping)) → machine_at opening.machines p ≡ Some start → Replays meaning start es now → now.limit ≡ program_steps
+    pub full : (p : ℕ) → length (h p) ≡ 16384 → (i : ℕ) × (ids p ≡ Some i) × (node_full (replication ghosts spelling) (member_after (replication ghosts spelling) world histories i 16384) ≡ true)
 
   module _ (h : ℕ → List (EntryOf ghosts keeping)) (histories : ℕ → List (model.Entry Op Shown)) (settled : IsSettled h histories) where
     abbrev pub known_in : Session → ℕ → ℕ
@@ -117,8 +119,8 @@ module _ {T K Kind Delta : Type 0} {ghosts : Ghosts T Kind Op Delta} {keeping : 
 
     -- FULL MEMBERS
 
-    is_full_by : (i count : ℕ) (now : Member) → StandsAfter histories i count now → now.steps ≡ 16384 → node_full (member_after (replication ghosts spelling) world histories i count) ≡ true
-    is_full_by i count now stands all = ap (λ o. node_full o) stands.member_is ∙ (Decides-eqb stands.member.steps 16384).1 (stands.stands.steps ∙ all)
+    is_full_by : (i count : ℕ) (now : Member) → StandsAfter histories i count now → now.steps ≡ program_steps → node_full (replication ghosts spelling) (member_after (replication ghosts spelling) world histories i count) ≡ true
+    is_full_by i count now stands all = ap (λ o. node_full (replication ghosts spelling) o) stands.member_is ∙ (Decides-eqb stands.member.steps program_steps).1 (stands.stands.steps ∙ all)
 
     full_there : (client p : ℕ) (s : Session) → IsOf client s → IsFullThere meaning p s → (i : ℕ) × (ids p ≡ Some i) × IsKnownFull (replication ghosts spelling) world histories i (known_in s)
     full_there client p s is (inl full) =
@@ -131,7 +133,8 @@ module _ {T K Kind Delta : Type 0} {ghosts : Ghosts T Kind Op Delta} {keeping : 
     full_there client p s is (inr made) =
         let started = start_of client p s made.start is made.starts in
         let it = settled.began p made.start started in
-        (it.0, it.1, (known_in s it.0, omega arith, is_full_by it.0 (known_in s it.0) made.now (stands_known client p it.0 s made.start made.now is it.1 started made.replays) made.steps))
+        let all = made.steps ∙ settled.limits p made.start made.now (at s.seen.known p) started made.replays in
+        (it.0, it.1, (known_in s it.0, omega arith, is_full_by it.0 (known_in s it.0) made.now (stands_known client p it.0 s made.start made.now is it.1 started made.replays) all))
 
     pub full_at : (client i : ℕ) (s : Session) → IsOf client s → IsFullAt meaning ids i s → IsKnownFull (replication ghosts spelling) world histories i (known_in s)
     full_at client i s is full =

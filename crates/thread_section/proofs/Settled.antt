@@ -33,6 +33,7 @@ use Rattle.member_node.specs.declared.node.Node.{Node}
 use Rattle.member_node.specs.declared.reply.Fate.{Fate}
 use Rattle.member_node.specs.declared.reply.Output.{Output}
 use Rattle.member_node.specs.declared.reply.StepError.{StepError}
+use Rattle.member_node.specs.Replies.{program_steps}
 use Rattle.member_node.specs.Steps.{replication, IsStepOf, IsUnchanged}
 use Rattle.world_members.specs.declared.world.World.{World}
 use Rattle.world_members.specs.Places.{item_at, identity_at}
@@ -49,6 +50,7 @@ use Rattle.thread_run_order.proofs.Following.{images_by_place}
 use Rattle.thread_section.proofs.Sights.{IsGround}
 use Rattle.thread_section.proofs.Sessions.{IsSettled, StandsAfter}
 use Rattle.thread_section.proofs.Lasting.{AreBelow}
+use Rattle.thread_section.proofs.Limits.{limit_along}
 
 take_all : {X : Type 0} (xs : List X) → take (length xs) xs ≡ xs
 take_all [] = refl
@@ -93,15 +95,13 @@ module _ {T K Kind Delta : Type 0} {ghosts : Ghosts T Kind Op Delta} {keeping : 
       let c = length-append es (e ∷ []) in
       omega (arith, a, b, c)
 
-  pub few_steps : (first now : Member) (es : List (EntryOf ghosts keeping)) → Replays meaning first es now → (length es ≡ 0) ⊎ (now.steps ≤ 16384)
-  few_steps first now _ (begins _) = inl refl
-  few_steps first now es (refused _ before _ _ replays u) =
-      ⊎_elim (λ (none : length es ≡ 0). inl none) (λ (few : before.steps ≤ 16384). inr (let b = same_steps before now (unchanged_are before now u) in omega (arith, few, b))) (few_steps first before es replays)
-  few_steps first now _ (stepped _ before _ es e replays s) = let made = steps_are before e.input e.fate e.output now s in inr (let a = made.had_room in let b = made.counted in omega (arith, a, b))
-
-  few_entries : (first now : Member) (es : List (EntryOf ghosts keeping)) → Replays meaning first es now → length es ≤ 16384
+  -- it makes no more than its limit
+  few_entries : (first now : Member) (es : List (EntryOf ghosts keeping)) → Replays meaning first es now → length es ≤ first.limit
   few_entries first now es replays =
-      ⊎_elim (λ (none : length es ≡ 0). omega (arith, none)) (λ (few : now.steps ≤ 16384). let a = counts_steps first now es replays in omega (arith, few, a)) (few_steps first now es replays)
+      let a = counts_steps first now es replays in
+      let b = now.few_steps in
+      let c = limit_along spelling meaning steps_are unchanged_are first now es replays in
+      omega (arith, a, b, c)
 
   module _ (kinds : Text → Kind) (members : ℕ) (decls : List (nodes.KeyDecl Kind)) (p : Playing Kind Op Shown) (world : World T K Kind Op Delta ghosts keeping) (m : Means spelling kinds members decls p world) (sound : IsView (last_view world.views))
       (opening : Opening (Node T K Kind Op Delta ghosts keeping) (Input T Kind Op Delta ghosts) Fate (Output T Kind Op Delta ghosts) StepError) (starts : (place : ℕ) → machine_at opening.machines place ≡ item_at world.nodes.items place)
@@ -140,11 +140,14 @@ module _ {T K Kind Delta : Type 0} {ghosts : Ghosts T Kind Op Delta} {keeping : 
         }
 
     -- a place that has a member
+    small_at : (place : ℕ) (member : Member) → item_at world.nodes.items place ≡ Some member → place < 8
+    small_at place member is = let l = item_within world.nodes.items place member is in let c = world.eight_nodes in let d = world.nodes.ok.0 in omega (arith, l, c, d)
+
     seat_of_member : (place : ℕ) (member : Member) → item_at world.nodes.items place ≡ Some member → (i : ℕ) × (ids place ≡ Some i)
-    seat_of_member place member is = (member.id, sym (world.seated.members place small) ∙ ap (option_map (λ (node : Member). node.id)) is)
-      where
-        small : place < 8
-        small = let l = item_within world.nodes.items place member is in let c = world.eight_nodes in let d = world.nodes.ok.0 in omega (arith, l, c, d)
+    seat_of_member place member is = (member.id, sym (world.seated.members place (small_at place member is)) ∙ ap (option_map (λ (node : Member). node.id)) is)
+
+    limit_of_member : (place : ℕ) (member : Member) → item_at world.nodes.items place ≡ Some member → member.limit ≡ program_steps
+    limit_of_member place member is = world.seated.limits place (small_at place member is) member is
 
     -- the member of a place that has entries, and what it is at the end
     pub record Ran (place : ℕ) : Type 0 where
@@ -161,25 +164,40 @@ module _ {T K Kind Delta : Type 0} {ghosts : Ghosts T Kind Op Delta} {keeping : 
         by (Some first) is = let e = (section.ends place).replay first is in inl (record { first = first; first_is = is; now = e.0; replays = e.2.replays })
 
     few : (place : ℕ) → length (h place) ≤ 16384
-    few place = ⊎_elim (λ (r : Ran place). few_entries r.first r.now (h place) r.replays) (λ (none : h place ≡ []). let a = ap length none in omega (arith, a)) (ran_or_none place)
+    few place = ⊎_elim
+        (λ (r : Ran place).
+        let a = few_entries r.first r.now (h place) r.replays in
+        let b = limit_of_member place r.first r.first_is in
+        omega (arith, a, b))
+        (λ (none : h place ≡ []). let a = ap length none in omega (arith, a)) (ran_or_none place)
 
     stand : (place i count : ℕ) (first now : Member) → ids place ≡ Some i → machine_at opening.machines place ≡ Some first → count ≤ length (h place) → Replays meaning first (take count (h place)) now → StandsAfter spelling meaning p.world ids opening histories i count now
     stand place i count first now here began short replays =
         let s = one.stand place i count first now here (sym (starts place) ∙ began) replays in
         record { kinds = kinds; logs = one.logs; member = s.member; member_is = s.member_is; stands = s.stands }
 
-    full : (place : ℕ) → length (h place) ≡ 16384 → (i : ℕ) × (ids place ≡ Some i) × (node_full (member_after D' p.world histories i 16384) ≡ true)
+    full : (place : ℕ) → length (h place) ≡ 16384 → (i : ℕ) × (ids place ≡ Some i) × (node_full D' (member_after D' p.world histories i 16384) ≡ true)
     full place long = ⊎_elim by (λ (none : h place ≡ []). absurd (let a = ap length none in omega (arith, a, long))) (ran_or_none place)
       where
-        by : Ran place → (i : ℕ) × (ids place ≡ Some i) × (node_full (member_after D' p.world histories i 16384) ≡ true)
+        by : Ran place → (i : ℕ) × (ids place ≡ Some i) × (node_full D' (member_after D' p.world histories i 16384) ≡ true)
         by r =
             let seat = seat_of_member place r.first r.first_is in
             let whole : take 16384 (h place) ≡ h place = subst (λ n. take n (h place) ≡ h place) long (take_all (h place)) in
             let s = one.stand place seat.0 16384 r.first r.now seat.1 r.first_is (subst (λ es. Replays meaning r.first es r.now) (sym whole) r.replays) in
-            let all : r.now.steps ≡ 16384 =
+            let all : r.now.steps ≡ program_steps =
             (let a = counts_steps r.first r.now (h place) r.replays in
-            ⊎_elim (λ (none : length (h place) ≡ 0). absurd (omega (arith, none, long))) (λ (few : r.now.steps ≤ 16384). omega (arith, a, few, long)) (few_steps r.first r.now (h place) r.replays)) in
-            (seat.0, seat.1, ap (λ o. node_full o) s.member_is ∙ (Decides-eqb s.member.steps 16384).1 (s.stands.steps ∙ all))
+            let b = r.now.few_steps in
+            let c = limit_along spelling meaning steps_are unchanged_are r.first r.now (h place) r.replays ∙ limit_of_member place r.first r.first_is in
+            omega (arith, a, b, c, long)) in
+            (seat.0, seat.1, ap (λ o. node_full D' o) s.member_is ∙ (Decides-eqb s.member.steps program_steps).1 (s.stands.steps ∙ all))
 
     pub settled_by : IsSettled spelling meaning p.world ids opening h histories
-    settled_by = record { ground = ground; began = λ place first is. seat_of_member place first (sym (starts place) ∙ is); few = few; stand = stand; full = full }
+    settled_by =
+        record {
+          ground = ground;
+          began = λ place first is. seat_of_member place first (sym (starts place) ∙ is);
+          few = few;
+          stand = stand;
+          limits = λ place first now es is replays. limit_along spelling meaning steps_are unchanged_are first now es replays ∙ limit_of_member place first (sym (starts place) ∙ is);
+          full = full;
+        }

@@ -6,7 +6,7 @@ use Rattle.model_members.specs.View.{View, is_member}
 use Rattle.model_members.specs.DataType.{Replication}
 use Rattle.model_members.specs.Node as nodes
 use Rattle.model_members.specs.World as worlds
-use Rattle.theorem_sections.specs.Sections.{node_full, finished_at, is_open, pending_op, ending_of, Ending, Line}
+use Rattle.theorem_sections.specs.Sections.{finished_at, is_open, ending_of}
 use Rattle.theorem_sections.specs.Histories as model
 use Rattle.theorem_sections.specs.Knowing.{KnownStep, member_after, IsKnownBy, KnowsFull, KnowsHeard, KnowsAnswered, KnowsEnded, IsUnfinished, KnowsGivenUp, TimesOutKnown, EndsByTimeout}
 use Rattle.theorem_sections.proofs.Standing.{closed_after}

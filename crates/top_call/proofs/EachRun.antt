@@ -21,6 +21,7 @@ use Rattle.theorem_sections.proofs.Sectioned.{all_run}
 use Rattle.theorem_settling.specs.Settling.{BlockedStays, settle_answer}
 use Rattle.theorem_settling.proofs.Settled.{leaves_settled, sends_few, counts_blocked}
 use Rattle.theorem_digests.proofs.ByDigests.{distinct_tell}
+use Rattle.theorem_digests.proofs.FewRecords.{makes_few}
 use Rattle.theorem_settling_kinds.proofs.SixKindsBlocked.{six_stay}
 use Rattle.report_lines.proofs.SectionEnds.{all_quiet}
 use Rattle.top_call.specs.EachRun.{Lines, SettlesAreSo, TellsSettle, IsSeen, ReadsIncludeWrites, settle_told, six}
@@ -66,7 +67,7 @@ module _ (answers : KeeperAnswers) (members : ℕ) (keys : List (KeyDecl Kind)) 
         few = λ messages blocked answer. sends_few six members keys p is_run messages blocked answer;
         second_number = λ messages blocked answer. counts_blocked six members keys p is_run messages blocked answer;
         settled = λ messages blocked answer distinct.
-            leaves_settled six members keys p is_run messages blocked answer (distinct_tell six history_byte history_spelled refl members keys (settle six p).events (settle six p).world ends distinct) six_stays;
+            leaves_settled six members keys p is_run messages blocked answer (distinct_tell six (makes_few six refl) history_byte history_spelled refl members keys (settle six p).events (settle six p).world ends distinct) six_stays;
       }
 
   pub tells_settle : (front rest : List (RunStep Op)) → AllByRecursion IsRunStep front → (lines : Lines) (last : Playing Kind Op Shown) → PlaysAll six (opening answers members keys) (front ++ RunStep.Plain ScriptStep.Settle ∷ rest) lines last → TellsSettle members keys answers front rest lines last

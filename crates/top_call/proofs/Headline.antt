@@ -15,6 +15,7 @@ use Rattle.theorem_sections.specs.Seen.{stands_before}
 use Rattle.theorem_sections.proofs.SeenMoments.{before_runs}
 use Rattle.theorem_digests.specs.Digests.{DistinctDigests}
 use Rattle.theorem_digests.proofs.ByDigests.{distinct_tell}
+use Rattle.theorem_digests.proofs.FewRecords.{makes_few}
 use Rattle.theorem_headline.specs.Headline.{TheHeadline}
 use Rattle.theorem_headline.proofs.HeadlineOfRuns.{headline}
 use Rattle.top_call.specs.EachRun.{Lines, six}
@@ -39,7 +40,7 @@ headline_of_six answers members keys steps some few ok lines last plays =
           record {
             few = leaves.few;
             second_number = leaves.second_number;
-            settled = λ distinct. leaves.settled (distinct_tell six history_byte history_spelled refl members keys after.events after.world is_run distinct);
+            settled = λ distinct. leaves.settled (distinct_tell six (makes_few six refl) history_byte history_spelled refl members keys after.events after.world is_run distinct);
           };
       calls = h.calls;
       refused = h.refused;

@@ -11,15 +11,20 @@ use Rattle.member_node.specs.declared.node.Node.{Node}
 use Rattle.member_node.specs.declared.input.Input.{Input}
 use Rattle.member_node.specs.declared.reply.Output.{Output}
 use Rattle.member_node.specs.Steps.{MakesStep, IsUnchanged}
+use Rattle.member_node.specs.Forgetting.{IsOtherwiseAlike, StandsForgetting}
 use Rattle.top_lines.specs.declared.refusal.Refusal.{Refusal}
 use Rattle.top_lines.specs.Asking.{Asks}
 use Rattle.top_lines.specs.Texts.{refusal_line, full_line, output_text}
 
 module _ {T Delta K : Type 0} {ghosts : Ghosts T Kind Op Delta} {keeping : Keeping K} (spelling : Spelling T Kind Op Delta) (deltas : DeltaSpelling T Kind Op Delta) where
+  -- how the first operations ended is forgotten, once it was told; the member stands for the model's without that
+  abbrev pub Forgets : (mid new : Node T K Kind Op Delta ghosts keeping) → Type 0
+  Forgets mid new = IsOtherwiseAlike mid new × StandsForgetting mid new
+
   -- what an input does: the member's step, or nothing where it is full
   pub data Makes (old : Node T K Kind Op Delta ghosts keeping) (input : Input T Kind Op Delta ghosts) (new : Node T K Kind Op Delta ghosts keeping) (text : Text) : Type 0 where
-    made : (output : Output T Kind Op Delta ghosts) → MakesStep spelling old input output new → text ≡ output_text ghosts spelling deltas output → Makes old input new text
-    full : old.steps ≡ 16384 → IsUnchanged old new → text ≡ full_line → Makes old input new text
+    made : (output : Output T Kind Op Delta ghosts) (mid : Node T K Kind Op Delta ghosts keeping) → MakesStep spelling old input output mid → Forgets mid new → text ≡ output_text ghosts spelling deltas output → Makes old input new text
+    full : old.steps ≡ old.limit → IsUnchanged old new → text ≡ full_line → Makes old input new text
 
   -- of a step of which nothing is told, for want of memory: it was not made, or it was
   pub data IsUntold (old : Node T K Kind Op Delta ghosts keeping) (input : Input T Kind Op Delta ghosts) (new : Node T K Kind Op Delta ghosts keeping) : Type 0 where

@@ -67,7 +67,7 @@ fn refused(alloc: Global, refusal: Refusal) -> Result<String, Memory>
     Ok(text)
 }
 
-/// Makes a step of the member, and tells of it.
+/// Makes a step of the member, and tells of it. What operations came to is told by the step that ends them, and then forgotten.
 fn made<T: SpelledDelta<Kind = Kind, Op = Op>, K: Keeper + Drop>(
     alloc: Global,
     member: &mut Node<T, K>,
@@ -79,6 +79,7 @@ fn made<T: SpelledDelta<Kind = Kind, Op = Op>, K: Keeper + Drop>(
         Ok(output) => {
             let mut text = String::new(alloc);
             push_output(alloc, &mut text, &output)?;
+            member.forget(u64::MAX);
             Ok(text)
         }
         Err(StepError::HistoryFull) => Ok(String::from_str(alloc, "history full\n")?),

@@ -4,7 +4,7 @@ use base_vectors::Id;
 use data_value::Data;
 use member_embedding::are_distinct;
 use member_keeper::Keeper;
-use member_node::{FromKeeperError, KeyDecl, Node};
+use member_node::{FromKeeperError, HIGHEST_LIMIT, KeyDecl, Node};
 use member_views::{PLACES, View, ViewList};
 use std::alloc::Global;
 
@@ -33,7 +33,7 @@ pub(crate) fn view_of(alloc: Global, words: &Words) -> Result<View, Ended> {
     }
 }
 
-/// A member of a view with these keys, and with what a keeper has of the durable ones.
+/// A member of a view with these keys, and with what a keeper has of the durable ones. It makes as many steps as one can.
 pub(crate) fn opened<K: Keeper + Drop>(
     alloc: Global,
     keeper: K,
@@ -45,7 +45,7 @@ pub(crate) fn opened<K: Keeper + Drop>(
         return Err(Ended::NoMember);
     }
     match Node::from_keeper(alloc, keeper, id, view, keys) {
-        Ok(member) => Ok(member),
+        Ok(member) => Ok(member.with_limit(HIGHEST_LIMIT)),
         Err(FromKeeperError::Damaged(keeper, key)) => {
             drop(keeper);
             Err(Ended::Damaged(key))

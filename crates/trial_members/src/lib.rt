@@ -1,6 +1,8 @@
-//! Trials of members: random histories in which they update, send, take, leave, install and prune; steps with stores; and marks.
+//! Trials of members: random histories in which they update, send, take, leave, install and prune; steps with stores; marks; and how long a member lives.
 #![tactic(auto)]
 
+#[cfg(test)]
+mod ages;
 #[cfg(test)]
 mod company;
 #[cfg(test)]

@@ -49,7 +49,7 @@ use Rattle.member_node.specs.Steps.{IsUnchanged, replication, IsStepOf, IsImage,
 use Rattle.member_node.specs.declared.key.KeyState.{KeyState}
 use Rattle.member_node.specs.declared.reply.Output.{Output}
 use Rattle.member_node.specs.Keys.{AreDistinct, declared_by}
-use Rattle.member_node.specs.Replies.{meant_fate}
+use Rattle.member_node.specs.Replies.{meant_fate, program_steps}
 use Rattle.member_node.specs.Inputs.{StandsForInput}
 use Rattle.member_node.specs.Members.{StandsForNode, StandsForPosts, IsSafe}
 use Rattle.member_node.specs.Stores.{IsKept}
@@ -79,7 +79,7 @@ use Rattle.world_members.proofs.Lists.{at_one}
 use Rattle.world_members.proofs.Seats.{item_found, seated_set}
 use Rattle.world_members.proofs.Linking.{same_told, links_sent}
 use Rattle.world_members.proofs.Onward.{safe_now, stands_before, way_logs}
-use Rattle.world_members.proofs.Standings.{IsAtWork, at_work_there, place_there, stands_after, keeper_before, gone_there, stands_kept, kept_alike, stays_same, keeper_after, keeper_other}
+use Rattle.world_members.proofs.Standings.{IsAtWork, at_work_there, place_there, stands_after, keeper_before, gone_there, stands_kept, kept_alike, stays_same, keeper_after, keeper_other, limit_before}
 use Rattle.world_members.proofs.Storing.{NamesApart, IsFine, apart_filtered, states_apart, store_stands, not_called_at, becomes_none, not_called}
 use Rattle.world_members.proofs.Telling.{IsEventAt, reaches_told, plays_does, input_at}
 
@@ -101,7 +101,7 @@ wanted : (head : Head) (outcome : Result Answered StepError) (result : Result Li
 wanted head outcome result e told is = subst (λ (r : Result Line Memory). MatchResult r (IsToldAs head outcome) (λ _. outcome ≡ Err failed.Memory)) is told
 
 module _ {T K Kind Op Delta : Type 0} {ghosts : Ghosts T Kind Op Delta} {keeping : Keeping K} (spelling : Spelling T Kind Op Delta) (i place : ℕ) (before after : Node T K Kind Op Delta ghosts keeping) (old new : World T K Kind Op Delta ghosts keeping) (changes : ChangesAt i place before after old new) (head : Head) (outcome : Result Answered StepError)
-    (result : Result Line Memory) (told : MatchResult result (IsToldAs head outcome) (λ _. outcome ≡ Err failed.Memory)) (fills : outcome ≡ Err failed.HistoryFull → before.steps ≡ 16384) (err : OnErr outcome (IsUnchanged before after × (new.links ≡ old.links))) where
+    (result : Result Line Memory) (told : MatchResult result (IsToldAs head outcome) (λ _. outcome ≡ Err failed.Memory)) (fills : outcome ≡ Err failed.HistoryFull → before.steps ≡ before.limit) (err : OnErr outcome (IsUnchanged before after × (new.links ≡ old.links))) where
   abbrev refused : (e : StepError) → outcome ≡ Err e → Refuses i old new
   refused e is =
       let kept = subst (λ (o : Result Answered StepError). OnErr o (IsUnchanged before after × (new.links ≡ old.links))) is err in
@@ -127,8 +127,8 @@ module _ {T K Kind Op Delta : Type 0} {ghosts : Ghosts T Kind Op Delta} {keeping
     pub was_there : item_at old.nodes.items place ≡ Some before
     was_there = item_found old.nodes.items place o (Some before) at.within read is
 
-    pub still_seated : (after : Node T K Kind Op Delta ghosts keeping) → after.id ≡ before.id → AreSeated old.views (set old.nodes.items place (Some after)) old.spare.items
-    still_seated after same = seated_set old.views old.nodes.items old.spare.items old.seated place before after at.within was_there same
+    pub still_seated : (after : Node T K Kind Op Delta ghosts keeping) → after.id ≡ before.id → after.limit ≡ before.limit → AreSeated old.views (set old.nodes.items place (Some after)) old.spare.items
+    still_seated after same limit = seated_set old.views old.nodes.items old.spare.items old.seated place before after at.within was_there same limit
 
 -- what a member took is the message that was there
 pub taken_so : {T K Kind Op Delta : Type 0} {ghosts : Ghosts T Kind Op Delta} {keeping : Keeping K} (spelling : Spelling T Kind Op Delta) (before : Node T K Kind Op Delta ghosts keeping) (from index : ℕ) (after : Node T K Kind Op Delta ghosts keeping) (at : ℕ) (old new : Channels (Message T Kind Op Delta ghosts)) (outcome : Result Answered StepError)
@@ -170,7 +170,7 @@ module _ {Kind Op Shown : Type 0} where
 module _ {Kind Op Shown : Type 0} (D : Replication Kind Op Shown) (p : Playing Kind Op Shown) (head : script.Head Op) (event : Fate → Event Op) where
   -- what a script does with a member's turn, if there is one
   abbrev given_turn : Option (Turn Kind Op Shown) → Playing Kind Op Shown
-  given_turn o = elim o [ None ↦ told p head Gone | Some turn ↦ if is_full turn.before then told p head HistoryFull else take_turn D p head event turn ]
+  given_turn o = elim o [ None ↦ told p head Gone | Some turn ↦ if is_full D turn.before then told p head HistoryFull else take_turn D p head event turn ]
 
   pub given_gone : turn_of p.world (event NoStore) ≡ None → given D p head event ≡ told p head Gone
   given_gone none = ap given_turn none
@@ -179,7 +179,7 @@ module _ {Kind Op Shown : Type 0} (D : Replication Kind Op Shown) (p : Playing K
     abbrev turn : Turn Kind Op Shown
     turn = record { at = i; before = node; input = input; fate = NoStore }
 
-    pub given_full : is_full node ≡ true → given D p head event ≡ told p head HistoryFull
+    pub given_full : is_full D node ≡ true → given D p head event ≡ told p head HistoryFull
     given_full filled = ap given_turn (turns NoStore) ∙ ap (λ (b : Bool). if b then told p head HistoryFull else take_turn D p head event turn) filled
 
     -- the member's step with a fate
@@ -196,7 +196,7 @@ module _ {Kind Op Shown : Type 0} (D : Replication Kind Op Shown) (p : Playing K
     with_lines : (called : Playing Kind Op Shown) (fate : Fate) → taken called fate ≡ did D called (event fate) (line_of head (step D node input fate) ∷ [])
     with_lines called fate = ap (λ o. did D called (event fate) (output_lines D head (option_map (λ (turn : Turn Kind Op Shown). (step_in D turn).output) o))) (turns fate)
 
-    given_taken : is_full node ≡ false → given D p head event ≡ taken_by (nat_lt 0 (length (stores D node input))) (next_answer p (place_of p.world.view i))
+    given_taken : is_full D node ≡ false → given D p head event ≡ taken_by (nat_lt 0 (length (stores D node input))) (next_answer p (place_of p.world.view i))
     given_taken room = ap given_turn (turns NoStore) ∙ ap (λ (b : Bool). if b then told p head HistoryFull else take_turn D p head event turn) room
 
     some_taken : (stored ok : Bool) → (fate : Fate) × (taken_by stored ok ≡ taken_with fate)
@@ -205,7 +205,7 @@ module _ {Kind Op Shown : Type 0} (D : Replication Kind Op Shown) (p : Playing K
     some_taken true false = (StoreFailed, with_lines (with_call p (place_of p.world.view i)) StoreFailed)
 
     -- with some fate
-    pub took_some : is_full node ≡ false → (fate : Fate) × (given D p head event ≡ taken_with fate)
+    pub took_some : is_full D node ≡ false → (fate : Fate) × (given D p head event ≡ taken_with fate)
     took_some room = let s = some_taken (nat_lt 0 (length (stores D node input))) (next_answer p (place_of p.world.view i)) in (s.0, given_taken room ∙ s.1)
 
     fitted : (fate : Fate) → FitsFate D node input fate → IsAnswered fate p (place_of p.world.view i) → taken_by (nat_lt 0 (length (stores D node input))) (next_answer p (place_of p.world.view i)) ≡ taken_with fate
@@ -216,7 +216,7 @@ module _ {Kind Op Shown : Type 0} (D : Replication Kind Op Shown) (p : Playing K
         ap (λ b. taken_by b (next_answer p (place_of p.world.view i))) (some_items (stores D node input) fits) ∙ ap (taken_by true) answered ∙ with_lines (with_call p (place_of p.world.view i)) StoreFailed
 
     -- with the fate that fits, and that the keeper answers
-    pub took : is_full node ≡ false → (fate : Fate) → FitsFate D node input fate → IsAnswered fate p (place_of p.world.view i) → given D p head event ≡ taken_with fate
+    pub took : is_full D node ≡ false → (fate : Fate) → FitsFate D node input fate → IsAnswered fate p (place_of p.world.view i) → given D p head event ≡ taken_with fate
     took room fate fits answered = given_taken room ∙ fitted fate fits answered
 
     pub world_taken : (fate : Fate) → (taken_with fate).world ≡ happens D p.world (event fate)
@@ -339,8 +339,11 @@ module _ {T K Kind Delta : Type 0} {ghosts : Ghosts T Kind Op Delta} {keeping : 
       abbrev node : nodes.Node Kind Op Shown
       node = work.node
 
-      has_room : is_full node ≡ false
-      has_room = elim (eqb_tells node.steps 16384) [ inl e ↦ absurd (let a = work.stands.steps in let b = makes.had_room in let c = e.1 in omega arith) | inr other ↦ other.0 ]
+      pub has_room : is_full D node ≡ false
+      has_room = elim (eqb_tells node.steps program_steps) [
+        | inl e ↦ absurd (let a = work.stands.steps in let b = makes.had_room in let c = e.1 in let d = limit_before i place before after old new changes in omega arith)
+        | inr other ↦ other.0
+      ]
 
       some_fate : (f : Fate) × (next ≡ taken_with D p head event i sent node (at.turns node work.runs) f)
       some_fate = took_some D p head event i sent node (at.turns node work.runs) has_room
@@ -470,12 +473,13 @@ module _ {T K Kind Delta : Type 0} {ghosts : Ghosts T Kind Op Delta} {keeping : 
         reaches_told spelling kinds members decls p new q kept answer.Gone head script.Answer.Gone (is ∙ given_gone (replication ghosts spelling) p head event (at.none (gone_there spelling kinds logged.0 old new p.world now i none)))
         (stays_same spelling old new same kinds members decls p m) is_head refl
 
-    pub reaches_full : (r : Refuses i old new) → r.before.steps ≡ 16384 → Reaches spelling kinds members decls p q (λ k. []) new (record { head = kept; answer = answer.HistoryFull; sent = []; finished = None } ∷ [])
+    pub reaches_full : (r : Refuses i old new) → r.before.steps ≡ r.before.limit → Reaches spelling kinds members decls p q (λ k. []) new (record { head = kept; answer = answer.HistoryFull; sent = []; finished = None } ∷ [])
     reaches_full r steps =
         let logged = way_logs (replication ghosts spelling) members decls p m.run in
         let now = m.stands logged.0 logged.1 in
         let work = at_work_there spelling kinds logged.0 old new p.world now i r.place r.before r.after r.changes in
-        let is_full_now : is_full work.node ≡ true = elim (eqb_tells work.node.steps 16384) [ inl e ↦ e.0 | inr other ↦ absurd (other.1 (work.stands.steps ∙ steps)) ] in
+        let limit = limit_before i r.place r.before r.after old new r.changes in
+        let is_full_now : is_full (replication ghosts spelling) work.node ≡ true = elim (eqb_tells work.node.steps program_steps) [ inl e ↦ e.0 | inr other ↦ absurd (other.1 (work.stands.steps ∙ steps ∙ limit)) ] in
         reaches_told spelling kinds members decls p new q kept answer.HistoryFull head script.Answer.HistoryFull (is ∙ given_full (replication ghosts spelling) p head event i sent work.node (at.turns work.node work.runs) is_full_now)
         (means_refused old new i kinds members decls p r m) is_head refl
 

@@ -60,7 +60,7 @@ use Rattle.world_members.specs.Sending.{messages_to, told_of, AreFew}
 use Rattle.world_members.specs.Standing.{StandsForLink, StandsForWorld}
 use Rattle.world_members.specs.Steps.{Foretells, Reaches}
 use Rattle.world_members.specs.Ways.{IsPrefix, Throughout, Means}
-use Rattle.world_members.proofs.Answering.{means_refused, given_at, image, next_is, reaches_made, answers_of, taken_with, world_taken}
+use Rattle.world_members.proofs.Answering.{means_refused, given_at, has_room, image, next_is, reaches_made, answers_of, taken_with, world_taken}
 use Rattle.world_members.proofs.Asking.{StandsAlways, asked_some, asks_so}
 use Rattle.world_members.proofs.Seats.{seated_set}
 use Rattle.world_members.proofs.Steps.{sent, stands_in, is_head, at_delivery, run_handing, more_handing}
@@ -78,12 +78,12 @@ item_within xs place x is = go (slice_get xs place) refl is
     go None e h = absurd (cc h)
     go (Some y) e h = slice_get_within xs place y e
 
-module _ {T K Kind Op Delta : Type 0} {ghosts : Ghosts T Kind Op Delta} {keeping : Keeping K} (old : World T K Kind Op Delta ghosts keeping) (place : ℕ) (before after : Node T K Kind Op Delta ghosts keeping) (was : item_at old.nodes.items place ≡ Some before) (same : after.id ≡ before.id) where
+module _ {T K Kind Op Delta : Type 0} {ghosts : Ghosts T Kind Op Delta} {keeping : Keeping K} (old : World T K Kind Op Delta ghosts keeping) (place : ℕ) (before after : Node T K Kind Op Delta ghosts keeping) (was : item_at old.nodes.items place ≡ Some before) (same : after.id ≡ before.id) (limit : after.limit ≡ before.limit) where
   within : place < length old.nodes.items
   within = item_within old.nodes.items place before was
 
   seated_with : AreSeated old.views (set old.nodes.items place (Some after)) old.spare.items
-  seated_with = seated_set old.views old.nodes.items old.spare.items old.seated place before after within was same
+  seated_with = seated_set old.views old.nodes.items old.spare.items old.seated place before after within was same limit
 
   pub with_member : Channels (Message T Kind Op Delta ghosts) → World T K Kind Op Delta ghosts keeping
   with_member links =
@@ -104,13 +104,16 @@ module _ {T K Kind Delta : Type 0} {ghosts : Ghosts T Kind Op Delta} {keeping : 
   pub same_id : after.id ≡ before.id
   same_id = ap (λ (node : Node T K Kind Op Delta ghosts keeping). node.id) unchanged.same
 
+  pub same_limit : after.limit ≡ before.limit
+  same_limit = ap (λ (node : Node T K Kind Op Delta ghosts keeping). node.limit) unchanged.same
+
   abbrev pub refused_world : World T K Kind Op Delta ghosts keeping
-  refused_world = with_member old place before after was same_id old.links
+  refused_world = with_member old place before after was same_id same_limit old.links
 
   pub refused_means : (kinds : Text → Kind) (members : ℕ) (decls : List (KeyDecl Kind)) (p : Playing Kind Op Shown) → Means spelling kinds members decls p old → Means spelling kinds members decls p refused_world
   refused_means kinds members decls p m =
       means_refused spelling alike old refused_world i kinds members decls p
-      (record { place = place; before = before; after = after; changes = changes_with old place before after was same_id i old.links sound seat; links = links_with old place before after was same_id old.links; unchanged = unchanged }) m
+      (record { place = place; before = before; after = after; changes = changes_with old place before after was same_id same_limit i old.links sound seat; links = links_with old place before after was same_id same_limit old.links; unchanged = unchanged }) m
 
 -- KEEPERS' ANSWERS
 
@@ -145,7 +148,7 @@ module _ {T K Kind Delta : Type 0} {ghosts : Ghosts T Kind Op Delta} {keeping : 
   pub record IsEntered (i : ℕ) (fate : done.Fate) (output : Output T Kind Op Delta ghosts) (sent : Input Op) (event : Event Op) (links : Links Op) : Type 0 where
     pub node : nodes.Node Kind Op Shown
     pub runs : p.world.nodes i ≡ Some node
-    pub has_room : is_full node ≡ false
+    pub has_room : is_full (replication ghosts spelling) node ≡ false
     pub fits : FitsFate (replication ghosts spelling) node sent (meant_fate fate)
     pub reply : (step (replication ghosts spelling) node sent (meant_fate fate)).output.reply ≡ meant output.reply
     pub posts : map told_of output.posts ≡ map sketched_post (step (replication ghosts spelling) node sent (meant_fate fate)).output.posts
@@ -202,7 +205,7 @@ module _ {T K Kind Delta : Type 0} {ghosts : Ghosts T Kind Op Delta} {keeping : 
         record {
           node = work.node;
           runs = work.runs;
-          has_room = its_image.has_room;
+          has_room = has_room spelling alike kinds members decls old new so means_so heading event is_run more i taken links at place before after changes input fate output makes logged.0 now;
           fits = its_image.fate_fits;
           reply = sym its_image.answers.reply;
           posts = same_told kinds logged.0 output.posts (step D work.node taken (meant_fate fate)).output.posts its_image.answers.posts;

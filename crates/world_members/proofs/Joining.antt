@@ -28,6 +28,7 @@ use Rattle.data_lattice.specs.declared.spelled.SpelledData.{Ghosts as Spelling}
 use Rattle.member_node.specs.declared.key.KeyDecl.{KeyDecl as Declared}
 use Rattle.member_node.specs.declared.node.Node.{Node}
 use Rattle.member_node.specs.Members.{declared}
+use Rattle.member_node.specs.Replies.{program_steps}
 use Rattle.member_node.specs.Steps.{replication}
 use Rattle.script_reading.specs.declared.script.Step.TheVariants as form
 use Rattle.world_members.specs.declared.event.Head.TheVariants as head
@@ -41,7 +42,7 @@ use Rattle.world_members.specs.Standing.{StandsForRunning, StandsForWorld, Tells
 use Rattle.world_members.specs.Steps.{Plays, LeadsTo, Remains}
 use Rattle.world_members.specs.Giving.{IsSame}
 use Rattle.world_members.proofs.Seats.{identity_seated, seated, last_sound, seat_joined, new_seat}
-use Rattle.world_members.proofs.Lists.{at_each, some_there, at_one}
+use Rattle.world_members.proofs.Lists.{at_each, some_there, at_one, for_this}
 use Rattle.world_members.proofs.Storing.{tells_nothing}
 use Rattle.world_members.proofs.Answering.{given_at, answer_told, one_call, kept_one}
 use Rattle.world_members.proofs.Standings.{IsReseated, member_elsewhere, member_here, keeper_elsewhere, still_seated, last_pushed, stands_in, stores_still}
@@ -134,6 +135,7 @@ module _ (views : List View) (place : ℕ) (sound : IsView (last_view views)) (i
         still_seated views (with_joined (last_view views) place) sound is_next place nodes new spare left anew.others anew.spares seated (λ q apart j e. seat_stays q j e) seat_was
         (ap (option_map (λ (node : Node T K Kind Op Delta ghosts keeping). node.id)) s.3 ∙ ap Some s.4.identity ∙ sym (identity_seated (with_joined (last_view views) place) is_next (last_view views).given place seated_new))
         (ap is_some (anew.taken k.0 k.1) ∙ sym (ap (λ (o : Option (Node T K Kind Op Delta ghosts keeping)). not (is_some o)) s.3))
+        (for_this (λ (node : Node T K Kind Op Delta ghosts keeping). node.limit ≡ program_steps) (item_at new place) s.2 s.3 s.4.limit)
 
 -- THE MODEL
 
@@ -250,6 +252,7 @@ seated_spared {T} {K} {Kind} {Op} {Delta} {ghosts} {keeping} Does place views no
       members = seated.members;
       spares = at_one (λ q. q < 8 → is_some (item_at left q) ≡ not (is_some (item_at nodes.items q))) place
           (λ within. ap is_some (acts.there keeper was).1 ∙ sym (ap is_some was) ∙ seated.spares place within) (λ q other within. ap (λ o. is_some (option_and_then (λ (y : Option K). y) o)) (acts.others q other) ∙ seated.spares q within);
+      limits = seated.limits;
     }))
 
 module _ {T K Kind Delta : Type 0} {ghosts : Ghosts T Kind Op Delta} {keeping : Keeping K} (spelling : Spelling T Kind Op Delta) (place : ℕ) (old new : World T K Kind Op Delta ghosts keeping) (Does : K → K → Type 0) (spared : IsSpared Does place old new) (before : K) (empty : item_at old.nodes.items place ≡ None) (was : item_at old.spare.items place ≡ Some before) where

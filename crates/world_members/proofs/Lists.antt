@@ -2,6 +2,7 @@
 use Rattle.std.proofs.Common.{◌≡◌, ◌≢◌, ℕ, zero, suc, ◌+◌, ◌<◌, ◌≤◌, List, [], ◌∷◌, length, map, get_or, set, replicate, refl, sym, ap, subst, ◌∙◌, arith, true, false, Option, Some, None, inl, inr, ◌++◌}
 use Rattle.std.specs.Prelude.{is_some, if◌then◌else◌, slice_get, option_map, ◌==◌, nat_lt}
 use Rattle.std.specs.List.{AllZip}
+use Rattle.std.specs.Option.{ForSome}
 use Rattle.std.proofs.lemmas.Bool.Decides.{eqb_tells, nat_tests}
 use Rattle.std.proofs.lemmas.Option.{slice_get-map, slice_get-get_or, slice_get_past}
 use Rattle.model_history.specs.Table.{with_at}
@@ -18,6 +19,18 @@ some_there (Some x) e = (x, refl)
 
 pub same_some : {X : Type 0} (x y : X) → Some x ≡ Some y → x ≡ y
 same_some x y e = cc
+
+-- what holds of the one that is there
+pub for_this : {X : Type 0} (P : X → Type 0) (o : Option X) (x : X) → o ≡ Some x → P x → ForSome o P
+for_this P o x is holds y e = subst P (same_some x y (sym is ∙ e)) holds
+
+-- nothing is there
+pub for_none : {X : Type 0} (P : X → Type 0) (o : Option X) → o ≡ None → ForSome o P
+for_none P o is y e = let some : None ≡ Some y = sym is ∙ e in absurd (cc some)
+
+-- the same is there
+pub for_same : {X : Type 0} (P : X → Type 0) (o other : Option X) → other ≡ o → ForSome o P → ForSome other P
+for_same P o other is holds y e = holds y (sym is ∙ e)
 
 -- what holds of one number and of all others holds of each
 pub at_one : (P : ℕ → Type 0) (i : ℕ) → P i → ((j : ℕ) → j ≢ i → P j) → (j : ℕ) → P j

@@ -21,6 +21,7 @@ use Rattle.member_views.specs.Sound.{IsView, last_view}
 use Rattle.member_views.specs.Changes.{CanRemove}
 use Rattle.member_views.proofs.Kept.{view_without}
 use Rattle.member_node.specs.declared.node.Node.{Node}
+use Rattle.member_node.specs.Replies.{program_steps}
 use Rattle.member_node.specs.Steps.{replication}
 use Rattle.script_reading.specs.declared.script.Step.TheVariants as form
 use Rattle.world_members.specs.declared.world.World.{World}
@@ -33,7 +34,7 @@ use Rattle.world_members.specs.Seating.{IsLeft}
 use Rattle.world_members.specs.Standing.{StandsForRunning, StandsForWorld, TellsStore}
 use Rattle.world_members.specs.Steps.{Plays, LeadsTo}
 use Rattle.world_members.proofs.Seats.{seats_apart, seat_without, no_seat_without, no_identity_at, no_member}
-use Rattle.world_members.proofs.Lists.{at_one, at_each}
+use Rattle.world_members.proofs.Lists.{at_one, at_each, for_none}
 use Rattle.world_members.proofs.Standings.{stands_in, IsReseated, member_elsewhere, member_here, still_seated}
 use Rattle.world_members.proofs.Telling.{view_of, reaches_did, plays_told}
 use Rattle.world_members.specs.Giving.{IsSame}
@@ -86,6 +87,7 @@ module _ (views : List View) (id place : ℕ) (seat : seat_of (last_view views) 
     seated_after has =
         still_seated views (without_member (last_view views) id) sound is_next place nodes new spare left leaves.others leaves.spares seated kept_seat (λ q apart j e. (had_seat q j e).1) (ap (option_map (λ (node : Node T K Kind Op Delta ghosts keeping). node.id)) leaves.none ∙ sym nobody)
         (ap is_some leaves.keeper ∙ has ∙ sym (ap (λ (o : Option (Node T K Kind Op Delta ghosts keeping)). not (is_some o)) leaves.none))
+        (for_none (λ (node : Node T K Kind Op Delta ghosts keeping). node.limit ≡ program_steps) (item_at new place) leaves.none)
 
     -- each place has the keeper that it had
     pub same_keepers : (q : ℕ) → keeper_of new left q ≡ keeper_of nodes spare q

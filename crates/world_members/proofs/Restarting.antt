@@ -32,6 +32,7 @@ use Rattle.member_node.specs.declared.loading.LoadError.TheVariants as load
 use Rattle.member_node.specs.declared.node.Node.{Node}
 use Rattle.member_node.specs.Keys.{declared_by, HaveKinds}
 use Rattle.member_node.specs.Members.{StandsForNode}
+use Rattle.member_node.specs.Replies.{program_steps}
 use Rattle.member_node.specs.Steps.{replication, MayAnswer}
 use Rattle.member_node.specs.Stores.{SpellsStore, AreFit}
 use Rattle.member_node.specs.Loading.{ComesBack, IsRefusedLoad}
@@ -55,7 +56,7 @@ use Rattle.world_members.proofs.Standings.{still_seated, stands_in, stores_still
 use Rattle.world_members.proofs.Onward.{well_now, way_logs}
 use Rattle.world_members.proofs.Answering.{given_at, answer_told, one_call, kept_one}
 use Rattle.world_members.proofs.Telling.{view_of, reaches_did, plays_told, reaches_said}
-use Rattle.world_members.proofs.Lists.{some_there, at_each}
+use Rattle.world_members.proofs.Lists.{some_there, at_each, for_this}
 use Rattle.world_members.proofs.StoredNames.{stores_fit}
 use Rattle.world_members.proofs.Storing.{becomes_none}
 
@@ -101,18 +102,19 @@ module _ {T K Kind Op Delta : Type 0} {ghosts : Ghosts T Kind Op Delta} {keeping
   member_there = some_mapped (λ (node : Node T K Kind Op Delta ghosts keeping). node.id) (item_at nodes place) id (seated.members place within ∙ identity_seated (last_view views) sound id place seat)
 
   -- and a new one in its place
-  pub seated_replaced : (new : List (Option (Node T K Kind Op Delta ghosts keeping))) (after : Node T K Kind Op Delta ghosts keeping) → IsView (with_replaced (last_view views) id) → ((other : ℕ) → other ≢ place → item_at new other ≡ item_at nodes other) → item_at new place ≡ Some after → after.id ≡ (last_view views).given
+  pub seated_replaced : (new : List (Option (Node T K Kind Op Delta ghosts keeping))) (after : Node T K Kind Op Delta ghosts keeping) → IsView (with_replaced (last_view views) id) → ((other : ℕ) → other ≢ place → item_at new other ≡ item_at nodes other) → item_at new place ≡ Some after → after.id ≡ (last_view views).given → after.limit ≡ member_there.0.limit
       → AreSeated (views ++ with_replaced (last_view views) id ∷ []) new spare
-  seated_replaced new after is_next others is same =
+  seated_replaced new after is_next others is same limit =
       still_seated views (with_replaced (last_view views) id) sound is_next place nodes new spare spare others (λ other apart. refl) seated (seat_stays (last_view views) id place seat sound) (seat_was (last_view views) id place seat sound)
       (ap (option_map (λ (node : Node T K Kind Op Delta ghosts keeping). node.id)) is ∙ ap Some same ∙ sym (identity_seated (with_replaced (last_view views) id) is_next (last_view views).given place (new_replaced (last_view views) id place seat sound)))
       (seated.spares place within ∙ ap (λ (o : Option (Node T K Kind Op Delta ghosts keeping)). not (is_some o)) member_there.1 ∙ sym (ap (λ (o : Option (Node T K Kind Op Delta ghosts keeping)). not (is_some o)) is))
+      (for_this (λ (node : Node T K Kind Op Delta ghosts keeping). node.limit ≡ program_steps) (item_at new place) after is (limit ∙ seated.limits place within member_there.0 member_there.1))
 
   -- the old one comes back
-  pub seated_back : (now : List View) (new : List (Option (Node T K Kind Op Delta ghosts keeping))) (after : Node T K Kind Op Delta ghosts keeping) → now ≡ views → ((other : ℕ) → other ≢ place → item_at new other ≡ item_at nodes other) → item_at new place ≡ Some after → after.id ≡ member_there.0.id
+  pub seated_back : (now : List View) (new : List (Option (Node T K Kind Op Delta ghosts keeping))) (after : Node T K Kind Op Delta ghosts keeping) → now ≡ views → ((other : ℕ) → other ≢ place → item_at new other ≡ item_at nodes other) → item_at new place ≡ Some after → after.id ≡ member_there.0.id → after.limit ≡ member_there.0.limit
       → AreSeated now new spare
-  seated_back now new after same_views others is same =
-      subst (λ vs. AreSeated vs new spare) (sym same_views) (seated_as views nodes spare seated new place member_there.0 after others member_there.1 is same)
+  seated_back now new after same_views others is same limit =
+      subst (λ vs. AreSeated vs new spare) (sym same_views) (seated_as views nodes spare seated new place member_there.0 after others member_there.1 is same limit)
 
 -- THE RESTART
 
@@ -405,6 +407,9 @@ module _ {T K Kind Op Delta : Type 0} {ghosts : Ghosts T Kind Op Delta} {keeping
 
   pub same_id : (before after : Node T K Kind Op Delta ghosts keeping) → ComesBack before after → after.id ≡ before.id
   same_id before after back = ap (λ (n : Node T K Kind Op Delta ghosts keeping). n.id) back.same
+
+  pub same_limit : (before after : Node T K Kind Op Delta ghosts keeping) → ComesBack before after → after.limit ≡ before.limit
+  same_limit before after back = ap (λ (n : Node T K Kind Op Delta ghosts keeping). n.limit) back.same
 
 module _ {T K Kind Delta : Type 0} {ghosts : Ghosts T Kind Op Delta} {keeping : Keeping K} (spelling : Spelling T Kind Op Delta) (alike : (a b : K) → is_some (keeping.table a) ≡ is_some (keeping.table b)) (id place : ℕ) (old new : World T K Kind Op Delta ghosts keeping) (before after : Node T K Kind Op Delta ghosts keeping) (seat : seat_of (last_view old.views) id ≡ Some place) (sound : IsView (last_view old.views))
     (able : CanReplace (last_view old.views) id) (was : item_at old.nodes.items place ≡ Some before) (is : item_at new.nodes.items place ≡ Some after) (r : IsReturned place old new) where

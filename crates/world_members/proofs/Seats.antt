@@ -9,6 +9,7 @@
 use Rattle.std.proofs.Common.{◌≡◌, ◌≢◌, ℕ, ◌<◌, List, [], ◌∷◌, length, set, refl, sym, ap, subst, ◌∙◌, Bool, true, false, Option, Some, None, inl, inr, ◌-◌, ◌++◌, filter, arith, not, get_or, Result, Ok, Err, ◌+◌, ◌≤◌, length-append, length-set, zero, suc}
 use Rattle.std.specs.Prelude.{AllPairs, find, map, if◌then◌else◌, ◌==◌, ◌||◌, option_map, option_and_then, unwrap_or, IfSome, All, IfOk, OnErr, is_some, slice_get}
 use Rattle.std.specs.List.{list_any}
+use Rattle.std.specs.Option.{ForSome}
 use Rattle.std.proofs.lemmas.Bool.Decides.{eqb_tells}
 use Rattle.std.proofs.lemmas.Bool.{eqb-true, eq-eqb, ne_eqb, cases_lt}
 use Rattle.std.proofs.lemmas.List.Elements.{All-head, All-tail}
@@ -28,6 +29,7 @@ use Rattle.member_node.specs.declared.input.Input.{Input}
 use Rattle.member_node.specs.declared.reply.StepError.{StepError}
 use Rattle.member_node.specs.Steps.{IsUnchanged}
 use Rattle.member_node.specs.declared.key.KeyDecl.{KeyDecl}
+use Rattle.member_node.specs.Replies.{program_steps}
 use Rattle.world_members.specs.Places.{item_at, identity_at, seat_of, member_of, keeper_of, first_keeper}
 use Rattle.world_members.specs.declared.sending.Answered.{Answered}
 use Rattle.world_members.specs.Channels.{Channels}
@@ -35,7 +37,7 @@ use Rattle.world_members.specs.Sending.{IsStepOnLinks}
 use Rattle.world_members.specs.Keeping.{AreSeated, IsCleared}
 use Rattle.world_members.specs.Seating.{ActsAt, IsNewMember, Seats, SeatsAnew, IsLeft}
 use Rattle.world_members.specs.Parts.{ArePlaced}
-use Rattle.world_members.proofs.Lists.{slice_get-set_same, slice_get-set_other, slice_get-last, slice_get-first, same_places, same_some, at_one}
+use Rattle.world_members.proofs.Lists.{slice_get-set_same, slice_get-set_other, slice_get-last, slice_get-first, same_places, same_some, at_one, for_this, for_same}
 
 abbrev pub with_identity : ℕ → List Member → Option Member
 with_identity i ms = find (λ (m : Member). m.identity == i) ms
@@ -257,18 +259,23 @@ module _ {T K Kind Op Delta : Type 0} {ghosts : Ghosts T Kind Op Delta} {keeping
   abbrev is_free : Option (Node T K Kind Op Delta ghosts keeping) → Bool
   is_free o = not (is_some o)
 
+  abbrev HasLimit : Node T K Kind Op Delta ghosts keeping → Type 0
+  HasLimit node = node.limit ≡ program_steps
+
   -- another state of the same member
-  pub seated_as : (new : List (Option (Node T K Kind Op Delta ghosts keeping))) (place : ℕ) (before after : Node T K Kind Op Delta ghosts keeping) → ((other : ℕ) → other ≢ place → item_at new other ≡ item_at nodes other) → item_at nodes place ≡ Some before → item_at new place ≡ Some after → after.id ≡ before.id → AreSeated views new spare
-  seated_as new place before after others was is same =
+  pub seated_as : (new : List (Option (Node T K Kind Op Delta ghosts keeping))) (place : ℕ) (before after : Node T K Kind Op Delta ghosts keeping) → ((other : ℕ) → other ≢ place → item_at new other ≡ item_at nodes other) → item_at nodes place ≡ Some before → item_at new place ≡ Some after → after.id ≡ before.id → after.limit ≡ before.limit → AreSeated views new spare
+  seated_as new place before after others was is same limit =
       record {
         members = at_one (λ k. k < 8 → id_of (item_at new k) ≡ identity_at (last_view views) k) place
             (λ few. ap id_of is ∙ ap Some same ∙ sym (ap id_of was) ∙ seated.members place few) (λ k other few. ap id_of (others k other) ∙ seated.members k few);
         spares = at_one (λ k. k < 8 → is_some (item_at spare k) ≡ is_free (item_at new k)) place
             (λ few. seated.spares place few ∙ ap is_free was ∙ sym (ap is_free is)) (λ k other few. seated.spares k few ∙ sym (ap is_free (others k other)));
+        limits = at_one (λ k. k < 8 → ForSome (item_at new k) HasLimit) place
+            (λ few. for_this HasLimit (item_at new place) after is (limit ∙ seated.limits place few before was)) (λ k other few. for_same HasLimit (item_at nodes k) (item_at new k) (others k other) (seated.limits k few));
       }
 
-  pub seated_set : (place : ℕ) (before after : Node T K Kind Op Delta ghosts keeping) → place < length nodes → item_at nodes place ≡ Some before → after.id ≡ before.id → AreSeated views (set nodes place (Some after)) spare
-  seated_set place before after within was same = seated_as (set nodes place (Some after)) place before after (λ k other. item-set_other nodes place k (Some after) other) was (item-set_same nodes place (Some after) within) same
+  pub seated_set : (place : ℕ) (before after : Node T K Kind Op Delta ghosts keeping) → place < length nodes → item_at nodes place ≡ Some before → after.id ≡ before.id → after.limit ≡ before.limit → AreSeated views (set nodes place (Some after)) spare
+  seated_set place before after within was same limit = seated_as (set nodes place (Some after)) place before after (λ k other. item-set_other nodes place k (Some after) other) was (item-set_same nodes place (Some after) within) same limit
 
 module _ {T K Kind Op Delta : Type 0} {ghosts : Ghosts T Kind Op Delta} {keeping : Keeping K} (spelling : Spelling T Kind Op Delta) where
   -- a member keeps its identity, whatever it answers
@@ -276,6 +283,12 @@ module _ {T K Kind Op Delta : Type 0} {ghosts : Ghosts T Kind Op Delta} {keeping
       → IfOk outcome (λ answered. IsStepOnLinks spelling before input answered after i old new) → OnErr outcome (IsUnchanged before after × (new ≡ old)) → after.id ≡ before.id
   same_id before after input i old new (Ok answered) made kept = made.makes.identity
   same_id before after input i old new (Err e) made kept = ap (λ (node : Node T K Kind Op Delta ghosts keeping). node.id) kept.0.same
+
+  -- and its limit of steps
+  pub same_limit : (before after : Node T K Kind Op Delta ghosts keeping) (input : Input T Kind Op Delta ghosts) (i : ℕ) (old new : Channels (Message T Kind Op Delta ghosts)) (outcome : Result Answered StepError)
+      → IfOk outcome (λ answered. IsStepOnLinks spelling before input answered after i old new) → OnErr outcome (IsUnchanged before after × (new ≡ old)) → after.limit ≡ before.limit
+  same_limit before after input i old new (Ok answered) made kept = made.makes.limit
+  same_limit before after input i old new (Err e) made kept = ap (λ (node : Node T K Kind Op Delta ghosts keeping). node.limit) kept.0.same
 
 -- A VIEW TAKEN AWAY AGAIN
 
@@ -440,4 +453,5 @@ are_seated {T = T} {K = K} {Kind = Kind} {Op = Op} {Delta = Delta} {ghosts = gho
     record {
       members = λ place small. ap (option_map (λ (node : Node T K Kind Op Delta ghosts keeping). node.id)) (same place) ∙ placed.identities place small;
       spares = λ place small. placed.spares place small ∙ sym (ap (λ (o : Option (Node T K Kind Op Delta ghosts keeping)). not (is_some o)) (same place));
+      limits = λ place small. for_same (λ (node : Node T K Kind Op Delta ghosts keeping). node.limit ≡ program_steps) (machine_at members place) (item_at nodes place) (same place) (placed.limits place small);
     }

@@ -75,7 +75,7 @@ module _ {Kind Op Shown : Type 0} (D : Replication Kind Op Shown) (p : Playing K
       go false = record { answers = refl; more = (_, refl) }
 
   abbrev by_turn : Head Op → (Fate → Event Op) → Option (Turn Kind Op Shown) → Playing Kind Op Shown
-  by_turn head event o = elim o [ None ↦ told p head script.Answer.Gone | Some turn ↦ if is_full turn.before then told p head script.Answer.HistoryFull else take_turn D p head event turn ]
+  by_turn head event o = elim o [ None ↦ told p head script.Answer.Gone | Some turn ↦ if is_full D turn.before then told p head script.Answer.HistoryFull else take_turn D p head event turn ]
 
   abbrev by_message : ℕ → ℕ → ℕ → Option (Message Op) → Playing Kind Op Shown
   by_message from to index o = elim o [ None ↦ told p (Head.DeliverHead from to index None) script.Answer.NoSuchMessage | Some message ↦ given D p (Head.DeliverHead from to index (Some message)) (Delivery from to index) ]
@@ -85,7 +85,7 @@ module _ {Kind Op Shown : Type 0} (D : Replication Kind Op Shown) (p : Playing K
     where
       go : (o : Option (Turn Kind Op Shown)) → Goes p (by_turn head event o)
       go None = told_goes head script.Answer.Gone
-      go (Some turn) = if_holds (Goes p) (is_full turn.before) (told p head script.Answer.HistoryFull) (take_turn D p head event turn) (told_goes head script.Answer.HistoryFull) (turn_goes head event turn)
+      go (Some turn) = if_holds (Goes p) (is_full D turn.before) (told p head script.Answer.HistoryFull) (take_turn D p head event turn) (told_goes head script.Answer.HistoryFull) (turn_goes head event turn)
 
   deliver_goes : (from to index : ℕ) → Goes p (deliver D p from to index)
   deliver_goes from to index = if_holds (Goes p) (is_some (p.world.nodes to)) (by_message from to index (message_at p.world from to index)) (told p (Head.DeliverHead from to index None) script.Answer.Gone) (go (message_at p.world from to index)) (told_goes (Head.DeliverHead from to index None) script.Answer.Gone)

@@ -5,6 +5,7 @@
 --     IsReseated        a change of the views, where at most the member and the keeper of one place changed
 use Rattle.std.proofs.Common.{◌≡◌, ◌≢◌, ℕ, ◌<◌, List, [], ◌∷◌, ◌++◌, length, map, refl, sym, ap, subst, ◌∙◌, arith, Option, Some, None, length-append, true, false, not}
 use Rattle.std.specs.Prelude.{is_some, slice_index_or, option_map, option_and_then}
+use Rattle.std.specs.Option.{ForSome}
 use Rattle.model_history.specs.Table.{identity_limit}
 use Rattle.model_history.specs.Texts.{Text}
 use Rattle.model_history.specs.History.{History}
@@ -24,6 +25,7 @@ use Rattle.data_lattice.specs.declared.replica.Replica.{Ghosts}
 use Rattle.data_lattice.specs.declared.spelled.SpelledData.{Ghosts as Spelling}
 use Rattle.member_node.specs.declared.node.Node.{Node}
 use Rattle.member_node.specs.Members.{StandsForNode, AreOfKinds, declared}
+use Rattle.member_node.specs.Replies.{program_steps}
 use Rattle.member_node.specs.Steps.{IsOtherwiseSame, IsUnchanged, replication}
 use Rattle.world_members.specs.declared.world.World.{World}
 use Rattle.world_members.specs.Channels.{channel_at}
@@ -33,8 +35,8 @@ use Rattle.world_members.specs.Giving.{IsSame, IsAlikeButLinks, ChangesAt, IsAsB
 use Rattle.world_members.specs.Steps.{Stays}
 use Rattle.world_members.specs.Keeping.{KeepsAt, AreSeated}
 use Rattle.world_members.specs.Ways.{Means}
-use Rattle.world_members.proofs.Seats.{member_changed, member_stays, member_seated, keeper_changed, keeper_stays, place_seated, no_seat, some_seat, never_empty, same_identity}
-use Rattle.world_members.proofs.Lists.{at_one, at_each}
+use Rattle.world_members.proofs.Seats.{member_changed, member_stays, member_seated, keeper_changed, keeper_stays, place_seated, no_seat, some_seat, never_empty, same_identity, few_places}
+use Rattle.world_members.proofs.Lists.{at_one, at_each, for_same}
 use Rattle.world_members.proofs.Storing.{store_stays, not_called_at}
 use Rattle.world_members.proofs.Onward.{way_logs}
 
@@ -57,6 +59,10 @@ module _ {T K Kind Delta : Type 0} {ghosts : Ghosts T Kind Op Delta} {keeping : 
 
   pub member_other : (j : ℕ) → j ≢ i → member_of (last_view new.views) new.nodes.items j ≡ member_of (last_view old.views) old.nodes.items j
   member_other j other = (λ k. member_of (last_view (changes.views k)) (changes.nodes k) j) ∙ member_stays (last_view old.views) changes.sound old.nodes.items i place changes.seat (Some after) changes.within j other
+
+  -- the member has the program's limit of steps
+  pub limit_before : before.limit ≡ program_steps
+  limit_before = old.seated.limits place (few_places (last_view old.views) changes.sound i place changes.seat) before changes.was
 
   pub keeper_before : keeper_of old.nodes.items old.spare.items place ≡ Some before.keeper
   keeper_before = ap (λ o. first_keeper o (item_at old.spare.items place)) changes.was
@@ -267,9 +273,12 @@ module _ {T K Kind Op Delta : Type 0} {ghosts : Ghosts T Kind Op Delta} {keeping
   -- the seats at a place tell who is there
   module _ (views : List View) (view : View) (is_last : IsView (last_view views)) (is_view : IsView view) (place : ℕ) (nodes new : List (Option (Node T K Kind Op Delta ghosts keeping))) (spare left : List (Option K)) (others : (other : ℕ) → other ≢ place → item_at new other ≡ item_at nodes other)
       (spares : (other : ℕ) → other ≢ place → item_at left other ≡ item_at spare other) (seated : AreSeated views nodes spare) where
+    abbrev HasLimit : Node T K Kind Op Delta ghosts keeping → Type 0
+    HasLimit node = node.limit ≡ program_steps
+
     pub still_seated : ((q : ℕ) → q ≢ place → (i : ℕ) → seat_of (last_view views) i ≡ Some q → seat_of view i ≡ Some q) → ((q : ℕ) → q ≢ place → (i : ℕ) → seat_of view i ≡ Some q → seat_of (last_view views) i ≡ Some q)
-        → option_map (λ (node : Node T K Kind Op Delta ghosts keeping). node.id) (item_at new place) ≡ identity_at view place → is_some (item_at left place) ≡ not (is_some (item_at new place)) → AreSeated (views ++ view ∷ []) new left
-    still_seated forth back here spare_here =
+        → option_map (λ (node : Node T K Kind Op Delta ghosts keeping). node.id) (item_at new place) ≡ identity_at view place → is_some (item_at left place) ≡ not (is_some (item_at new place)) → ForSome (item_at new place) HasLimit → AreSeated (views ++ view ∷ []) new left
+    still_seated forth back here spare_here limited =
         record {
           members = at_one (λ q. q < 8 → option_map (λ (node : Node T K Kind Op Delta ghosts keeping). node.id) (item_at new q) ≡ identity_at (last_view (views ++ view ∷ [])) q) place
               (λ within. here ∙ sym (ap (λ v. identity_at v place) (last_pushed views view)))
@@ -278,4 +287,5 @@ module _ {T K Kind Op Delta : Type 0} {ghosts : Ghosts T Kind Op Delta} {keeping
               ∙ sym (ap (λ v. identity_at v q) (last_pushed views view)));
           spares = at_one (λ q. q < 8 → is_some (item_at left q) ≡ not (is_some (item_at new q))) place (λ within. spare_here)
               (λ q apart within. ap is_some (spares q apart) ∙ seated.spares q within ∙ sym (ap (λ (o : Option (Node T K Kind Op Delta ghosts keeping)). not (is_some o)) (others q apart)));
+          limits = at_one (λ q. q < 8 → ForSome (item_at new q) HasLimit) place (λ within. limited) (λ q apart within. for_same HasLimit (item_at nodes q) (item_at new q) (others q apart) (seated.limits q within));
         }

@@ -8,6 +8,7 @@
 use Rattle.std.proofs.Common.{◌≡◌, ℕ, zero, suc, ◌+◌, ◌<◌, ◌≤◌, map, find, refl, ap, ◌∙◌, arith, Bool, Option, None, Some, inl, inr, ◌≢◌, List, [], ◌∷◌, length, get_or, set, sym, subst, true, length-set, ◌++◌, Vec, Global, append_assoc, length-append, false, not}
 use Rattle.std.specs.Prelude.{if◌then◌else◌, ◌==◌, option_map, slice_get, vec_len, vec_capacity, option_to_list, option_and_then, is_some, nat_lt, ◌&&◌}
 use Rattle.std.specs.List.{range_with_len, zip}
+use Rattle.std.specs.Option.{ForSome}
 use Rattle.std.proofs.lemmas.Bool.Decides.{eqb_tells, nat_tests}
 use Rattle.std.proofs.lemmas.Bool.{cases_lt}
 use Rattle.std.proofs.lemmas.Option.{slice_get-get_or, slice_get_within, slice_get-map, slice_get_past}
@@ -29,6 +30,7 @@ use Rattle.data_lattice.specs.declared.spelled.SpelledData.{Ghosts as Spelling}
 use Rattle.member_node.specs.declared.node.Node.{Node}
 use Rattle.member_node.specs.declared.key.KeyDecl.{KeyDecl}
 use Rattle.member_node.specs.Members.{AreOfKinds, declared}
+use Rattle.member_node.specs.Replies.{program_steps}
 use Rattle.world_members.specs.Places.{identity_at, seat_of, first_keeper, keeper_of, keepers_of, item_at, member_of}
 use Rattle.world_members.specs.Keeping.{Keeps, AtEachPlace, IsCleared, FailsToClear, IsNotCleared, AreKept, AreSeated, KeepsAt}
 use Rattle.world_members.specs.Seating.{AreCleared, RefusesToClear, RefusesClear, Clears, IsNewMember, Seats, AreFirstSeats}
@@ -36,7 +38,7 @@ use Rattle.world_members.specs.declared.world.World.{World}
 use Rattle.world_members.specs.Channels.{channel_at, no_messages}
 use Rattle.world_members.specs.Standing.{StandsForLink, StandsForRunning, StandsForWorld, TellsStore}
 use Rattle.world_members.specs.Steps.{Starts}
-use Rattle.world_members.proofs.Lists.{at_one, same_some, slice_get-set_same, slice_get-set_other, same_places, some_there}
+use Rattle.world_members.proofs.Lists.{at_one, same_some, slice_get-set_same, slice_get-set_other, same_places, some_there, for_this, for_none}
 use Rattle.world_members.proofs.Storing.{not_called, tells_nothing}
 
 abbrev sitting : ℕ → Member
@@ -347,9 +349,12 @@ module _ {T K Kind Op Delta : Type 0} {ghosts : Ghosts T Kind Op Delta} {keeping
             absurd (let there : false ≡ true = ap is_some (sym none) ∙ some_within cleared place (let same = all.count in omega arith) in cc)
         go (Some after) is = subst (λ o. KeepsAt keeping (true ∷ []) (Some keeper) o) (sym (kept_all place ∙ is)) (all.each place keeper after e is).answered
 
+  abbrev HasLimit : Node T K Kind Op Delta ghosts keeping → Type 0
+  HasLimit node = node.limit ≡ program_steps
+
   -- each place has its member or its keeper
   pub seats_first : (members : ℕ) (keys : List (KeyDecl T Kind Op Delta)) → members ≤ 8 → length cleared ≡ 8 → AreFirstSeats members keys nodes spare left → AreSeated (first_view members ∷ []) nodes left
-  seats_first members keys few eight seats = record { members = at_place; spares = spare_at }
+  seats_first members keys few eight seats = record { members = at_place; spares = spare_at; limits = limited_at }
     where
       keeper_there : (place : ℕ) → place < 8 → (keeper : K) × (item_at spare place ≡ Some keeper)
       keeper_there place within = go (slice_get cleared place) refl
@@ -376,6 +381,15 @@ module _ {T K Kind Op Delta : Type 0} {ghosts : Ghosts T Kind Op Delta} {keeping
         | inr past ↦
             let k = keeper_there place within in
             ap is_some (seats.spares place past ∙ k.1) ∙ sym (ap (λ (o : Option (Node T K Kind Op Delta ghosts keeping)). not (is_some o)) (seats.free place past))
+      ]
+
+      limited_at : (place : ℕ) → place < 8 → ForSome (item_at nodes place) HasLimit
+      limited_at place within = elim (cases_lt place members) [
+        | inl below ↦
+            let k = keeper_there place within in
+            let new = seats.seated place k.0 below k.1 in
+            for_this HasLimit (item_at nodes place) new.0 new.1 new.2.limit
+        | inr past ↦ for_none HasLimit (item_at nodes place) (seats.free place past)
       ]
 
 -- what the parts of the first world are

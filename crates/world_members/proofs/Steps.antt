@@ -152,7 +152,7 @@ module _ {T K Kind Delta : Type 0} {ghosts : Ghosts T Kind Op Delta} {keeping : 
             reaches_handed_gone none same =
                 reaches_gone spelling alike old new kinds members decls p (deliver (replication ghosts spelling) p from to index) m sent_head (Delivery from to index) to (Input.Take from sent.0) (moved_on p.world.links from to index) at_delivery is_given (head.Deliver from to index (Some (sketch_of message))) is_head none same
 
-            pub reaches_handed_full : (r : Refuses to old new) → r.before.steps ≡ 16384 → Reaches spelling kinds members decls p (deliver (replication ghosts spelling) p from to index) (λ k. []) new (record { head = head.Deliver from to index (Some (sketch_of message)); answer = answer.HistoryFull; sent = []; finished = None } ∷ [])
+            pub reaches_handed_full : (r : Refuses to old new) → r.before.steps ≡ r.before.limit → Reaches spelling kinds members decls p (deliver (replication ghosts spelling) p from to index) (λ k. []) new (record { head = head.Deliver from to index (Some (sketch_of message)); answer = answer.HistoryFull; sent = []; finished = None } ∷ [])
             reaches_handed_full r steps =
                 reaches_full spelling alike old new kinds members decls p (deliver (replication ghosts spelling) p from to index) m sent_head (Delivery from to index) to (Input.Take from sent.0) (moved_on p.world.links from to index) at_delivery is_given (head.Deliver from to index (Some (sketch_of message))) is_head r steps
 
@@ -205,7 +205,7 @@ module _ {T K Kind Delta : Type 0} {ghosts : Ghosts T Kind Op Delta} {keeping : 
         gone_handed none same =
             record { given = λ k. []; kept = kept_alike old new same; undamaged = refl; leads = λ kinds members decls p m foretold. reaches_handed_gone kinds members decls p m sound present message is alike new none same }
 
-        full_handed : (r : Refuses to old new) → r.before.steps ≡ 16384 → DoesIt (record { head = sent_line; answer = answer.HistoryFull; sent = []; finished = None })
+        full_handed : (r : Refuses to old new) → r.before.steps ≡ r.before.limit → DoesIt (record { head = sent_line; answer = answer.HistoryFull; sent = []; finished = None })
         full_handed r steps =
             record { given = λ k. []; kept = kept_refused spelling alike old new to r; undamaged = refl; leads = λ kinds members decls p m foretold. reaches_handed_full kinds members decls p m sound present message is alike new r steps }
 

@@ -82,7 +82,7 @@ module _ {T K Kind Op Delta : Type 0} {ghosts : Ghosts T Kind Op Delta} {keeping
 
   pub data Gives (i : ℕ) (head : Head) (input : Input T Kind Op Delta ghosts) (old new : World T K Kind Op Delta ghosts keeping) (event : Event) : Type 0 where
     gone : seat_of (last_view old.views) i ≡ None → IsSame old new → event ≡ record { head = head; answer = answer.Gone; sent = []; finished = None } → Gives i head input old new event
-    full : (r : Refuses i old new) → r.before.steps ≡ 16384 → event ≡ record { head = head; answer = answer.HistoryFull; sent = []; finished = None } → Gives i head input old new event
+    full : (r : Refuses i old new) → r.before.steps ≡ r.before.limit → event ≡ record { head = head; answer = answer.HistoryFull; sent = []; finished = None } → Gives i head input old new event
     made : (answered : Answered) → Makes i input answered old new → event ≡ record { head = head; answer = answer.Reply answered.reply; sent = answered.sent; finished = answered.finished } → Gives i head input old new event
 
   -- the input is the message of this number on the link between these identities

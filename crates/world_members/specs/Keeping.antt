@@ -1,15 +1,17 @@
 -- What a call does to the keepers of the places.
 --     Keeps        what a keeper tells after it answered some calls
---     AreSeated        each place has its member or a spare keeper
+--     AreSeated        each place has its member, with the program's limit, or a spare keeper
 --     AreKept        each keeper was called some times, or not at all
 --     IsNotCleared        the keepers where one failed at the start
 use Rattle.std.specs.Prelude.{◌≡◌, ℕ, ◌<◌, List, [], ◌∷◌, ◌++◌, length, count_by, not, Bool, true, false, Option, Some, None, IsSome, is_some, option_map, slice_get}
+use Rattle.std.specs.Option.{ForSome}
 use Rattle.model_members.specs.View.{View}
 use Rattle.thread_machine.specs.Faults.{RoseBy}
 use Rattle.data_lattice.specs.declared.replica.Replica.{Ghosts}
 use Rattle.member_keeper.specs.declared.keeper.Keeper.{Ghosts as Keeping}
 use Rattle.member_keeper.specs.Calls.{Becomes}
 use Rattle.member_node.specs.declared.node.Node.{Node}
+use Rattle.member_node.specs.Replies.{program_steps}
 use Rattle.member_views.specs.Sound.{last_view}
 use Rattle.world_members.specs.Places.{item_at, identity_at}
 
@@ -17,10 +19,11 @@ use Rattle.world_members.specs.Places.{item_at, identity_at}
 abbrev pub Given : Type 0
 Given = ℕ → List Bool
 
--- each place has the member of the last view that is there, or else a spare keeper
+-- each place has the member of the last view that is there, or else a spare keeper. Each member has the program's limit of steps
 pub record AreSeated {T K Kind Op Delta : Type 0} {ghosts : Ghosts T Kind Op Delta} {keeping : Keeping K} (views : List View) (nodes : List (Option (Node T K Kind Op Delta ghosts keeping))) (spare : List (Option K)) : Type 0 where
   pub members : (place : ℕ) → place < 8 → option_map (λ (node : Node T K Kind Op Delta ghosts keeping). node.id) (item_at nodes place) ≡ identity_at (last_view views) place
   pub spares : (place : ℕ) → place < 8 → is_some (item_at spare place) ≡ not (is_some (item_at nodes place))
+  pub limits : (place : ℕ) → place < 8 → ForSome (item_at nodes place) (λ node. node.limit ≡ program_steps)
 
 module _ {K : Type 0} (keeping : Keeping K) where
   -- These answers were told after those before, and no more of them are failures than the count rose by. A table that was told is told.

@@ -1,7 +1,7 @@
 -- How the first world's keepers come to their places, and how a member starts at one.
 --     RefusesToClear        what a refusal to forget leaves
 --     Clears        what is left after all keepers were to forget all
---     IsNewMember        a member without records
+--     IsNewMember        a member without records, with the program's limit
 --     Seats        the spare keeper of a place went to a new member
 --     AreFirstSeats        those of the first places did
 --     IsLeft        the member at a place left, and its keeper is there
@@ -19,6 +19,7 @@ use Rattle.member_keeper.specs.declared.keeper.KeeperError.TheVariants.{Failed, 
 use Rattle.member_node.specs.declared.key.KeyDecl.{KeyDecl}
 use Rattle.member_node.specs.declared.node.Node.{Node}
 use Rattle.member_node.specs.Members.{AreOfKinds, declared, StandsForNode}
+use Rattle.member_node.specs.Replies.{program_steps}
 use Rattle.world_members.specs.Keeping.{AtEachPlace, Keeps, IsCleared, FailsToClear, IsNotCleared, AreKept}
 use Rattle.world_members.specs.Places.{item_at, keeper_of}
 
@@ -56,6 +57,7 @@ module _ {T K Kind Op Delta : Type 0} {ghosts : Ghosts T Kind Op Delta} {keeping
   pub record IsNewMember (id : ℕ) (view : View) (keys : List (KeyDecl T Kind Op Delta)) (keeper : K) (node : Node T K Kind Op Delta ghosts keeping) : Type 0 where
     pub identity : node.id ≡ id
     pub kept : node.keeper ≡ keeper
+    pub limit : node.limit ≡ program_steps
     pub stands : (kinds : Text → Kind) (logs : Text → History Op) → ((key : Text) → IsHistory (logs key)) → AreOfKinds kinds keys
         → StandsForNode ghosts.kind_of ghosts.IsDataOf kinds logs node (loaded_node (map declared keys) id view no_entries)
 

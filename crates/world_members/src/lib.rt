@@ -12,10 +12,11 @@
 //!   that member, anywhere on the script's way, has it too, and mentions the identity neither in
 //!   its versions nor in its data (`the_removed_never_returns` (`IsHeld`, `HasPruned`,
 //!   `IsWithout`)).
-//! - Each place has the member of the last view there, or a spare keeper; each keeper told its
-//!   answers after those before, no more of them failures than its count of faults rose; a keeper
-//!   that tells its table goes on telling it, and it spells its place's store (`World`
-//!   (`AreSeated`), `World::step` (`Plays.kept`, `Keeps`), `StandsForWorld.stores`).
+//! - Each place has the member of the last view there, with the program's limit of steps, or a
+//!   spare keeper; each keeper told its answers after those before, no more of them failures than
+//!   its count of faults rose; a keeper that tells its table goes on telling it, and it spells its
+//!   place's store (`World` (`AreSeated`), `World::step` (`Plays.kept`, `Keeps`),
+//!   `StandsForWorld.stores`).
 //! - A restart over a keeper that tells its table is never answered with a damaged key; where a key
 //!   is damaged, nothing changed (`World::step` (`Plays.does`, `damaged`)).
 //! - After want of memory the world means what it meant; of a round and of a settle, what was done

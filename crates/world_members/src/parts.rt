@@ -87,8 +87,8 @@ where
         }
     }
 
-    /// The world with these parts. Each member has the identity that the last view has at its place, and there is a spare
-    /// keeper exactly where there is no member.
+    /// The world with these parts. Each member has the identity that the last view has at its place and the program's limit
+    /// of steps, and there is a spare keeper exactly where there is no member.
     pub fn from_parts(parts: Parts<T, K>) -> World<T, K>
         requires distinct { AreDistinct (map (λ decl. decl.key) parts.keys.items) }
         requires placed { ArePlaced parts.views parts.members parts.seats.spare.items }

@@ -181,7 +181,7 @@ fn step_on_row<T: SpelledData, K: Keeper + Drop>(
     input: &Input<T>,
 ) -> Result<Answered, StepError>
     ensures ok { IfOk result (λ answered. IsStepOnRow T.SpelledData.own node.old input.now answered node.new (row_of row.old) (row_of row.new)) }
-    ensures full { result ≡ Err failed.HistoryFull → node.old.steps ≡ 16384 }
+    ensures full { result ≡ Err failed.HistoryFull → node.old.steps ≡ node.old.limit }
     ensures err { OnErr result (IsUnchanged node.old node.new × (row_of row.new ≡ row_of row.old)) }
 {
     let room = most_posts(node.view(), input);
@@ -200,7 +200,7 @@ fn step_on_made<T: SpelledData, K: Keeper + Drop>(
     input: &Input<T>,
 ) -> Result<Answered, StepError>
     ensures ok { IfOk result (λ answered. IsStepOnRow T.SpelledData.own node.old input.now answered node.new (channels_in row.old) (channels_in row.new)) }
-    ensures full { result ≡ Err failed.HistoryFull → node.old.steps ≡ 16384 }
+    ensures full { result ≡ Err failed.HistoryFull → node.old.steps ≡ node.old.limit }
     ensures err { OnErr result (IsUnchanged node.old node.new × (channels_in row.new ≡ channels_in row.old)) }
 {
     make_row(alloc, row)?;
@@ -217,7 +217,7 @@ pub(crate) fn step_on<T: SpelledData, K: Keeper + Drop>(
     input: &Input<T>,
 ) -> Result<Answered, StepError>
     ensures ok { IfOk result (λ answered. IsStepOnLinks T.SpelledData.own node.old input.now answered node.new at links.old links.new) }
-    ensures full { result ≡ Err failed.HistoryFull → node.old.steps ≡ 16384 }
+    ensures full { result ≡ Err failed.HistoryFull → node.old.steps ≡ node.old.limit }
     ensures err { OnErr result (IsUnchanged node.old node.new × (links.new ≡ links.old)) }
 {
     let sender = usize::from(at.number());
@@ -240,7 +240,7 @@ fn take_in_room<T: SpelledData, K: Keeper + Drop>(
     requires empty { sent.items ≡ [] }
     requires room { 1 ≤ vec_capacity sent }
     ensures ok { IfOk result (λ answered. TakesOnLinks T.SpelledData.own node.old from index answered node.new at links.old links.new) }
-    ensures full { result ≡ Err failed.HistoryFull → node.old.steps ≡ 16384 }
+    ensures full { result ≡ Err failed.HistoryFull → node.old.steps ≡ node.old.limit }
     ensures err { OnErr result (IsUnchanged node.old node.new × (links.new ≡ links.old)) }
 {
     let sender = usize::from(at.number());
@@ -265,7 +265,7 @@ pub(crate) fn take_on<T: SpelledData, K: Keeper + Drop>(
 ) -> Result<Answered, StepError>
     requires { is_some (message_on (channel_at links.old from at) index) ≡ true }
     ensures ok { IfOk result (λ answered. TakesOnLinks T.SpelledData.own node.old from index answered node.new at links.old links.new) }
-    ensures full { result ≡ Err failed.HistoryFull → node.old.steps ≡ 16384 }
+    ensures full { result ≡ Err failed.HistoryFull → node.old.steps ≡ node.old.limit }
     ensures err { OnErr result (IsUnchanged node.old node.new × (links.new ≡ links.old)) }
 {
     let room = links.room()?;

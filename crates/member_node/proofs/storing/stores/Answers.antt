@@ -4,11 +4,12 @@ use Rattle.std.proofs.lemmas.Result.{IfOk-weaker}
 use Rattle.member_node.proofs.Common.{StandsFor, parts_of, KeyState, StandsAfter}
 use Rattle.member_node.specs.Planning.{entry_in, changed_entry, ticked_entry, CanCarryOut, KeepsKinds, HaveTheirKinds, Lead}
 use Rattle.member_node.specs.Storing.{AreStores, AreStoresOf}
+use Rattle.member_node.specs.Answerable.{StoresNothing}
 use Rattle.member_node.proofs.Making.{spelled_more, spelled_past, spelled_all}
 use Rattle.member_node.proofs.storing.stores.Goals as goal
 
-pub returns-in-Nothing : goal.returns-in-Nothing
-returns-in-Nothing g c = λ kinds logs old next same same' held leads.
+pub returns-in-Nothing-clause-stores : goal.returns-in-Nothing-clause-stores
+returns-in-Nothing-clause-stores g c = λ kinds logs old next same same' held leads.
     spelled_all g.T.Replica g.T.SpelledData logs old next c.args.keys.now (entry_in c.args.plan.now) leads.leads c.new.result 0 (omega arith)
     (λ k past below. ap (λ plan. entry_in plan k) c.in-Nothing.is) same' (record { these = c.new.ensures; kept = λ k d none. absurd (omega arith) })
 
@@ -29,8 +30,8 @@ add-requires g c =
     c.requires.kinds index state entry within (ap (λ plan. entry_in plan index) c.in-At.is ∙ ap (λ b. if b then Some entry else None) (eq-eqb index index refl))
     ∙ ap (λ (state : KeyState g.row.T.Denot g.row.T-Kind.Denot g.row.T-Op.Denot g.row.T-Delta.Denot). state.kind) (sym c.index-keys-index.is)
 
-pub returns-in_ok-add-in-At : goal.returns-in_ok-add-in-At
-returns-in_ok-add-in-At g c = λ kinds logs old next same same' held leads.
+pub returns-in_ok-add-in-At-clause-stores : goal.returns-in_ok-add-in-At-clause-stores
+returns-in_ok-add-in-At-clause-stores g c = λ kinds logs old next same same' held leads.
     let R = g.T.Replica in
     let S = g.T.SpelledData in
     let keys = c.args.keys.now in
@@ -58,21 +59,21 @@ stores_of_changes-requires g c = record {
   kinds = subst (KeepsKinds g.T.Replica c.args.keys.now) c.in-Each.is c.requires.kinds;
 }
 
-pub returns-in-Each : goal.returns-in-Each
-returns-in-Each g c =
+pub returns-in-Each-clause-stores : goal.returns-in-Each-clause-stores
+returns-in-Each-clause-stores g c =
     let R = g.T.Replica in
     let S = g.T.SpelledData in
     let keys = c.args.keys.now in
     IfOk-weaker c.stores_of_changes.result (AreStoresOf R S keys (changed_entry c.in-Each.changes)) (AreStores R S keys c.args.plan.now)
     (λ items stores. λ kinds logs old next same same' held leads. stores kinds logs old next same same' held (subst (λ plan. Lead R.IsDataOf logs keys old.entries next.entries (entry_in plan)) c.in-Each.is leads.leads))
-    c.stores_of_changes.ensures
+    c.stores_of_changes.ensures.stores
 
 pub stores_of_ticks-requires : goal.stores_of_ticks-requires
 stores_of_ticks-requires g c =
     subst (λ items. HaveTheirKinds g.T.Replica c.args.keys.now (ticked_entry items)) (sym c.deref.ensures.value) (subst (KeepsKinds g.T.Replica c.args.keys.now) c.in-Ticked.is c.requires.kinds)
 
-pub returns-in-Ticked : goal.returns-in-Ticked
-returns-in-Ticked g c =
+pub returns-in-Ticked-clause-stores : goal.returns-in-Ticked-clause-stores
+returns-in-Ticked-clause-stores g c =
     let R = g.T.Replica in
     let S = g.T.SpelledData in
     let keys = c.args.keys.now in
@@ -81,3 +82,17 @@ returns-in-Ticked g c =
     stores kinds logs old next same same' held
     (subst (λ items. Lead R.IsDataOf logs keys old.entries next.entries (ticked_entry items)) (sym c.deref.ensures.value) (subst (λ plan. Lead R.IsDataOf logs keys old.entries next.entries (entry_in plan)) c.in-Ticked.is leads.leads)))
     c.stores_of_ticks.ensures
+
+-- WHERE NOTHING IS STORED
+
+pub returns-in-Nothing-clause-nothing : goal.returns-in-Nothing-clause-nothing
+returns-in-Nothing-clause-nothing g c = λ nothing. c.new.ensures
+
+pub returns-in_ok-add-in-At-clause-nothing : goal.returns-in_ok-add-in-At-clause-nothing
+returns-in_ok-add-in-At-clause-nothing g c = λ nothing. absurd (subst StoresNothing c.in-At.is nothing)
+
+pub returns-in-Each-clause-nothing : goal.returns-in-Each-clause-nothing
+returns-in-Each-clause-nothing g c = λ nothing. c.stores_of_changes.ensures.nothing (subst StoresNothing c.in-Each.is nothing)
+
+pub returns-in-Ticked-clause-nothing : goal.returns-in-Ticked-clause-nothing
+returns-in-Ticked-clause-nothing g c = λ nothing. absurd (subst StoresNothing c.in-Ticked.is nothing)

@@ -21,6 +21,7 @@ loop-at-init g c = record {
   begun = λ j d none. absurd (omega arith);
   ahead = λ j d later inside. omega arith;
   spelled = λ kinds logs old next same same' held lead. record { these = c.new-stores.ensures; kept = λ k d none. absurd (omega arith) };
+  nothing = λ none. c.new-stores.ensures;
 }
 
 pub bounds-keys-at : goal.bounds-keys-at
@@ -96,10 +97,16 @@ loop-at-preserved g c =
                 (spelled_past R S logs old next keys (changed_entry changes) lead c.loop-at.stores inv.from (x.index + 1) (omega arith) (omega arith)
                 (λ k past below. elim (cases_eq k x.index) [ inl same ↦ ap (changed_entry changes) same ∙ still | inr other ↦ none k past (omega arith) ]) so_far)
           ];
+      nothing = λ nowhere. elim c.match-at.branch [
+        | in-Entry+in_ok-add w ↦
+            let entry = ap new_entry (change_is changes cs sparse i x within c.at-item.is None) ∙ ap (λ (change : Change g.row.T.Denot g.row.T-Kind.Denot g.row.T-Op.Denot g.row.T-Delta.Denot). new_entry (Some change)) w.in-Entry.is in
+            absurd (cc (sym (nowhere x.index) ∙ entry))
+        | in_default w ↦ w.stores-is ∙ inv.nothing nowhere
+      ];
     }
 
-pub returns : goal.returns
-returns g c = λ kinds logs old next same same' held lead.
+pub returns-clause-stores : goal.returns-clause-stores
+returns-clause-stores g c = λ kinds logs old next same same' held lead.
     let inv = c.loop-at.invariant in
     let keys = c.args.keys.now in
     let changes = c.args.changes.now in
@@ -109,3 +116,6 @@ returns g c = λ kinds logs old next same same' held lead.
     spelled_all g.T.Replica g.T.SpelledData logs old next keys (changed_entry changes) lead c.loop-at.stores inv.from inv.few
     (λ k past below. ap new_entry (sparse_at changes cs sparse k None (omega arith) ∙ nothing_between cs c.loop-at.at-index inv.from k inv.begun (λ j d after under. absurd (omega arith)) past)) same'
     (inv.spelled kinds logs old next same same' held lead)
+
+pub returns-clause-nothing : goal.returns-clause-nothing
+returns-clause-nothing g c = c.loop-at.invariant.nothing

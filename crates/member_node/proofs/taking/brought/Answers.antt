@@ -10,6 +10,7 @@ use Rattle.member_node.specs.Answers.{reply_to, only_asks, answers_of}
 use Rattle.member_node.proofs.Takings.{kept_first, leads_first}
 use Rattle.member_node.proofs.Growing.{groups-only}
 use Rattle.member_node.proofs.Sendings.{brings, replies, answers_stand, not_opened, changed_is, few_answers}
+use Rattle.member_node.proofs.Answerings.{taken_reply}
 use Rattle.member_node.proofs.taking.brought.Goals as goal
 
 pub returns : goal.returns
@@ -56,6 +57,7 @@ returns g c =
       opens_none = not_opened c.reply-reply.result (only_asks c.args.message.now) c.any_changed-changed.result c.as_slice.result.now c.reply-reply.ensures;
       counted = (c.in_ok-take_entries.ensures.kept (c.in_ok-gaps.ensures.kept (kept_first g.T.Replica.kind_of c.args.id keys first c.unchanged-changes.ensures))).one_each;
       ends_none = search rules;
+      takes = taken_reply c.reply-reply.result (only_asks c.args.message.now) c.any_changed-changed.result c.as_slice.result.now c.reply-reply.ensures;
     }
 
 -- each key has its place, at each step

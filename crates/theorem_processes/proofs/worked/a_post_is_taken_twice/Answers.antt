@@ -22,4 +22,5 @@ returns g c =
     are_met c.args.keys.now c.in_ok-one.one c.in_ok-other.other
     (subst (λ (v : View). IsMade c.args.keys.now 0 v c.in_ok-one.one) view c.in_ok-one.ensures.made)
     (subst (λ (v : View). IsMade c.args.keys.now 1 v c.in_ok-other.other) view' c.in_ok-other.ensures.made)
-    g.T.SpelledData g.T.SpelledDelta c.posted.new.member c.taken.new.member c.taken-2.new.member c.in_ok-bytes.bytes.items posting once again
+    g.T.SpelledData g.T.SpelledDelta c.posted.new.member c.taken.new.member c.taken-2.new.member c.forget.new.self c.in_ok-bytes.bytes.items posting once again
+    (record { same = c.forget.ensures.same; forgotten = c.forget.ensures.forgotten; stands = c.forget.ensures.stands })

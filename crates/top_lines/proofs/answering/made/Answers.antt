@@ -12,5 +12,5 @@ returns-in_err-push_output-in-Ok g c =
 
 pub returns-in_ok-push_output-in-Ok : goal.returns-in_ok-push_output-in-Ok
 returns-in_ok-push_output-in-Ok g c =
-    made c.in-Ok.output c.in-Ok.ensures.step
+    made c.in-Ok.output _ c.in-Ok.ensures.step (c.forget.ensures.same, c.forget.ensures.stands)
     (c.in_ok-push_output-in-Ok.ensures ∙ ap (λ t. t ++ output_text g.T.Replica g.T.SpelledData g.T.SpelledDelta c.in-Ok.output) c.new-text.ensures.bytes)

@@ -1,4 +1,4 @@
-use Rattle.std.proofs.Common.{◌∙◌, sym, ap, refl}
+use Rattle.std.proofs.Common.{◌∙◌, ap}
 use Rattle.std.proofs.lemmas.Result.{IfOk-weaker}
 use Rattle.world_members.specs.declared.sending.Answered.{Answered}
 use Rattle.world_members.specs.Channels.{row_of, made, channels_in}

@@ -1,4 +1,4 @@
-use Rattle.std.proofs.Common.{◌≡◌, sym, subst, refl, Some}
+use Rattle.std.proofs.Common.{◌≡◌, sym, subst, Some}
 use Rattle.member_node.specs.declared.input.Input.TheVariants as input
 use Rattle.world_members.specs.Channels.{channel_at, message_on}
 use Rattle.world_members.specs.Sending.{IsStepOnLinks}

@@ -11,6 +11,7 @@ returns-in-Ok-clause-seats g c =
     (record {
       identity = c.in-Ok.ensures.identity;
       kept = c.in-Ok.ensures.keeper;
+      limit = c.in-Ok.ensures.limit;
       stands = λ kinds logs histories of_kinds.
           subst (λ v. StandsForNode g.T.Replica.kind_of g.T.Replica.IsDataOf kinds logs c.in-Ok.node (loaded_node (map declared c.args.keys.now) c.args.id v no_entries)) c.in_ok-view.ensures (c.in-Ok.ensures.stands kinds logs histories of_kinds);
     })

@@ -1,6 +1,6 @@
 use Rattle.std.proofs.Common.{[], None, not, length, get_or, refl, sym, ap, ◌∙◌, subst, subst₂, true, false, ◌&&◌, option_copied, bytes_eq}
 use Rattle.std.specs.List.{list_any}
-use Rattle.member_node.proofs.Common.{is_unchanged, OpenOperation, one_step_later, NoStore, step_of_take, after_entries, counted, is_answered_by, entry_digest, StandsForPosts, Each, Prepared, AreMade, TellsEntries, IsPrepared, replication, IsKept, LeadsTo, AreExactAt}
+use Rattle.member_node.proofs.Common.{known, is_unchanged, OpenOperation, one_step_later, NoStore, step_of_take, after_entries, counted, is_answered_by, entry_digest, StandsForPosts, Each, Prepared, AreMade, TellsEntries, IsPrepared, replication, IsKept, LeadsTo, AreExactAt}
 use Rattle.model_history.specs.Vector.{alone}
 use Rattle.model_members.specs.Step.{took}
 use Rattle.model_members.proofs.Taking.{after_entries-only}
@@ -9,6 +9,9 @@ use Rattle.member_node.specs.Inputs.{keyed_envelope, keyed_entry_of}
 use Rattle.member_node.proofs.TakingSteps.{keyed_same, counted_entries, member_is, held_first, step_taken, held_later, sound_taken, prepared_taken}
 use Rattle.member_node.proofs.Operating.{counts_can, counts_opens_none, read_counts, operates_same}
 use Rattle.member_node.proofs.Sendings.{took_reply, not_opened, changed_is}
+use Rattle.member_node.specs.declared.input.Input.TheVariants as inputs
+use Rattle.member_messages.specs.declared.message.Message.TheVariants as messages
+use Rattle.member_node.proofs.Answerings.{taken_reply, take_fails, replies_stored}
 use Rattle.member_node.proofs.node.Node.answer_taken.Goals as goal
 
 pub any_changed-requires : goal.any_changed-requires
@@ -27,7 +30,7 @@ returns g c =
           record {
             plan = sound_taken code changes kept;
             operations = counts_can code.operations c.args.from c.args.op test (λ end. Unit {0}) c.in_ok-counted.counted c.in_ok-counted.ensures.counts;
-            pending = not_opened c.of_take-reply.result false c.any_changed.result [] c.of_take-reply.ensures ∙ sym (counts_opens_none code.operations c.args.from c.args.op test (λ end. Unit {0}) c.in_ok-counted.counted c.in_ok-counted.ensures.counts);
+            pending = not_opened c.of_take-reply.result false c.any_changed.result [] c.of_take-reply.ensures ∙ sym (counts_opens_none (known code.operations) c.args.from c.args.op test (λ end. Unit {0}) c.in_ok-counted.counted c.in_ok-counted.ensures.counts);
           };
       image = λ kinds logs node sent s i safe.
           let S = g.T.SpelledData in
@@ -58,16 +61,19 @@ returns g c =
           ∙ sym (changed_is later after code.keys.items (ap (λ n. n.keys) only ∙ s.keys)) in
           let asked : OpenOperation = record { op = op; key = key; reads = true; needed = 0; counted = alone from } in
           let is = c.in_ok-counted.ensures.image (entry_digest S.history_byte S.history_spelled) kinds logs node.entries after asked (held_first R.kind_of R.IsDataOf kinds logs code node s) kept leads (ap (λ n. n.keys) only ∙ s.keys) refl refl in
-          let stands = operates_same code.operations node after s.operations (ap (λ n. n.open_operations) only) (ap (λ n. n.finished) only) (ap (λ n. n.next_op) only) in
-          let w = read_counts D code.operations stepped stands refl from op key asked refl refl c.in_ok-counted.counted is in
+          let stands = operates_same (known code.operations) node after s.operations (ap (λ n. n.open_operations) only) (ap (λ n. n.finished) only) (ap (λ n. n.next_op) only) in
+          let w = read_counts D (known code.operations) stepped stands refl from op key asked refl refl c.in_ok-counted.counted is in
           let prepared : Prepared g.row.T.Denot g.row.T-Kind.Denot g.row.T-Op.Denot g.row.T-Delta.Denot R =
           record { view = None; plan = Each changes; operations = c.in_ok-counted.counted.change; output = record { reply = c.of_take-reply.result; posts = c.new.result; finished = c.in_ok-counted.counted.finished } } in
-          subst (λ st. IsPrepared {ghosts = R} kinds logs code.keys.items code.operations node st prepared) (sym same)
+          subst (λ st. IsPrepared {ghosts = R} kinds logs code.keys.items (known code.operations) node st prepared) (sym same)
           (prepared_taken code changes kept kinds logs node s after only leads next w.only prepared refl refl w.operates (record {
             reply = took_reply D c.of_take-reply.result c.any_changed.result later after c.of_take-reply.ensures changed ∙ sym w.reply;
             posts = subst₂ (StandsForPosts {ghosts = R} R.kind_of R.IsDataOf kinds logs) (sym c.new.ensures) (sym w.posts) tt;
             ended = w.ended;
           }));
+      replies =
+          let takes = taken_reply c.of_take-reply.result false c.any_changed.result [] c.of_take-reply.ensures in
+          replies_stored (inputs.Take c.args.from (messages.ReadAnswer c.args.op c.args.key.now (option_copied c.args.envelope))) _ c.of_take-reply.result refl tt takes (take_fails c.of_take-reply.result takes);
     }
 
 pub read_counted-requires : goal.read_counted-requires

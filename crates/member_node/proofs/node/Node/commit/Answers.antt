@@ -1,7 +1,7 @@
 use Rattle.std.proofs.Common.{rules, refl, ℕ, ◌+◌, ◌≤◌, List, [], ◌∷◌, length, sym, subst, arith, length-set, length-append, ◌≡◌, ap, ◌∙◌, Vec}
 use Rattle.std.specs.Vec.{with_items}
 use Rattle.std.proofs.lemmas.List.{with_items_is}
-use Rattle.member_node.proofs.Common.{Open, Put, changed_operations, AreOwned, recorded, KeyState, Nothing, At}
+use Rattle.member_node.proofs.Common.{known, Open, Put, changed_operations, AreOwned, recorded, KeyState, Nothing, At}
 use Rattle.member_node.specs.declared.operation.Operation.{Operation}
 use Rattle.member_node.specs.declared.operations.OperationChange.{OperationChange}
 use Rattle.member_node.specs.declared.operations.OperationChange.TheVariants.{Same, Opened}
@@ -38,6 +38,7 @@ returns g c = record {
   operated = c.change.ensures;
   viewed = c.install.ensures;
   counted = refl;
+  limit = refl;
   identity = refl;
   keeper = refl;
 }
@@ -46,11 +47,12 @@ pub invariant_of-self : goal.invariant_of-self
 invariant_of-self g c = record {
   few_operations =
       let code = c.args.self.now in
-      subst (λ (os : List Operation). length os ≤ code.steps + 1) (sym c.change.ensures) (few_changed code.operations c.args.operations code.steps code.few_operations);
+      subst (λ (os : List Operation). length os ≤ code.steps + 1) (sym c.change.ensures) (few_changed (known code.operations) c.args.operations code.steps code.few_operations);
   few_own = (owned g c).few;
   unpruned = (owned g c).unpruned;
   logged = (owned g c).logged;
   of_kinds = (owned g c).of_kinds;
   distinct = (owned g c).distinct;
   few_steps = search rules;
+  few_limit = c.args.self.now.few_limit;
 }

@@ -1,11 +1,13 @@
 use Rattle.std.proofs.Common.{None, get_or, refl, sym, ap, ◌∙◌, subst, map, option_map, if◌then◌else◌}
-use Rattle.member_node.proofs.Common.{Text, VersionVector, one_step_later, NoStore, step, step_of_take, answered, Each, Prepared, declared_by, AreOfTheirKinds, StandsForTaken, changed, AreMade, StandsForKey, IsPrepared, replication, IsKept, LeadsTo, AreHeld, AreExactAt}
+use Rattle.member_node.proofs.Common.{known, Text, VersionVector, one_step_later, NoStore, step, step_of_take, answered, Each, Prepared, declared_by, AreOfTheirKinds, StandsForTaken, changed, AreMade, StandsForKey, IsPrepared, replication, IsKept, LeadsTo, AreHeld, AreExactAt}
 use Rattle.model_members.specs.Node.Reply.{NotFromMember}
 use Rattle.member_node.specs.declared.operations.OperationChange.TheVariants.{Same as Unchanged}
 use Rattle.member_node.specs.Operations.{finished_meant}
 use Rattle.member_node.proofs.Takings.{kept_changed}
 use Rattle.member_node.proofs.TakingSteps.{member_is, held_first, stands_after, still_led}
 use Rattle.member_node.proofs.Planned.{sound_each, leads_each, owned, sound_as, operates_still}
+use Rattle.member_node.specs.declared.input.Input.TheVariants as inputs
+use Rattle.member_node.proofs.Answerings.{take_fails, replies_stored}
 use Rattle.member_node.proofs.node.Node.exchanged.Goals as goal
 
 pub returns : goal.returns
@@ -33,7 +35,7 @@ returns g c =
           let kept = subst (λ keys. AreMade (IsKept R.kind_of code.id) keys changes) keys_are c.in_ok-taken.ensures.kept in
           let leads = subst (λ keys. AreMade (LeadsTo R.IsDataOf logs node.entries next.node.entries) keys changes) keys_are t.leads in
           let prepared : Prepared g.row.T.Denot g.row.T-Kind.Denot g.row.T-Op.Denot g.row.T-Delta.Denot R = record { view = None; plan = Each changes; operations = Unchanged; output = c.in_ok-taken.taken.output } in
-          subst (λ st. IsPrepared {ghosts = R} kinds logs code.keys.items code.operations node st prepared) (sym (ap (λ input. step D node input NoStore) i.is ∙ same)) (record {
+          subst (λ st. IsPrepared {ghosts = R} kinds logs code.keys.items (known code.operations) node st prepared) (sym (ap (λ input. step D node input NoStore) i.is ∙ same)) (record {
             identity = ap (λ n. n.identity) t.only;
             declared = ap (λ n. n.keys) t.only;
             counted = ap (λ n. n.steps) t.only;
@@ -46,4 +48,5 @@ returns g c =
             operates = operates_still kinds logs code node s prepared next.node refl (ap (λ n. n.open_operations) t.only) (ap (λ n. n.finished) t.only) (ap (λ n. n.next_op) t.only);
             answers = record { reply = t.reply; posts = t.posts; ended = t.ended ∙ sym (ap (option_map finished_meant) c.in_ok-taken.ensures.ends_none) };
           });
+      replies = replies_stored (inputs.Take c.args.from c.args.message.now) _ c.in_ok-taken.taken.output.reply refl tt c.in_ok-taken.ensures.takes (take_fails c.in_ok-taken.taken.output.reply c.in_ok-taken.ensures.takes);
     }

@@ -1,4 +1,4 @@
-use Rattle.std.proofs.Common.{rules, ◌≡◌, List, Some, refl, sym, ap, ◌∙◌, subst, map, Option, All}
+use Rattle.std.proofs.Common.{rules, arith, ◌≡◌, List, Some, refl, sym, ap, ◌∙◌, subst, map, Option, All}
 use Rattle.member_node.proofs.Common.{declared_by, AreDistinct, AreDistinctKeys, AreSound, HoldsKept}
 use Rattle.member_keeper.specs.declared.stored.Stored.{Stored}
 use Rattle.member_keeper.specs.Tables.{Table}
@@ -31,6 +31,7 @@ invariant_of-result g c =
       of_kinds = kinds_loaded g.T.Replica g.T.SpelledData c.args.id c.args.view c.in-Ok-load.loaded.items c.in-Ok-restored.keys.items c.in-Ok-restored.ensures.holds;
       distinct = names_loaded c.in-Ok-restored.keys.items c.in-Ok.states.items (c.in-Ok-restored.ensures.declared ∙ ap (map declared_by) c.deref.ensures.value) distinct;
       few_steps = search rules;
+      few_limit = omega arith;
       few_operations = search rules;
     }
 

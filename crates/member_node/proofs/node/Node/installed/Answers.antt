@@ -1,5 +1,5 @@
 use Rattle.std.proofs.Common.{◌≡◌, ℕ, ◌<◌, ◌≤◌, Option, Some, false, true, arith, get_or, refl, sym, ap, ◌∙◌, subst, nat_le, if◌then◌else◌, None}
-use Rattle.member_node.proofs.Common.{Text, VersionVector, History, seen_by, one_step_later, NoStore, step, answered, number_at, Ghosts, Flushed, Each, Prepared, Output, changed, AreMade, StandsForKey, is_pending, meant, IsPrepared, replication, KeyState, Change}
+use Rattle.member_node.proofs.Common.{known, Text, VersionVector, History, seen_by, one_step_later, NoStore, step, answered, number_at, Ghosts, Flushed, Each, Prepared, Output, changed, AreMade, StandsForKey, is_pending, meant, IsPrepared, replication, KeyState, Change}
 use Rattle.model_members.specs.Entry as model
 use Rattle.model_members.specs.Node.Reply.{OldView, Installed}
 use Rattle.member_node.specs.Taking.{KeepsOwn}
@@ -9,6 +9,8 @@ use Rattle.member_node.specs.declared.reply.Reply.TheVariants as reply
 use Rattle.member_node.specs.Installing.{IsSeen}
 use Rattle.member_node.specs.Planning.{new_entry}
 use Rattle.member_node.proofs.Planned.{sound_each, leads_each, owned, sound_as, sound_told, operates_still, prepared_answered, quiet_output}
+use Rattle.member_node.specs.declared.input.Input.TheVariants as inputs
+use Rattle.member_node.proofs.Answerings.{replies_told, replies_stored}
 use Rattle.member_node.proofs.node.Node.installed.Goals as goal
 
 module _ {T Kind Op Delta : Type 0} (ghosts : Ghosts T Kind Op Delta) (id view : ℕ) where
@@ -52,7 +54,7 @@ returns-then-number-own-clause-image g c = λ kinds logs node sent s is safe.
     let number = ap (λ v. v.number) s.view ∙ sym c.number-own.ensures.number in
     let earlier : nat_le view.number node.view.number ≡ true = ap (nat_le view.number) number ∙ is_earlier view.number c.number-number.result c.number-own.result c.number-number.ensures.number c.if-number-own.true in
     let same = ap (λ b. if b then answered (one_step_later node) OldView else answered (record (one_step_later node) { view = view; entries = λ key. seen_by node.identity view.number (node.entries key) }) Installed) earlier in
-    subst (λ i. IsPrepared {ghosts = R} kinds logs code.keys.items code.operations node (step D node i NoStore) c.reply.result) (sym is)
+    subst (λ i. IsPrepared {ghosts = R} kinds logs code.keys.items (known code.operations) node (step D node i NoStore) c.reply.result) (sym is)
     (prepared_answered kinds logs code node s c.reply.result reply.OldView c.reply.ensures.view c.reply.ensures.plan c.reply.ensures.operations c.reply.ensures.output _ same)
 
 pub returns : goal.returns
@@ -74,7 +76,7 @@ returns g c =
           let after = record (one_step_later node) { view = view; entries = λ key. seen_by node.identity view.number (node.entries key) } in
           let same = ap (λ b. if b then answered (one_step_later node) OldView else answered (record (one_step_later node) { view = view; entries = λ key. seen_by node.identity view.number (node.entries key) }) Installed) later in
           let prepared : Prepared g.row.T.Denot g.row.T-Kind.Denot g.row.T-Op.Denot g.row.T-Delta.Denot R = record { view = Some c.in_ok-view.view; plan = Each changes; operations = Unchanged; output = c.told.result } in
-          subst (λ st. IsPrepared {ghosts = R} kinds logs code.keys.items code.operations node st prepared) (sym (ap (λ input. step D node input NoStore) is ∙ same)) (record {
+          subst (λ st. IsPrepared {ghosts = R} kinds logs code.keys.items (known code.operations) node st prepared) (sym (ap (λ input. step D node input NoStore) is ∙ same)) (record {
             identity = refl;
             declared = refl;
             counted = refl;
@@ -87,4 +89,8 @@ returns g c =
             operates = operates_still kinds logs code node s prepared after refl refl refl refl;
             answers = quiet_output kinds logs _ _ (ap (λ o. o.posts) c.told.ensures) (ap (λ o. o.finished) c.told.ensures) (ap (λ (o : Output g.row.T.Denot g.row.T-Kind.Denot g.row.T-Op.Denot g.row.T-Delta.Denot R). meant o.reply) c.told.ensures) refl refl;
           });
+      replies = replies_stored (inputs.Install c.args.view.now) _ reply.Installed (ap (λ (o : Output g.row.T.Denot g.row.T-Kind.Denot g.row.T-Op.Denot g.row.T-Delta.Denot R). o.reply) c.told.ensures) (ap (λ (o : Output g.row.T.Denot g.row.T-Kind.Denot g.row.T-Op.Denot g.row.T-Delta.Denot R). o.finished) c.told.ensures) refl refl;
     }
+
+pub returns-then-number-own-clause-replies : goal.returns-then-number-own-clause-replies
+returns-then-number-own-clause-replies g c = replies_told (inputs.Install c.args.view.now) c.reply.result reply.OldView c.reply.ensures.plan c.reply.ensures.output refl

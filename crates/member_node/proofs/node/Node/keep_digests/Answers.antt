@@ -28,6 +28,7 @@ invariant_of-self g c =
     let same = sym (written_again old.keys c.keep_for.new.keys (c.keep_for.ensures ∙ c.as_mut_slice.ensures.value)) in
     record {
       few_steps = old.few_steps;
+      few_limit = old.few_limit;
       few_operations = old.few_operations;
       few_own = subst (λ keys. HasFewOwn old.id old.steps keys.items) same old.few_own;
       unpruned = subst (λ keys. IsUnpruned old.id keys.items) same old.unpruned;
@@ -39,4 +40,4 @@ invariant_of-self g c =
 pub returns : goal.returns
 returns g c =
     let old = c.args.self.now in
-    same_otherwise (Coded-set g.row.T-Kind.coded) old _ refl refl refl (written_again old.keys c.keep_for.new.keys (c.keep_for.ensures ∙ c.as_mut_slice.ensures.value)) refl refl
+    same_otherwise (Coded-set g.row.T-Kind.coded) old _ refl refl refl (written_again old.keys c.keep_for.new.keys (c.keep_for.ensures ∙ c.as_mut_slice.ensures.value)) refl refl refl

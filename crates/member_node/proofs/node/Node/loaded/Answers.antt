@@ -31,31 +31,32 @@ invariant_of-result g c = record {
   of_kinds = kinds_loaded g.T.Replica g.T.SpelledData c.args.id c.args.view c.in-Ok.loaded.items c.in-Ok-restored.keys.items c.in-Ok-restored.ensures.holds;
   distinct = names_loaded c.in-Ok-restored.keys.items c.args.old.keys.items (c.in-Ok-restored.ensures.declared ∙ ap (map declared_by) c.deref.ensures.value) c.args.old.distinct;
   few_steps = search rules;
+  few_limit = c.args.old.few_limit;
   few_operations = search rules;
 }
 
 pub returns-in-Err-Failed-clause-refused : goal.returns-in-Err-Failed-clause-refused
 returns-in-Err-Failed-clause-refused g c = (
-  record { same = same_otherwise (Coded-set g.row.T-Kind.coded) c.args.old _ refl refl refl refl refl refl; table = c.load.ensures.table; later = c.load.ensures.cause.later },
+  record { same = same_otherwise (Coded-set g.row.T-Kind.coded) c.args.old _ refl refl refl refl refl refl refl; table = c.load.ensures.table; later = c.load.ensures.cause.later },
   subst (λ (e : KeeperError). JoinsRefusal (g.K.Keeper.answers c.args.old.keeper) (g.K.Keeper.answers c.load.new.self) e) c.in-Err-Failed.field-0-is c.in-Err-Failed.ensures.answers,
   c.in-Err-Failed.ensures.cause.failed c.in-Err-Failed.field-0-is,
 )
 
 pub returns-in-Err-Memory-clause-refused : goal.returns-in-Err-Memory-clause-refused
 returns-in-Err-Memory-clause-refused g c = (
-  record { same = same_otherwise (Coded-set g.row.T-Kind.coded) c.args.old _ refl refl refl refl refl refl; table = c.load.ensures.table; later = c.load.ensures.cause.later },
+  record { same = same_otherwise (Coded-set g.row.T-Kind.coded) c.args.old _ refl refl refl refl refl refl refl; table = c.load.ensures.table; later = c.load.ensures.cause.later },
   inl (subst (λ (e : KeeperError). JoinsRefusal (g.K.Keeper.answers c.args.old.keeper) (g.K.Keeper.answers c.load.new.self) e) c.in-Err-Memory.field-0-is c.in-Err-Memory.ensures.answers),
 )
 
 pub returns-in-Err-Damaged-clause-refused : goal.returns-in-Err-Damaged-clause-refused
 returns-in-Err-Damaged-clause-refused g c = (
-  record { same = same_otherwise (Coded-set g.row.T-Kind.coded) c.args.old _ refl refl refl refl refl refl; table = c.load.ensures.table; later = c.load.ensures.cause.later },
+  record { same = same_otherwise (Coded-set g.row.T-Kind.coded) c.args.old _ refl refl refl refl refl refl refl; table = c.load.ensures.table; later = c.load.ensures.cause.later },
   c.in-Ok.ensures.answers,
 )
 
 pub returns-clause-refused : goal.returns-clause-refused
 returns-clause-refused g c = (
-  record { same = same_otherwise (Coded-set g.row.T-Kind.coded) c.args.old _ refl refl refl refl refl refl; table = c.load.ensures.table; later = c.load.ensures.cause.later },
+  record { same = same_otherwise (Coded-set g.row.T-Kind.coded) c.args.old _ refl refl refl refl refl refl refl; table = c.load.ensures.table; later = c.load.ensures.cause.later },
   inr c.in-Ok.ensures.answers,
 )
 

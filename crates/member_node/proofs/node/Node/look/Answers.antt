@@ -1,6 +1,7 @@
-use Rattle.std.proofs.Common.{◌≡◌, Some, None, ap, ◌∙◌, sym, slice_get}
+use Rattle.std.proofs.Common.{◌≡◌, Some, None, ap, ◌∙◌, sym}
 use Rattle.member_node.proofs.Common.{Open, result_meant}
 use Rattle.member_node.specs.declared.operation.Operation.TheVariants.{Finished, TimedOut}
+use Rattle.member_node.specs.Operations.{kept_at}
 use Rattle.member_node.proofs.Operating.{looked, looked_result}
 use Rattle.member_node.proofs.node.Node.look.Goals as goal
 
@@ -12,7 +13,7 @@ pub returns-in_ok-copy-in-Some-Finished : goal.returns-in_ok-copy-in-Some-Finish
 returns-in_ok-copy-in-Some-Finished g c = λ kinds logs node s.
     let operations = c.args.self.now.operations in
     let end = c.in-Some-Finished.result in
-    let there : slice_get operations c.args.op ≡ Some (Finished end) = sym c.in-Some-Finished.ensures ∙ ap Some c.in-Some-Finished.field-0-is in (
+    let there : kept_at operations c.args.op ≡ Some (Finished end) = sym c.in-Some-Finished.ensures ∙ ap Some c.in-Some-Finished.field-0-is in (
       looked operations node s.operations c.args.op (Some (Finished end)) there,
       looked_result operations node s.operations c.args.op (Some (Finished end)) there ∙ ap (λ e. Some (result_meant e)) (sym c.in_ok-copy-in-Some-Finished.ensures),
     )
@@ -20,7 +21,7 @@ returns-in_ok-copy-in-Some-Finished g c = λ kinds logs node s.
 pub returns-in-Some-TimedOut : goal.returns-in-Some-TimedOut
 returns-in-Some-TimedOut g c = λ kinds logs node s.
     let operations = c.args.self.now.operations in
-    let there : slice_get operations c.args.op ≡ Some TimedOut = sym c.in-Some-TimedOut.ensures ∙ ap Some c.in-Some-TimedOut.field-0-is in
+    let there : kept_at operations c.args.op ≡ Some TimedOut = sym c.in-Some-TimedOut.ensures ∙ ap Some c.in-Some-TimedOut.field-0-is in
     (looked operations node s.operations c.args.op (Some TimedOut) there, looked_result operations node s.operations c.args.op (Some TimedOut) there)
 
 pub returns-in-None : goal.returns-in-None

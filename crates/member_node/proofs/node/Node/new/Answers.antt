@@ -1,4 +1,4 @@
-use Rattle.std.proofs.Common.{rules, refl, sym, subst}
+use Rattle.std.proofs.Common.{rules, arith, refl, sym, subst}
 use Rattle.member_node.proofs.Common.{AreDistinct}
 use Rattle.member_node.proofs.Standing.{few_fresh, unpruned_fresh, logged_fresh, kinds_fresh, names_fresh, stands_first}
 use Rattle.member_node.proofs.node.Node.new.Goals as goal
@@ -11,6 +11,7 @@ invariant_of-result g c = record {
   of_kinds = kinds_fresh g.T.Replica.kind_of g.T.Replica.IsDataOf g.T.Replica.IsDeltaOf c.args.id c.in-Ok.keys.items c.in-Ok.ensures.fresh;
   distinct = subst AreDistinct (sym (names_fresh c.in-Ok.keys.items c.args.keys.now c.in-Ok.ensures.declared)) c.requires.distinct;
   few_steps = search rules;
+  few_limit = omega arith;
   few_operations = search rules;
 }
 

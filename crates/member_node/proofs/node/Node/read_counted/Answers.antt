@@ -1,5 +1,5 @@
 use Rattle.std.proofs.Common.{◌≡◌, sym, ◌∙◌, subst}
-use Rattle.member_node.proofs.Common.{result_of, result_meant, delta_groups}
+use Rattle.member_node.proofs.Common.{known, result_of, result_meant, delta_groups}
 use Rattle.member_node.specs.declared.operation.OperationResult.{OperationResult}
 use Rattle.member_node.specs.Counting.{open_at, is_read_of, IsAnswered}
 use Rattle.member_node.proofs.Operating.{none_open, other_open, counts_nothing, counts_waits, counts_ends}
@@ -7,7 +7,7 @@ use Rattle.member_node.proofs.node.Node.read_counted.Goals as goal
 
 pub returns-in_default : goal.returns-in_default
 returns-in_default g c =
-    let operations = c.args.self.now.operations in
+    let operations = known c.args.self.now.operations in
     let test = is_read_of c.args.key.now in
     let nothing = λ (Ends : OperationResult → Type 0). counts_nothing operations c.args.from c.args.op test Ends c.nothing.result (none_open test (open_at operations c.args.op) c.in_default.ensures) c.nothing.ensures in
     record {
@@ -17,7 +17,7 @@ returns-in_default g c =
 
 pub returns-then-not-reads_key : goal.returns-then-not-reads_key
 returns-then-not-reads_key g c =
-    let operations = c.args.self.now.operations in
+    let operations = known c.args.self.now.operations in
     let test = is_read_of c.args.key.now in
     let other = other_open test (open_at operations c.args.op) c.in-Some.asked.now c.in-Some.ensures (sym c.reads_key.ensures ∙ c.if-not-reads_key.true) in
     let nothing = λ (Ends : OperationResult → Type 0). counts_nothing operations c.args.from c.args.op test Ends c.nothing-then-not-reads_key.result other c.nothing-then-not-reads_key.ensures in
@@ -30,7 +30,7 @@ pub returns-in-Some-2 : goal.returns-in-Some-2
 returns-in-Some-2 g c =
     let test = is_read_of c.args.key.now in
     let answered = subst (IsAnswered c.in-Some.asked.now c.args.from) c.in-Some-2.is c.in_ok-asked.ensures in
-    let waits = λ (Ends : OperationResult → Type 0). counts_waits c.args.self.now.operations c.args.from c.args.op test Ends c.open.result c.in-Some.asked.now c.in-Some-2.asked c.in-Some.ensures (sym c.reads_key.ensures ∙ c.if-not-reads_key.false) answered c.open.ensures in
+    let waits = λ (Ends : OperationResult → Type 0). counts_waits (known c.args.self.now.operations) c.args.from c.args.op test Ends c.open.result c.in-Some.asked.now c.in-Some-2.asked c.in-Some.ensures (sym c.reads_key.ensures ∙ c.if-not-reads_key.false) answered c.open.ensures in
     record {
       counts = waits (λ end. Unit {0});
       image = λ digest kinds logs before node asked held kept leads declares at_key reads. waits (λ end. result_meant end ≡ result_of (delta_groups g.T.Replica.data_type digest) node asked);
@@ -38,7 +38,7 @@ returns-in-Some-2 g c =
 
 pub returns-in_ok-end-in-None : goal.returns-in_ok-end-in-None
 returns-in_ok-end-in-None g c =
-    let operations = c.args.self.now.operations in
+    let operations = known c.args.self.now.operations in
     let test = is_read_of c.args.key.now in
     let answered = subst (IsAnswered c.in-Some.asked.now c.args.from) c.in-None.is c.in_ok-asked.ensures in
     record {

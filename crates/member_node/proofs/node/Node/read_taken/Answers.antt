@@ -1,5 +1,5 @@
-use Rattle.std.proofs.Common.{None, refl, sym, ap, ◌∙◌, subst}
-use Rattle.member_node.proofs.Common.{one_step_later, key_state, NoStore, step_of_take, answer_to, entry_digest, StandsForPosts, Nothing, Prepared, IsPrepared, replication}
+use Rattle.std.proofs.Common.{None, refl, sym, ap, ◌∙◌, subst, inl}
+use Rattle.member_node.proofs.Common.{known, one_step_later, key_state, NoStore, step_of_take, answer_to, entry_digest, StandsForPosts, Nothing, Prepared, IsPrepared, replication}
 use Rattle.model_members.specs.Message.{Message as Sent}
 use Rattle.model_members.specs.Node.Reply.{Taken}
 use Rattle.model_members.specs.Step.{sent, answered_entry}
@@ -29,9 +29,12 @@ returns-clause-image g c = λ kinds logs node input s i safe.
     let stands = c.in_ok-message.ensures (entry_digest S.history_byte S.history_spelled) kinds logs node s in
     let prepared : Prepared g.row.T.Denot g.row.T-Kind.Denot g.row.T-Op.Denot g.row.T-Delta.Denot R =
     record { view = None; plan = Nothing; operations = Same; output = record { reply = reply.Taken; posts = c.in_ok-posts.posts; finished = None } } in
-    subst (λ st. IsPrepared {ghosts = R} kinds logs code.keys.items code.operations node st prepared) (sym same)
+    subst (λ st. IsPrepared {ghosts = R} kinds logs code.keys.items (known code.operations) node st prepared) (sym same)
     (prepared_later kinds logs code node s prepared next refl refl refl refl (record {
       reply = refl;
       posts = subst (λ posts. StandsForPosts {ghosts = R} R.kind_of R.IsDataOf kinds logs posts (answer_to D from answer)) (sym c.in_ok-posts.ensures) (record { to = refl; message = stands }, tt);
       ended = refl;
     }))
+
+pub returns-clause-replies : goal.returns-clause-replies
+returns-clause-replies g c = record { stored = refl; failing = inl tt; ends = tt }

@@ -1,5 +1,5 @@
 use Rattle.std.proofs.Common.{◌≡◌, true, length, refl, sym, ap, ◌∙◌, bytes_eq}
-use Rattle.member_node.proofs.Common.{needed, NoStore, step, Message, entry_digest, level_meant, Nothing, Prepared, IsOpened, IsSoundFor, Prepares, replication}
+use Rattle.member_node.proofs.Common.{known, needed, NoStore, step, Message, entry_digest, level_meant, Nothing, Prepared, IsOpened, IsSoundFor, Prepares, replication}
 use Rattle.member_messages.specs.declared.message.Message.TheVariants.{Read}
 use Rattle.member_node.specs.declared.input.Input.TheVariants as input
 use Rattle.member_node.specs.declared.reply.Reply.TheVariants as reply
@@ -9,6 +9,8 @@ use Rattle.member_node.proofs.Planned.{sound_still, sound_told, prepared_answere
 use Rattle.member_node.proofs.Updating.{get_undeclared}
 use Rattle.member_node.proofs.Updates.{if_both, got_too_few, got_value, got_pending}
 use Rattle.member_node.proofs.Operating.{opened_can, opened_pending}
+use Rattle.member_node.specs.Answerable.{RepliesTo}
+use Rattle.member_node.proofs.Answerings.{replies_told, replies_still}
 use Rattle.member_node.proofs.node.Node.shown.Goals as goal
 
 pub returns-in_default-clause-sound : goal.returns-in_default-clause-sound
@@ -66,7 +68,7 @@ returns g c =
     let code = c.args.self.now in
     let name = c.index-state.result.now.name in
     let n = c.in-Ok.number in
-    let message : Message g.row.T.Denot g.row.T-Kind.Denot g.row.T-Op.Denot g.row.T-Delta.Denot R = Read (length code.operations) name in
+    let message : Message g.row.T.Denot g.row.T-Kind.Denot g.row.T-Op.Denot g.row.T-Delta.Denot R = Read (length (known code.operations)) name in
     record {
       sound =
           if_both (λ (prepared : Prepared g.row.T.Denot g.row.T-Kind.Denot g.row.T-Op.Denot g.row.T-Delta.Denot R). prepared.plan ≡ Nothing) (IsOpened code name true n message) (IsSoundFor code) c.read.result
@@ -85,4 +87,18 @@ returns g c =
           let number = ap (needed level) (ap (λ v. length v.members) s.view ∙ ap length (sym c.members-members.ensures.members)) ∙ c.in-Ok.ensures.enough in
           got_pending kinds logs code node s digest key level index at found c.index-state.ensures sent is n number c.if-number-le1.false prepared plan o)
           c.read.ensures.plan c.read.ensures.opened;
+      replies =
+          if_both (λ (prepared : Prepared g.row.T.Denot g.row.T-Kind.Denot g.row.T-Op.Denot g.row.T-Delta.Denot R). prepared.plan ≡ Nothing) (IsOpened code name true n message)
+          (RepliesTo (input.Get c.args.key.now c.args.level)) c.read.result
+          (λ prepared plan o. replies_still (input.Get c.args.key.now c.args.level) prepared (reply.Pending (length (known code.operations))) plan o.reply o.none_ends refl)
+          c.read.ensures.plan c.read.ensures.opened;
     }
+
+pub returns-in_default-clause-replies : goal.returns-in_default-clause-replies
+returns-in_default-clause-replies g c = replies_told (input.Get c.args.key.now c.args.level) c.reply.result reply.UnknownKey c.reply.ensures.plan c.reply.ensures.output refl
+
+pub returns-in_default-needed-clause-replies : goal.returns-in_default-needed-clause-replies
+returns-in_default-needed-clause-replies g c = replies_told (input.Get c.args.key.now c.args.level) c.reply-in_default-needed.result reply.TooFew c.reply-in_default-needed.ensures.plan c.reply-in_default-needed.ensures.output refl
+
+pub returns-then-number-le1-clause-replies : goal.returns-then-number-le1-clause-replies
+returns-then-number-le1-clause-replies g c = replies_told (input.Get c.args.key.now c.args.level) c.reply-then-number-le1.result c.in_ok-reply.reply c.reply-then-number-le1.ensures.plan c.reply-then-number-le1.ensures.output c.in_ok-reply.ensures.shows

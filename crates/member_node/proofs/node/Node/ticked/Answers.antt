@@ -1,6 +1,6 @@
 use Rattle.std.proofs.Common.{◌≡◌, ◌<◌, Bool, not, List, [], length, get_or, None, false, true, refl, sym, ap, ◌∙◌, subst, arith, All, ◌==◌, eq-eqb, ℕ, ◌∷◌, ◌++◌, map, flat_map, option_map, unwrap_or, if◌then◌else◌}
 use Rattle.std.specs.Global.{Vec}
-use Rattle.member_node.proofs.Common.{Text, VersionVector, History, IsPartOf, identities_of, one_step_later, state_of, Stepped, NoStore, step, answered, Replication, Shown, Ghosts, Keeping, entry_digest, Prepared, Output, KeyState, AreMade, StandsForKey, StandsForNode, is_pending, IsPrepared, ticked, LeadsOn, replication, IsKeyTick, IsTickedAs, TicksIn, tick_in, Node, KeyTick, AreDistinct, declared_by, meant}
+use Rattle.member_node.proofs.Common.{known, Text, VersionVector, History, IsPartOf, identities_of, one_step_later, state_of, Stepped, NoStore, step, answered, Replication, Shown, Ghosts, Keeping, entry_digest, Prepared, Output, KeyState, AreMade, StandsForKey, StandsForNode, is_pending, IsPrepared, ticked, LeadsOn, replication, IsKeyTick, IsTickedAs, TicksIn, tick_in, Node, KeyTick, AreDistinct, declared_by, meant}
 use Rattle.model_members.specs.View.{leader, removed_of}
 use Rattle.model_members.specs.Node as nodes
 use Rattle.model_members.specs.Node.Reply.{NotLeader, Ticked}
@@ -18,6 +18,8 @@ use Rattle.member_node.proofs.Ticks.{same_number, left_others, left_few}
 use Rattle.member_node.proofs.Planned.{sound_ticked, leads_ticked, owned, sound_as, sound_told, prepared_answered, operates_still, quiet_output}
 use Rattle.member_node.proofs.Sendings.{held_by}
 use Rattle.member_node.proofs.Takings.{declared_at}
+use Rattle.member_node.specs.declared.input.Input.TheVariants as inputs
+use Rattle.member_node.proofs.Answerings.{replies_told, replies_stored}
 use Rattle.member_node.proofs.node.Node.ticked.Goals as goal
 
 module _ {Kind Op : Type 0} (D : Replication Kind Op Shown) (node : nodes.Node Kind Op Shown) where
@@ -85,7 +87,7 @@ module _ {T K Kind Op Delta : Type 0} {ghosts : Ghosts T Kind Op Delta} {keeping
         (λ k d e within none. entry_ticked D (one_step_later node) code.keys.items s.keys s.distinct k d within ∙ (made.made k d e within).still none)
 
     prepared_ticked : (prepared : Prepared T Kind Op Delta ghosts) → prepared.view ≡ None → prepared.plan ≡ Plans.Ticked ticks → prepared.operations ≡ Same → prepared.output ≡ record { reply = replies.Ticked outcomes; posts = []; finished = None }
-        → IsPrepared {ghosts = ghosts} kinds logs code.keys.items code.operations node (after_tick D node) prepared
+        → IsPrepared {ghosts = ghosts} kinds logs code.keys.items (known code.operations) node (after_tick D node) prepared
     prepared_ticked prepared none plan same output = record {
       identity = refl;
       declared = refl;
@@ -132,7 +134,7 @@ returns-then-ne-clause-image g c = λ kinds logs node sent s is safe.
     let leads : leader node.view ≡ c.leader-leader.result = ap leader s.view ∙ sym c.leader-leader.ensures in
     let unled : (leader node.view == node.identity) ≡ false = (λ i. leads i == s.identity i) ∙ apart (c.leader-leader.result == code.id) c.if-ne.ensures in
     let same = step-tick-unled D node unled ∙ ap (λ n. answered (one_step_later node) (NotLeader n)) leads in
-    subst (λ i. IsPrepared {ghosts = R} kinds logs code.keys.items code.operations node (step D node i NoStore) c.reply.result) (sym is)
+    subst (λ i. IsPrepared {ghosts = R} kinds logs code.keys.items (known code.operations) node (step D node i NoStore) c.reply.result) (sym is)
     (prepared_answered kinds logs code node s c.reply.result (replies.NotLeader c.leader-leader.result) c.reply.ensures.view c.reply.ensures.plan c.reply.ensures.operations c.reply.ensures.output _ same)
 
 pub returns-clause-sound : goal.returns-clause-sound
@@ -162,6 +164,12 @@ returns-clause-image g c = λ kinds logs node sent s is safe.
     let made = subst (λ (l : List (KeyState g.row.T.Denot g.row.T-Kind.Denot g.row.T-Op.Denot g.row.T-Delta.Denot)). AreMade (IsTickedAs D (one_step_later node) R logs) l ticks.keys.items) keys image in
     let told = subst (λ (l : List (KeyState g.row.T.Denot g.row.T-Kind.Denot g.row.T-Op.Denot g.row.T-Delta.Denot)). TellsMore D (one_step_later node) [] l ticks.outcomes) keys tells in
     let prepared : Prepared g.row.T.Denot g.row.T-Kind.Denot g.row.T-Op.Denot g.row.T-Delta.Denot R = record { view = None; plan = Plans.Ticked ticks.keys; operations = Same; output = c.told.result } in
-    subst (λ i. IsPrepared {ghosts = R} kinds logs code.keys.items code.operations node (step D node i NoStore) prepared) (sym is)
-    (subst (λ st. IsPrepared {ghosts = R} kinds logs code.keys.items code.operations node st prepared) (sym (step-tick-led D node led))
+    subst (λ i. IsPrepared {ghosts = R} kinds logs code.keys.items (known code.operations) node (step D node i NoStore) prepared) (sym is)
+    (subst (λ st. IsPrepared {ghosts = R} kinds logs code.keys.items (known code.operations) node st prepared) (sym (step-tick-led D node led))
     (prepared_ticked D kinds logs code node s led ticks.keys ticks.outcomes own made told prepared refl refl refl c.told.ensures))
+
+pub returns-then-ne-clause-replies : goal.returns-then-ne-clause-replies
+returns-then-ne-clause-replies g c = replies_told inputs.PruneTick c.reply.result (replies.NotLeader c.leader-leader.result) c.reply.ensures.plan c.reply.ensures.output refl
+
+pub returns-clause-replies : goal.returns-clause-replies
+returns-clause-replies g c = replies_stored inputs.PruneTick _ (replies.Ticked c.in_ok-ticks.ticks.outcomes) (ap (λ (o : Output g.row.T.Denot g.row.T-Kind.Denot g.row.T-Op.Denot g.row.T-Delta.Denot g.T.Replica). o.reply) c.told.ensures) (ap (λ (o : Output g.row.T.Denot g.row.T-Kind.Denot g.row.T-Op.Denot g.row.T-Delta.Denot g.T.Replica). o.finished) c.told.ensures) refl refl

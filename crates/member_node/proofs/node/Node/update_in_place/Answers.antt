@@ -1,4 +1,4 @@
-use Rattle.std.proofs.Common.{rules, ◌+◌, set, refl, ◌≡◌, ℕ, length, Vec}
+use Rattle.std.proofs.Common.{sym, subst, rules, ◌+◌, set, refl, ◌≡◌, ℕ, length, Vec}
 use Rattle.std.specs.Coded.{Coded-set}
 use Rattle.std.specs.Vec.{with_item}
 use Rattle.std.proofs.Math.Nat.{ℕ_set}
@@ -7,6 +7,9 @@ use Rattle.member_node.proofs.Common.{AreOwned}
 use Rattle.member_node.proofs.Updates.{keys_still, owned_still, owned_in_place, steps_in_place}
 use Rattle.member_node.proofs.Standing.{tells_same, same_otherwise}
 use Rattle.member_node.proofs.node.Node.update_in_place.Given as given
+use Rattle.member_node.specs.Updates.{reply_of}
+use Rattle.member_node.specs.Answerable.{CanReply}
+use Rattle.member_node.proofs.Answerings.{applied_replies}
 use Rattle.member_node.proofs.node.Node.update_in_place.Goals as goal
 
 -- the element that stood there leaves all as it was
@@ -27,13 +30,13 @@ pub invariant_of-self-in-Err-1 : goal.invariant_of-self-in-Err-1
 invariant_of-self-in-Err-1 g c =
     let old = c.args.self.now in
     let kept = owned_still old c.in-Some.index c.index_mut.result.now c.index_mut.ensures.value c.apply.new.self c.in-Err.ensures.err in
-    record { few_steps = old.few_steps; few_operations = old.few_operations; few_own = kept.few; unpruned = kept.unpruned; logged = kept.logged; of_kinds = kept.of_kinds; distinct = kept.distinct }
+    record { few_steps = old.few_steps; few_limit = old.few_limit; few_operations = old.few_operations; few_own = kept.few; unpruned = kept.unpruned; logged = kept.logged; of_kinds = kept.of_kinds; distinct = kept.distinct }
 
 pub returns-in-Err-clause-err : goal.returns-in-Err-clause-err
 returns-in-Err-clause-err g c =
     let old = c.args.self.now in
     record {
-      same = same_otherwise (Coded-set g.row.T-Kind.coded) old _ refl refl refl (with_item-same old.keys c.in-Some.index c.apply.new.self (keys_still old c.in-Some.index c.index_mut.result.now c.index_mut.ensures.value c.apply.new.self c.in-Err.ensures.err)) refl refl;
+      same = same_otherwise (Coded-set g.row.T-Kind.coded) old _ refl refl refl (with_item-same old.keys c.in-Some.index c.apply.new.self (keys_still old c.in-Some.index c.index_mut.result.now c.index_mut.ensures.value c.apply.new.self c.in-Err.ensures.err)) refl refl refl;
       told = tells_same g.K.Keeper old.keeper;
     }
 
@@ -52,10 +55,14 @@ invariant_of-self g c = record {
   of_kinds = (made g c).of_kinds;
   distinct = (made g c).distinct;
   few_steps = search rules;
+  few_limit = c.args.self.now.few_limit;
   few_operations = search rules;
 }
 
 pub returns-in-Ok-clause-step : goal.returns-in-Ok-clause-step
 returns-in-Ok-clause-step g c =
     steps_in_place g.T.SpelledData c.args.self.now c.in-Update.key c.in-Update.op c.in-Update.level c.in-Some.index c.in-Some.ensures c.index_mut.result.now c.index_mut.ensures.value
-    c.in-Ok.became c.apply.new.self c.in-Ok.ensures.applied c.args.input.now c.in-Update.is _ c.requires refl refl refl refl refl refl
+    c.in-Ok.became c.apply.new.self c.in-Ok.ensures.applied c.args.input.now c.in-Update.is _ c.requires refl refl refl refl refl refl refl
+
+pub returns-in-Ok-clause-reply : goal.returns-in-Ok-clause-reply
+returns-in-Ok-clause-reply g c = subst (λ sent. CanReply sent (reply_of c.in-Ok.became)) (sym c.in-Update.is) (applied_replies c.in-Ok.became)

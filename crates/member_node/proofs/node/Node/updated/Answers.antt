@@ -1,5 +1,5 @@
 use Rattle.std.proofs.Common.{◌≡◌, None, true, false, length, refl, sym, ap, ◌∙◌, subst, bytes_eq}
-use Rattle.member_node.proofs.Common.{needed, NoStore, step, Message, entry_digest, level_meant, Envelope, At, Prepared, IsOpened, is_pending, IsSoundPlan, IsSoundFor, Prepares, replication}
+use Rattle.member_node.proofs.Common.{known, needed, NoStore, step, Message, entry_digest, level_meant, Envelope, At, Prepared, IsOpened, is_pending, IsSoundPlan, IsSoundFor, Prepares, replication}
 use Rattle.member_messages.specs.declared.message.Message.TheVariants.{Write}
 use Rattle.member_node.specs.declared.operations.OperationChange.TheVariants.{Same}
 use Rattle.member_node.specs.declared.input.Input.TheVariants as input
@@ -12,6 +12,9 @@ use Rattle.member_node.proofs.Planned.{sound_told, sound_as, prepared_answered}
 use Rattle.member_node.proofs.Updating.{update_undeclared}
 use Rattle.member_node.proofs.Updates.{sound_recorded, if_both, deleted_as, open_fits, unfit_of, told_deleted, told_unfit, told_too_few, prepares_refused, prepares_done, prepares_pending}
 use Rattle.member_node.proofs.Operating.{opened_can, opened_pending}
+use Rattle.std.proofs.lemmas.Result.{IfOk-weaker}
+use Rattle.member_node.specs.Answerable.{RepliesTo, CanRefuse}
+use Rattle.member_node.proofs.Answerings.{replies_told, replies_stored}
 use Rattle.member_node.proofs.node.Node.updated.Goals as goal
 
 pub returns-in_default-clause-sound : goal.returns-in_default-clause-sound
@@ -130,6 +133,7 @@ returns-then-number-le1 g c =
           let number = ap (needed (level_meant c.args.level)) (ap length (sym c.members-members.ensures.members)) ∙ c.in-Ok.ensures.enough in
           let means : MeansUpdate R code.id op at (Recorded entry next) = subst (MeansUpdate R code.id op at) c.in-Recorded.is c.in_ok-reply.ensures.means in
           prepares_done g.T.SpelledData code key op c.args.level index at found c.index-state.ensures kept fits c.in-Ok.number number prepared refl entry next own means refl c.if-number-le1.true refl c.told.ensures;
+      replies = replies_stored (input.Update key op c.args.level) prepared reply.Done (ap (λ o. o.reply) c.told.ensures) (ap (λ o. o.finished) c.told.ensures) refl refl;
     }
 
 pub returns-else-number-le1 : goal.returns-else-number-le1
@@ -144,7 +148,7 @@ returns-else-number-le1 g c =
     let entry = c.in-Recorded.entry in
     let next = c.in-Recorded.next in
     let own : IsOwn R code.id at (Recorded entry next) = subst (IsOwn R code.id at) c.in-Recorded.is c.in_ok-reply.ensures.owned in
-    let message : Message g.row.T.Denot g.row.T-Kind.Denot g.row.T-Op.Denot g.row.T-Delta.Denot R = Write (length code.operations) at.name entry in
+    let message : Message g.row.T.Denot g.row.T-Kind.Denot g.row.T-Op.Denot g.row.T-Delta.Denot R = Write (length (known code.operations)) at.name entry in
     let n = c.in-Ok.number in
     record {
       sound =
@@ -163,4 +167,22 @@ returns-else-number-le1 g c =
           (Prepares g.T.SpelledData code (input.Update key op c.args.level)) c.written.result
           (λ prepared plan o. prepares_pending g.T.SpelledData code key op c.args.level index at found c.index-state.ensures kept fits n number prepared o.viewed entry next own means plan c.if-number-le1.false o)
           c.written.ensures.plan c.written.ensures.opened;
+      replies =
+          IfOk-weaker c.written.result (IsOpened code at.name false n message) (RepliesTo (input.Update key op c.args.level))
+          (λ prepared o. replies_stored (input.Update key op c.args.level) prepared (reply.Pending (length (known code.operations))) o.reply o.none_ends refl refl) c.written.ensures.opened;
     }
+
+pub returns-in_default-clause-replies : goal.returns-in_default-clause-replies
+returns-in_default-clause-replies g c = replies_told (input.Update c.args.key.now c.args.op.now c.args.level) c.reply.result reply.UnknownKey c.reply.ensures.plan c.reply.ensures.output refl
+
+pub returns-then-closed-clause-replies : goal.returns-then-closed-clause-replies
+returns-then-closed-clause-replies g c = replies_told (input.Update c.args.key.now c.args.op.now c.args.level) c.reply-then-closed.result reply.Deleted c.reply-then-closed.ensures.plan c.reply-then-closed.ensures.output refl
+
+pub returns-then-not-fits-clause-replies : goal.returns-then-not-fits-clause-replies
+returns-then-not-fits-clause-replies g c = replies_told (input.Update c.args.key.now c.args.op.now c.args.level) c.reply-then-not-fits.result reply.WrongKind c.reply-then-not-fits.ensures.plan c.reply-then-not-fits.ensures.output refl
+
+pub returns-in_default-needed-clause-replies : goal.returns-in_default-needed-clause-replies
+returns-in_default-needed-clause-replies g c = replies_told (input.Update c.args.key.now c.args.op.now c.args.level) c.reply-in_default-needed.result reply.TooFew c.reply-in_default-needed.ensures.plan c.reply-in_default-needed.ensures.output refl
+
+pub returns-in-Refused-clause-replies : goal.returns-in-Refused-clause-replies
+returns-in-Refused-clause-replies g c = replies_told (input.Update c.args.key.now c.args.op.now c.args.level) c.reply-in-Refused.result c.in-Refused.reply c.reply-in-Refused.ensures.plan c.reply-in-Refused.ensures.output (subst CanRefuse c.in-Refused.is c.in_ok-reply.ensures.refuses)

@@ -1,6 +1,6 @@
 use Rattle.std.proofs.Common.{[], ◌∷◌, None, false, not, length, get_or, refl, sym, ap, ◌∙◌, subst}
 use Rattle.std.specs.List.{list_any}
-use Rattle.member_node.proofs.Common.{is_unchanged, one_step_later, NoStore, step_of_take, after_entries, answer_to, StandsForPosts, Each, Prepared, AreMade, TellsEntries, IsPrepared, replication, IsKept, LeadsTo, AreExactAt}
+use Rattle.member_node.proofs.Common.{known, is_unchanged, one_step_later, NoStore, step_of_take, after_entries, answer_to, StandsForPosts, Each, Prepared, AreMade, TellsEntries, IsPrepared, replication, IsKept, LeadsTo, AreExactAt}
 use Rattle.model_members.specs.Message.{Message as Sent}
 use Rattle.model_members.specs.Step.{took}
 use Rattle.model_members.proofs.Taking.{after_entries-only}
@@ -8,6 +8,9 @@ use Rattle.member_node.specs.declared.operations.OperationChange.TheVariants.{Sa
 use Rattle.member_node.proofs.TakingSteps.{written_taken, member_is, step_taken, held_later, sound_taken, prepared_taken}
 use Rattle.member_node.proofs.Operating.{operates_same}
 use Rattle.member_node.proofs.Sendings.{took_reply, not_opened, changed_is}
+use Rattle.member_node.specs.declared.input.Input.TheVariants as inputs
+use Rattle.member_messages.specs.declared.message.Message.TheVariants as messages
+use Rattle.member_node.proofs.Answerings.{taken_reply, take_fails, replies_stored}
 use Rattle.member_node.proofs.node.Node.write_taken.Goals as goal
 
 pub any_changed-requires : goal.any_changed-requires
@@ -53,12 +56,15 @@ returns g c =
           ∙ sym (changed_is later after code.keys.items (ap (λ n. n.keys) only ∙ s.keys)) in
           let prepared : Prepared g.row.T.Denot g.row.T-Kind.Denot g.row.T-Op.Denot g.row.T-Delta.Denot R =
           record { view = None; plan = Each changes; operations = Same; output = record { reply = c.of_take-reply.result; posts = c.in_ok-posts.posts; finished = None } } in
-          subst (λ st. IsPrepared {ghosts = R} kinds logs code.keys.items code.operations node st prepared) (sym same)
+          subst (λ st. IsPrepared {ghosts = R} kinds logs code.keys.items (known code.operations) node st prepared) (sym same)
           (prepared_taken code changes kept kinds logs node s after only leads next refl prepared refl refl
-          (operates_same code.operations node after s.operations (ap (λ n. n.open_operations) only) (ap (λ n. n.finished) only) (ap (λ n. n.next_op) only))
+          (operates_same (known code.operations) node after s.operations (ap (λ n. n.open_operations) only) (ap (λ n. n.finished) only) (ap (λ n. n.next_op) only))
           (record {
             reply = took_reply D c.of_take-reply.result c.any_changed.result later after c.of_take-reply.ensures test;
             posts = subst (λ posts. StandsForPosts {ghosts = R} R.kind_of R.IsDataOf kinds logs posts (answer_to D from (Sent.WriteAck op))) (sym c.in_ok-posts.ensures) (record { to = refl; message = refl }, tt);
             ended = refl;
           }));
+      replies =
+          let takes = taken_reply c.of_take-reply.result false c.any_changed.result [] c.of_take-reply.ensures in
+          replies_stored (inputs.Take c.args.from (messages.Write c.args.op c.args.key.now c.args.envelope.now)) _ c.of_take-reply.result refl tt takes (take_fails c.of_take-reply.result takes);
     }

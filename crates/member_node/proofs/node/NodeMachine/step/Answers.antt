@@ -6,8 +6,8 @@ use Rattle.member_node.proofs.Standing.{on_err, unchanged_same, rose_by}
 use Rattle.member_node.proofs.Making.{makes_step}
 use Rattle.member_node.proofs.node.NodeMachine.step.Goals as goal
 
-pub returns-then-self-ge-MOST_STEPS-clause-unchanged : goal.returns-then-self-ge-MOST_STEPS-clause-unchanged
-returns-then-self-ge-MOST_STEPS-clause-unchanged g c = unchanged_same c.args.self.now
+pub returns-then-self-clause-unchanged : goal.returns-then-self-clause-unchanged
+returns-then-self-clause-unchanged g c = unchanged_same c.args.self.now
 
 -- where the entry didn't change in its place, the member is as it was, but for digests that it keeps
 pub returns-in_err-view-clause-unchanged : goal.returns-in_err-view-clause-unchanged
@@ -38,7 +38,7 @@ returns-clause-steps g c =
     let same = c.in_ok-view.ensures.same ∙ c.in_ok-became.ensures.otherwise c.in_default.is in
     let fate = c.in_ok-fate.fate in
     let new = c.carry.new.self in
-    let few = subst (λ node. node.steps < 16384) (sym same) c.if-self-ge-MOST_STEPS.false in
+    let few = subst (λ node. node.steps < node.limit) (sym same) c.if-self.false in
     let step = makes_step g.T.SpelledData before c.in_ok-view.field-0 c.in_ok-view.ensures.sound fate new c.in_ok-fate.ensures.carried few c.args.input.now c.in_ok-view.ensures.image in
     subst (λ node. IsStepOf g.T.SpelledData node c.args.input.now fate c.after.result new) same (subst (λ output. IsStepOf g.T.SpelledData before c.args.input.now fate output new) (sym c.after.ensures) step)
 

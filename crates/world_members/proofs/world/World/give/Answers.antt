@@ -1,6 +1,6 @@
 use Rattle.std.proofs.Common.{refl}
 use Rattle.world_members.specs.Giving.{ChangesAt, gone}
-use Rattle.world_members.proofs.Seats.{same_id}
+use Rattle.world_members.proofs.Seats.{same_id, same_limit}
 use Rattle.world_members.proofs.Answering.{match_each, never_none, was_there, still_seated, outcome_gives, outcome_refuses}
 use Rattle.world_members.proofs.world.World.give.Goals as goal
 
@@ -11,6 +11,7 @@ pub invariant_of-self-clause-seated : goal.invariant_of-self-clause-seated
 invariant_of-self-clause-seated g c =
     still_seated c.args.at c.in-Some.place c.args.self.now c.in-Some.ensures c.index_mut.result.now c.index_mut.ensures.value c.in-Some-index_mut.node c.in-Some-index_mut.is c.step_on-outcome.new.node
     (same_id g.T.SpelledData c.in-Some-index_mut.node c.step_on-outcome.new.node c.args.input.now c.args.at c.args.self.now.links c.step_on-outcome.new.links c.step_on-outcome.result c.step_on-outcome.ensures.ok c.step_on-outcome.ensures.err)
+    (same_limit g.T.SpelledData c.in-Some-index_mut.node c.step_on-outcome.new.node c.args.input.now c.args.at c.args.self.now.links c.step_on-outcome.new.links c.step_on-outcome.result c.step_on-outcome.ensures.ok c.step_on-outcome.ensures.err)
 
 pub returns : goal.returns
 returns g c =

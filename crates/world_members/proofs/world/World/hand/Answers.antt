@@ -2,7 +2,7 @@ use Rattle.std.proofs.Common.{refl}
 use Rattle.member_node.specs.declared.input.Input.TheVariants as input
 use Rattle.world_members.specs.Channels.{channel_at, message_on}
 use Rattle.world_members.specs.Giving.{ChangesAt, gone}
-use Rattle.world_members.proofs.Seats.{same_id}
+use Rattle.world_members.proofs.Seats.{same_id, same_limit}
 use Rattle.world_members.proofs.Lists.{some_there}
 use Rattle.world_members.proofs.Answering.{match_each, never_none, was_there, still_seated, outcome_gives, outcome_refuses, taken_so}
 use Rattle.world_members.proofs.world.World.hand.Goals as goal
@@ -14,9 +14,10 @@ pub invariant_of-self-clause-seated : goal.invariant_of-self-clause-seated
 invariant_of-self-clause-seated g c =
     let world = c.args.self.now in
     let sent = some_there (message_on (channel_at world.links c.args.from c.args.to) c.args.index) c.requires in
+    let took = taken_so g.T.SpelledData c.in-Some-index_mut.node c.args.from c.args.index c.take_on-outcome.new.node c.args.to world.links c.take_on-outcome.new.links c.take_on-outcome.result c.take_on-outcome.ensures.ok sent.0 sent.1 in
     still_seated c.args.to c.in-Some.place world c.in-Some.ensures c.index_mut.result.now c.index_mut.ensures.value c.in-Some-index_mut.node c.in-Some-index_mut.is c.take_on-outcome.new.node
-    (same_id g.T.SpelledData c.in-Some-index_mut.node c.take_on-outcome.new.node (input.Take c.args.from sent.0) c.args.to world.links c.take_on-outcome.new.links c.take_on-outcome.result
-    (taken_so g.T.SpelledData c.in-Some-index_mut.node c.args.from c.args.index c.take_on-outcome.new.node c.args.to world.links c.take_on-outcome.new.links c.take_on-outcome.result c.take_on-outcome.ensures.ok sent.0 sent.1) c.take_on-outcome.ensures.err)
+    (same_id g.T.SpelledData c.in-Some-index_mut.node c.take_on-outcome.new.node (input.Take c.args.from sent.0) c.args.to world.links c.take_on-outcome.new.links c.take_on-outcome.result took c.take_on-outcome.ensures.err)
+    (same_limit g.T.SpelledData c.in-Some-index_mut.node c.take_on-outcome.new.node (input.Take c.args.from sent.0) c.args.to world.links c.take_on-outcome.new.links c.take_on-outcome.result took c.take_on-outcome.ensures.err)
 
 pub returns : goal.returns
 returns g c =
