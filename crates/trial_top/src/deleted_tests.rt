@@ -1,7 +1,8 @@
 //! Scripts that delete a key.
 
-use crate::rows::{Row, compare};
+use crate::checking::compare;
 use std::test::Fail;
+use trial_rows::Row;
 
 const DELETED_SET: &str = r#"{"members":2,"keys":[{"key":"s","kind":"orset"}],"steps":[
     {"do":"update","at":0,"key":"s","op":"add","element":"x"},

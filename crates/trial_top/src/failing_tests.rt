@@ -1,11 +1,12 @@
 //! Each call of a source, of a sink and of a keeper fails.
 
+use crate::checking::check;
 use crate::prune_tests::{A_PRUNE, A_PRUNE_REPORT};
-use crate::rows::{Answer, answered, check, keepers, printed, streams};
 use crate::settle_tests::{A_RESTART, CARTS};
 use std::alloc::Global;
 use std::test::Fail;
 use top_call::Status;
+use trial_rows::{Answer, answered, keepers, printed, streams};
 
 // The keeper of place 1 is called six times: a clear at the start, stores at steps 1 and 2, a load at 3, a store at 5, a load at 6.
 const SCRIPT: &str = r#"{"members":2,"keys":[{"key":"d","kind":"gcounter","durable":true}],"steps":[

@@ -1,7 +1,8 @@
 //! Scripts of each kind of values, of delta groups and of gossip.
 
-use crate::rows::{MANY, Row, Section, compare, compare_built};
+use crate::checking::{compare, compare_built};
 use std::test::Fail;
+use trial_rows::{MANY, Row, Section};
 
 pub(crate) const EMPTY: &str =
     "{\"members\":1,\"keys\":[{\"key\":\"n\",\"kind\":\"gcounter\"}],\"steps\":[]}";

@@ -1,7 +1,8 @@
 //! The largest script, and a full set. Scripts and reports are computed by the rules of scripts and reports alone.
 
-use crate::rows::{MANY, Section, compare_built};
+use crate::checking::compare_built;
 use std::test::Fail;
+use trial_rows::{MANY, Section};
 
 /// Eight members take turns at 4,087 updates, and after each turn comes the next of 16 keys; with a flush of each and a round these are 4,096 steps. Each update adds one more than the one before it.
 const LARGEST: &[Section] = &[

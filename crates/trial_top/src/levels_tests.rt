@@ -1,7 +1,8 @@
 //! Updates and gets with levels, and timeouts.
 
-use crate::rows::{MANY, Row, Section, compare, compare_built};
+use crate::checking::{compare, compare_built};
 use std::test::Fail;
+use trial_rows::{MANY, Row, Section};
 
 const A_MAJORITY_WRITE_AND_READ: &str =
     r#"{"members":5,"keys":[{"key":"n","kind":"gcounter"}],"steps":[

@@ -1,7 +1,8 @@
 //! Scripts that are refused at each turn, and one that goes up to the limits of a set, of a level and of identities.
 
-use crate::rows::{MANY, Section, compare, compare_built};
+use crate::checking::{compare, compare_built};
 use std::test::Fail;
+use trial_rows::{MANY, Section};
 
 const REFUSALS: &str =
     r#"{"members":2,"keys":[{"key":"d","kind":"gcounter","durable":true},{"key":"n","kind":"gcounter"}],"steps":[

@@ -1,11 +1,11 @@
 ghost use Rattle.std.specs.Prelude.{◌≡◌, length, IfOk};
 
-use crate::loading::loading_keepers;
-use crate::rows::{MANY, Row, Section, check, compare, compare_built, keepers, printed};
+use crate::checking::{check, compare, compare_built};
 use member_sqlite::SqliteKeeper;
 use std::alloc::Global;
 use std::test::Fail;
 use top_call::Status;
+use trial_rows::{MANY, Row, Section, keepers, loading_keepers, printed};
 
 const LATE_MESSAGES_OF_THE_REMOVED: &str =
     r#"{"members":3,"keys":[{"key":"n","kind":"gcounter"}],"steps":[

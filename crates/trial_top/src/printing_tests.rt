@@ -1,6 +1,6 @@
 //! Elements whose text is escaped, and sums beyond 64 bits.
 
-use crate::rows::compare;
+use crate::checking::compare;
 use std::test::Fail;
 
 const ESCAPED: &str = r#"{"members":1,"keys":[{"key":"s","kind":"gset"}],"steps":[

@@ -1,5 +1,6 @@
-use crate::rows::{Row, compare};
+use crate::checking::compare;
 use std::test::Fail;
+use trial_rows::Row;
 
 pub(crate) const A_PRUNE: &str = r#"{"members":3,"keys":[{"key":"n","kind":"gcounter"}],"steps":[
     {"do":"update","at":2,"key":"n","op":"increment","by":10},

@@ -1,13 +1,12 @@
 //! What is refused: texts that are no script, and sources, sinks and keepers that fail.
 
+use crate::checking::{check, compare};
 use crate::kinds_tests::EMPTY;
-use crate::rows::{
-    MANY, Section, Streams, answered, build, check, compare, keepers, printed, streams,
-};
 use base_outside::{MemorySink, MemorySource};
 use std::alloc::Global;
 use std::test::Fail;
 use top_call::Status;
+use trial_rows::{MANY, Section, Streams, answered, build, keepers, printed, streams};
 
 // A text that breaks each rule, and what is printed. In the last of rule 4 and the first of rule 7 a later step breaks a rule of a lower number or a higher.
 const BROKEN: &[(&str, &str)] = &[

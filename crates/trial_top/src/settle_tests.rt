@@ -1,7 +1,8 @@
 //! Scripts that settle.
 
-use crate::rows::{Row, compare};
+use crate::checking::compare;
 use std::test::Fail;
+use trial_rows::Row;
 
 pub(crate) const A_RESTART: &str =
     r#"{"members":2,"keys":[{"key":"d","kind":"gcounter","durable":true},{"key":"p","kind":"gcounter"}],"steps":[

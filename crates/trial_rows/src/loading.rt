@@ -9,7 +9,7 @@ use std::test::Fail;
 
 /// A keeper that tells nothing, and loads these bytes for `d`, whatever was stored.
 #[derive(Drop)]
-pub(crate) struct LoadingKeeper {
+pub struct LoadingKeeper {
     alloc: Global,
     bytes: Vec<u8>,
 }
@@ -49,8 +49,12 @@ impl Keeper for LoadingKeeper {
     }
 }
 
-/// A keeper for each place that loads these bytes.
-pub(crate) fn loading_keepers(alloc: Global, bytes: &[u8]) -> Result<Vec<LoadingKeeper>, Fail>
+/// A keeper for each of the eight places that loads these bytes.
+///
+/// # Errors
+///
+/// Where memory is refused.
+pub fn loading_keepers(alloc: Global, bytes: &[u8]) -> Result<Vec<LoadingKeeper>, Fail>
     ensures { IfOk result (λ keepers. length keepers.items ≡ 8) }
 {
     let mut keepers = Vec::new(alloc);

@@ -1,9 +1,10 @@
 //! The words, and what `gen` and `sum` write.
 
-use crate::rows::{Answer, MANY, Number, answered, build, check, keepers, streams};
+use crate::checking::check;
 use std::alloc::Global;
 use std::test::Fail;
 use top_call::Status;
+use trial_rows::{Answer, MANY, Number, answered, build, keepers, streams};
 
 const BAD_WORDS: &[&str] = &[
     "",

@@ -1,11 +1,10 @@
 //! Stored entries, as `upgrade` writes them in format 2, and as a restart loads them in both formats.
 
-use crate::loading::loading_keepers;
-use crate::rows::{Answer, answered, check, keepers, printed, streams};
-use crate::running::called;
+use crate::checking::check;
 use std::alloc::Global;
 use std::test::Fail;
 use top_call::Status;
+use trial_rows::{Answer, answered, called, keepers, loading_keepers, printed, streams};
 
 /// A growing counter in format 1: share 5 of identity 0, which has one record.
 const FIRST: &str = "\u{1}\u{1}\0\u{1}\0\0\0\0\0\0\0\0\u{1}\u{1}\0\0\0\0\0\0\0\0\u{5}";

@@ -1,10 +1,10 @@
 //! Two members each wait under their locks until the other's store has begun.
 
 use crate::flag::{Flag, Meeting, holding_keepers};
-use crate::running::ran;
 use std::process::Abort;
 use std::test::*;
 use top_call::Status;
+use trial_rows::ran;
 
 const SCRIPT: &str =
     r#"{"members":2,"keys":[{"key":"d","kind":"gcounter","durable":true}],"steps":[{"do":"threads","clients":[

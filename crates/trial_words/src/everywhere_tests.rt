@@ -1,11 +1,10 @@
 //! Eight clients that write and read at all of eight members. What a get shows depends on the schedule.
 
-use crate::rows::keepers;
-use crate::running::ran;
 use std::alloc::Global;
 use std::process::Abort;
 use std::test::*;
 use top_call::Status;
+use trial_rows::{keepers, ran};
 
 /// How often each client increments the counter at each member.
 const TIMES: u32 = 16;

@@ -1,33 +1,31 @@
 //! What tests call the program with: scripts and their reports, over keepers and streams in memory.
 
-ghost use Rattle.std.specs.Prelude.{◌≡◌, length, IfOk};
+ghost use Rattle.std.specs.Prelude.{◌≡◌, ◌↔◌, length, IfOk, IsTrue};
 
 use base_outside::{MemorySink, MemorySource};
 use member_keeper::{Keeper, MemoryKeeper};
 use std::alloc::Global;
-use std::fmt::Display;
-use std::process::Abort;
 use std::test::Fail;
 use top_call::{Status, replicate_plain};
 
 /// A script, the calls of a keeper that fail, and the report.
-pub(crate) type Row<'a> = (&'a str, &'a [u64], &'a str);
+pub type Row<'a> = (&'a str, &'a [u64], &'a str);
 
 /// A number in a text: `first + factor * (round / every % modulus)`, as `(first, factor, every, modulus)`.
-pub(crate) type Number = (u64, u64, u64, u64);
+pub type Number = (u64, u64, u64, u64);
 
 /// A text that is written so many rounds, with a number in place of each `#`.
-pub(crate) type Section<'a> = (u64, &'a str, &'a [Number]);
+pub type Section<'a> = (u64, &'a str, &'a [Number]);
 
-/// Where a number grows by one in each round.
-pub(crate) const MANY: u64 = 1_000_000;
+/// A modulus that no round comes to: a number with it grows in each round.
+pub const MANY: u64 = 1_000_000;
 
-/// A keeper in memory for each place. The one of this place fails at the calls named.
-pub(crate) fn keepers(
-    alloc: Global,
-    place: usize,
-    failing: &[u64],
-) -> Result<Vec<MemoryKeeper>, Fail>
+/// A keeper in memory for each of the eight places. The one of this place fails at the calls named, counted from 0.
+///
+/// # Errors
+///
+/// Where memory is refused.
+pub fn keepers(alloc: Global, place: usize, failing: &[u64]) -> Result<Vec<MemoryKeeper>, Fail>
     ensures { IfOk result (λ keepers. length keepers.items ≡ 8) }
 {
     let mut keepers = Vec::new(alloc);
@@ -52,10 +50,15 @@ fn sink(alloc: Global, failing: &[u64]) -> Result<MemorySink, Fail> {
 }
 
 /// A source and a sink.
-pub(crate) type Streams = (MemorySource, MemorySink);
+pub type Streams = (MemorySource, MemorySink);
 
-/// A source of these bytes and a sink, whose calls of these numbers fail.
-pub(crate) fn streams(
+/// A source of these bytes, in pieces of seven, and a sink that takes pieces of sixteen, whose calls of these numbers fail,
+/// counted from 0.
+///
+/// # Errors
+///
+/// Where memory is refused.
+pub fn streams(
     alloc: Global,
     bytes: &[u8],
     reads: &[u64],
@@ -65,8 +68,12 @@ pub(crate) fn streams(
     Ok((source(alloc, bytes, reads)?, sink))
 }
 
-/// The words of a line.
-pub(crate) fn words(alloc: Global, line: &str) -> Result<Vec<String>, Fail> {
+/// The words of a line, with one space between two. An empty line has none.
+///
+/// # Errors
+///
+/// Where memory is refused.
+pub fn words(alloc: Global, line: &str) -> Result<Vec<String>, Fail> {
     let mut words = Vec::new(alloc);
     if !line.is_empty() {
         for word in line.split(' ') {
@@ -77,7 +84,7 @@ pub(crate) fn words(alloc: Global, line: &str) -> Result<Vec<String>, Fail> {
 }
 
 /// What is answered: the status, and a sink that has what was written.
-pub(crate) type Answer = (Status, MemorySink);
+pub type Answer = (Status, MemorySink);
 
 /// What words answer over these streams and keepers.
 fn answer<D: Keeper + Drop>(
@@ -94,7 +101,11 @@ fn answer<D: Keeper + Drop>(
 }
 
 /// What the words of a line answer over these streams and keepers.
-pub(crate) fn answered<D: Keeper + Drop>(
+///
+/// # Errors
+///
+/// Where memory is refused.
+pub fn answered<D: Keeper + Drop>(
     alloc: Global,
     line: &str,
     streams: Streams,
@@ -106,8 +117,12 @@ pub(crate) fn answered<D: Keeper + Drop>(
     Ok(answer(alloc, &words, streams, keepers))
 }
 
-/// What a script prints over these keepers.
-pub(crate) fn printed<D: Keeper + Drop>(
+/// What `plain` answers of a script over these keepers.
+///
+/// # Errors
+///
+/// Where memory is refused.
+pub fn printed<D: Keeper + Drop>(
     alloc: Global,
     script: &str,
     keepers: Vec<D>,
@@ -118,17 +133,12 @@ pub(crate) fn printed<D: Keeper + Drop>(
     answered(alloc, "plain", streams, keepers)
 }
 
-/// What is answered has this status, and this text was written.
-pub(crate) fn check<R: Abort, P: Display + Drop>(
-    rt: &R,
-    answer: &Answer,
-    status: Status,
-    text: &[u8],
-    place: P,
-) {
+/// Whether what is answered has this status, and this text was written.
+pub fn says(answer: &Answer, status: Status, text: &[u8]) -> bool
+    ensures { IsTrue result ↔ ((answer.now.0 ≡ status) × (answer.now.1.written ≡ text.now)) }
+{
     let (told, sink) = answer;
-    assert_eq!(rt; *told, status, "at {place}");
-    assert_eq!(rt; sink.bytes(), text, "at {place}");
+    *told == status && sink.bytes() == text
 }
 
 fn number_at((first, factor, every, modulus): &Number, round: u64) -> u64 {
@@ -156,7 +166,11 @@ fn push_round(
 }
 
 /// The texts of these sections, one after the other.
-pub(crate) fn build(alloc: Global, sections: &[Section]) -> Result<String, Fail> {
+///
+/// # Errors
+///
+/// Where memory is refused.
+pub fn build(alloc: Global, sections: &[Section]) -> Result<String, Fail> {
     let mut text = String::new(alloc);
     for (count, template, numbers) in sections {
         for round in 0..*count {
@@ -166,36 +180,12 @@ pub(crate) fn build(alloc: Global, sections: &[Section]) -> Result<String, Fail>
     Ok(text)
 }
 
-/// What the script of these sections prints.
-fn printed_of(alloc: Global, script: &[Section]) -> Result<Answer, Fail> {
+/// What `plain` answers of the script of these sections.
+///
+/// # Errors
+///
+/// Where memory is refused.
+pub fn printed_of(alloc: Global, script: &[Section]) -> Result<Answer, Fail> {
     let script = build(alloc, script)?;
     printed(alloc, script.as_str(), keepers(alloc, 0, &[])?)
-}
-
-/// Builds a script and its report, runs it and compares.
-pub(crate) fn compare_built<R: Abort>(
-    rt: &R,
-    alloc: Global,
-    script: &[Section],
-    report: &[Section],
-) -> Result<(), Fail> {
-    let (status, sink) = printed_of(alloc, script)?;
-    let report = build(alloc, report)?;
-    assert_eq!(rt; status, Status::Done);
-    assert!(rt; sink.bytes() == report.as_bytes());
-    Ok(())
-}
-
-/// Runs each script, over a keeper of this place that fails at the calls named, and compares.
-pub(crate) fn compare<R: Abort>(
-    rt: &R,
-    alloc: Global,
-    place: usize,
-    rows: &[Row],
-) -> Result<(), Fail> {
-    for (script, failing, report) in rows {
-        let answer = printed(alloc, script, keepers(alloc, place, failing)?)?;
-        check(rt, &answer, Status::Done, report.as_bytes(), *script);
-    }
-    Ok(())
 }

@@ -1,10 +1,10 @@
 //! Scripts whose clients follow keys.
 
-use crate::rows::{Answer, answered, check, keepers, printed, streams};
-use crate::running::called;
+use crate::checking::check;
 use std::alloc::Global;
 use std::test::Fail;
 use top_call::Status;
+use trial_rows::{Answer, answered, called, keepers, printed, streams};
 
 /// Shows that a delta's change is told at the first flush after it, and once.
 const NOTICES: &str = r#"{"members":2,"keys":[{"key":"n","kind":"gcounter"}],"steps":[

@@ -1,12 +1,12 @@
 //! Inputs that a person got wrong, with both outputs of the program on each.
 
-use crate::rows::{answered, keepers, streams};
 use script_hints::{hint, slip};
 use script_reading::Clients;
 use std::alloc::Global;
 use std::process::Abort;
 use std::test::Fail;
 use top_call::Status;
+use trial_rows::{answered, keepers, streams};
 
 /// An input, what is written of it to standard output, and the line on standard error, without its end.
 #[derive(Clone, Copy)]

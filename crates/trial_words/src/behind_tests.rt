@@ -2,14 +2,13 @@
 
 ghost use Rattle.std.specs.Prelude.{◌≡◌, ◌≤◌, length};
 
-use crate::rows::{keepers, streams, words};
-use crate::running::called;
 use member_keeper::{Keeper, MemoryKeeper};
 use sha1::Sha1;
 use std::alloc::Global;
 use std::process::Abort;
 use std::test::Fail;
 use top_call::{Outcome, Status, replicate_plain};
+use trial_rows::{called, keepers, streams, words};
 
 const THREE: &str = r#"{"members":1,"keys":[{"key":"d","kind":"gcounter","durable":true}],"steps":[
     {"do":"update","at":0,"key":"d","op":"increment","by":1},

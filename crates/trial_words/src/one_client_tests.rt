@@ -1,10 +1,10 @@
 //! Scripts whose one client leaves no choice, word for word.
 
-use crate::rows::keepers;
-use crate::running::{called, compare, ran};
+use crate::checking::compare;
 use std::process::Abort;
 use std::test::*;
 use top_call::Status;
+use trial_rows::{called, keepers, ran};
 
 const ONE_CLIENT: &str =
     r#"{"members":3,"keys":[{"key":"n","kind":"gcounter"}],"steps":[{"do":"threads","clients":[[
