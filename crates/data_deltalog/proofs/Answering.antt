@@ -1,6 +1,6 @@
 -- Which answer a log gives, by its contents and by the entry.
 use Rattle.std.proofs.Common.{◌≡◌, ℕ, ◌+◌, ◌-◌, ◌<◌, ◌≤◌, length, drop, List, refl, sym, ap, subst, ◌∙◌, arith, Bool, true, false, not, ◌&&◌, inl, inr, length-drop}
-use Rattle.std.specs.Prelude.{nat_le, nat_lt, if◌then◌else◌, slice_get, Some, ◌↔◌}
+use Rattle.std.specs.Prelude.{nat_le, nat_lt, if◌then◌else◌, slice_get, Option, Some, ◌↔◌}
 use Rattle.std.specs.List.{list_any}
 use Rattle.std.proofs.lemmas.Bool.{cases_lt}
 use Rattle.std.proofs.lemmas.Bool.Decides.{nat_tests}
@@ -11,7 +11,6 @@ use Rattle.model_members.specs.Entry.{Entry, is_prune}
 use Rattle.model_members.specs.DataType.{Replication}
 use Rattle.model_members.specs.Node.{Node, KeyState}
 use Rattle.model_members.specs.Step.{is_behind, goes_as_group}
-use Rattle.data_deltalog.specs.declared.delta_log.OwnRecord.{OwnRecord}
 use Rattle.data_deltalog.specs.Answers.{Answer, most_kept, answer_for}
 use Rattle.data_deltalog.specs.Answers.Answer.{Nothing, TooOld, NoDelta, AsGroup}
 use Rattle.data_deltalog.specs.Contents.{LogParts, answer_by, wanted, lacks_delta}
@@ -82,7 +81,7 @@ module _ {Kind Delta Op : Type 0} (IsDeltaOf : Delta → History Op → ℕ → 
   wanted_length kept = length-drop (length parts.records - (parts.last - after)) parts.records ∙ omega arith
 
   -- what is kept of the records after the number
-  pub wanted_kept : after < parts.last → parts.last ≤ after + length parts.records → (k : ℕ) (own : OwnRecord Delta) → slice_get (wanted parts after) k ≡ Some own → IsKeptOf IsDeltaOf own log parts.origin (after + k)
+  pub wanted_kept : after < parts.last → parts.last ≤ after + length parts.records → (k : ℕ) (own : Option Delta) → slice_get (wanted parts after) k ≡ Some own → IsKeptOf IsDeltaOf own log parts.origin (after + k)
   wanted_kept some kept k own has =
       let place : parts.last - length parts.records + (length parts.records - (parts.last - after) + k) ≡ after + k = (let c = stands.count in omega arith) in
       subst (IsKeptOf IsDeltaOf own log parts.origin) place (stands.kept (length parts.records - (parts.last - after) + k) own (sym (get_last (parts.last - after) parts.records k) ∙ has))

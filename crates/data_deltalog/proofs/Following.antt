@@ -2,7 +2,6 @@
 use Rattle.std.proofs.Common.{◌≡◌, ◌+◌, ◌-◌, List, [], ◌∷◌, ◌++◌, length, get_or, refl, sym, ap, ◌∙◌, subst, arith, Option, length-append, length-drop}
 use Rattle.std.specs.Prelude.{All}
 use Rattle.base_vectors.specs.Vectors.{Numbers}
-use Rattle.data_deltalog.specs.declared.delta_log.OwnRecord.{OwnRecord}
 use Rattle.data_deltalog.specs.declared.delta_log.NextRecord.{NextRecord}
 use Rattle.data_deltalog.specs.Answers.{most_kept}
 use Rattle.data_deltalog.specs.Contents.{LogParts, appended}
@@ -20,25 +19,24 @@ All-middle {X} P before rest all x is each = subst P (there before) (each (lengt
     there xs = ap (λ l. get_or l (length before) x) (sym is) ∙ at before
 
 module _ {Kind Delta : Type 0} where
-  appended_some : (parts : LogParts Kind Delta) (before : Numbers) (delta : Option Delta) → length (appended parts before delta).records ≡ 0 → ⊥
+  appended_some : (parts : LogParts Kind Delta) (before : Option Numbers) (delta : Option Delta) → length (appended parts before delta).records ≡ 0 → ⊥
   appended_some parts before delta none =
-      let own : OwnRecord Delta = record { before = before; delta = delta } in
-      let long = length-drop (length (parts.records ++ own ∷ []) - most_kept) (parts.records ++ own ∷ []) in
-      let longer = length-append parts.records (own ∷ []) in
+      let long = length-drop (length (parts.records ++ delta ∷ []) - most_kept) (parts.records ++ delta ∷ []) in
+      let longer = length-append parts.records (delta ∷ []) in
       omega (arith, none, long, longer)
 
   pub room_later : (parts : LogParts Kind Delta) (records : List (NextRecord Delta)) (next : NextRecord Delta) → HasRoom parts next → HasRoom (all_appended parts records) next
   room_later parts [] next room = room
-  room_later parts (r ∷ records) next room = room_later (appended parts r.record.before r.record.delta) records next (λ none. absurd (appended_some parts r.record.before r.record.delta none))
+  room_later parts (r ∷ records) next room = room_later (appended parts r.before r.delta) records next (λ none. absurd (appended_some parts r.before r.delta none))
 
   pub last_later : (parts : LogParts Kind Delta) (records : List (NextRecord Delta)) → (all_appended parts records).last ≡ parts.last + length records
   last_later parts [] = omega arith
-  last_later parts (r ∷ records) = last_later (appended parts r.record.before r.record.delta) records ∙ omega arith
+  last_later parts (r ∷ records) = last_later (appended parts r.before r.delta) records ∙ omega arith
 
   pub kind_later : (parts : LogParts Kind Delta) (records : List (NextRecord Delta)) → (all_appended parts records).kind ≡ parts.kind
   kind_later parts [] = refl
-  kind_later parts (r ∷ records) = kind_later (appended parts r.record.before r.record.delta) records
+  kind_later parts (r ∷ records) = kind_later (appended parts r.before r.delta) records
 
   pub origin_later : (parts : LogParts Kind Delta) (records : List (NextRecord Delta)) → (all_appended parts records).origin ≡ parts.origin
   origin_later parts [] = refl
-  origin_later parts (r ∷ records) = origin_later (appended parts r.record.before r.record.delta) records
+  origin_later parts (r ∷ records) = origin_later (appended parts r.before r.delta) records

@@ -55,17 +55,15 @@ module _ {Kind Delta Op : Type 0} (IsDeltaOf : Delta → History Op → ℕ → 
       ]) in
       omega (arith, low, high)
 
-  some_kept : 0 < length parts.records
-  some_kept = omega arith
-
   needed : (group : GroupParts Delta) → IsMadeOf combined parts after group → (i : ℕ) → number_at group.needed i ≡ needs (group_after entry parts.origin after) i
   needed group made i =
-      let last = item_at parts.records (length parts.records - 1) (let s = some_kept in omega arith) in
-      let place : parts.last - length parts.records + (length parts.records - 1) ≡ at entry.history parts.origin - 1 = (let l = stands.last in let c = stands.count in let s = some_kept in omega arith) in
-      let before : (j : ℕ) → number_at last.0.before j ≡ past_of log parts.origin (at entry.history parts.origin - 1) j = (subst (IsKeptOf IsDeltaOf last.0 log parts.origin) place (stands.kept (length parts.records - 1) last.0 last.1)).before in
-      made.needed last.0 last.1 i ∙ elim (cases_eq i parts.origin) [
-        | inl is ↦ with_at_is (number_at last.0.before) parts.origin after i is ∙ sym (with_at_is (fold joined_past none_counted (drop after (entry.history parts.origin))) parts.origin after i is)
-        | inr isnt ↦ with_at_other (number_at last.0.before) parts.origin after i isnt ∙ before i ∙ sym (last_past i) ∙ sym (with_at_other (fold joined_past none_counted (drop after (entry.history parts.origin))) parts.origin after i isnt)
+      let rest : VersionVector = fold joined_past none_counted (drop after (entry.history parts.origin)) in
+      let place : parts.last - 1 ≡ at entry.history parts.origin - 1 = ap (λ n. n - 1) stands.last in
+      made.needed i ∙ elim (cases_eq i parts.origin) [
+        | inl is ↦ with_at_is (number_at parts.before) parts.origin after i is ∙ sym (with_at_is rest parts.origin after i is)
+        | inr isnt ↦
+            with_at_other (number_at parts.before) parts.origin after i isnt ∙ stands.before (omega arith) i isnt ∙ ap (λ n. past_of log parts.origin n i) place
+            ∙ sym (last_past i) ∙ sym (with_at_other rest parts.origin after i isnt)
       ]
 
   -- THE GROUP

@@ -1,6 +1,7 @@
 use crate::combining::combined;
 use crate::grouped::Grouped;
 use crate::recent::{Recent, Room};
+use crate::vectors::{agree_but, needed, put};
 use base_bytes::Memory;
 use base_vectors::{Id, Seq, VersionVector};
 use data_envelope::Group;
@@ -8,39 +9,13 @@ use data_lattice::Replica;
 use std::alloc::Global;
 use std::marker::Model;
 
-/// What is kept of an own record: the records that its origin had before, and its delta, which a prune has not.
-#[derive(Drop)]
-pub struct OwnRecord<D> {
-    pub before: VersionVector,
-    pub delta: Option<D>,
-}
-
-impl<D> OwnRecord<D> {
-    ghost use Rattle.std.specs.Prelude.{◌≡◌, ◌≤◌, ◌^◌, ℕ, IfOk};
-    ghost use Rattle.model_history.specs.Table.{with_at};
-    ghost use Rattle.base_vectors.specs.Vectors.{number_at};
-
-    /// What a taker of a group needs that ends in this record: all that its origin had before it, but of the origin no
-    /// more than the group's first record comes after.
-    fn needs(&self, alloc: Global, origin: Id, after: Seq) -> Result<VersionVector, Memory>
-        requires { after ≤ 2 ^ 62 }
-        ensures { IfOk result (λ needs. (i : ℕ) → number_at needs i ≡ with_at (number_at self.now.before) origin after i) }
-    {
-        let _below_limit = origin.number();
-        let mut needs = self.before.copy(alloc)?;
-        needs.without(origin);
-        if after > 0 {
-            needs.raise(origin, after)?;
-        }
-        Ok(needs)
-    }
-}
-
-/// An own record on its way into a log, with the room that it needs.
+/// An own record on its way into a log: the records that its origin had before it, unless the log has those of all others,
+/// its delta, which a prune has not, and the room that it needs.
 #[derive(Drop)]
 pub struct NextRecord<D> {
-    record: OwnRecord<D>,
-    room: Room<OwnRecord<D>>,
+    before: Option<VersionVector>,
+    delta: Option<D>,
+    room: Room<Option<D>>,
 }
 
 impl<D> NextRecord<D> {
@@ -50,10 +25,11 @@ impl<D> NextRecord<D> {
     pub fn with_delta(mut self, delta: D) -> NextRecord<D>
     where
         D: Drop,
-        ensures made { result.record ≡ record self.record { delta = Some delta } }
+        ensures made { result.delta ≡ Some delta }
+        ensures before { result.before ≡ self.before }
         ensures room { result.room ≡ self.room }
     {
-        self.record.delta = Some(delta);
+        self.delta = Some(delta);
         self
     }
 }
@@ -64,7 +40,9 @@ pub struct DeltaLog<T: Replica> {
     origin: Id,
     kind: T::Kind,
     last: Seq,
-    records: Recent<OwnRecord<T::Delta>>,
+    /// What the origin had of the others before the last record.
+    before: VersionVector,
+    records: Recent<Option<T::Delta>>,
 }
 
 impl<T: Replica> Model for DeltaLog<T> {
@@ -77,13 +55,14 @@ impl<T: Replica> Model for DeltaLog<T> {
 
     ghost coded = { Prim.hlevel (codes, map.code {R = nat_cmp} coded_ℕ coded_ℕ) };
 
-    ghost view = { λ log. record { origin = log.origin; kind = log.kind; last = log.last; records = log.records } };
+    ghost view = { λ log. record { origin = log.origin; kind = log.kind; last = log.last; before = log.before; records = log.records } };
 
-    ghost invariant = { λ log. IsLog T.IsOfOrigin T.delta_fits_kind (record { origin = log.origin; kind = log.kind; last = log.last; records = log.records }) };
+    ghost invariant = { λ log. IsLog T.IsOfOrigin T.delta_fits_kind (record { origin = log.origin; kind = log.kind; last = log.last; before = log.before; records = log.records }) };
 }
 
 impl<T: Replica> DeltaLog<T> {
     ghost use Rattle.std.specs.Prelude.{◌≡◌, ◌<◌, ◌≤◌, ◌^◌, ℕ, ◌+◌, ◌↔◌, [], true, Some, None, IfOk};
+    ghost use Rattle.std.specs.FinMap as map;
     ghost use Rattle.model_history.specs.History.{History, IsHistory, at};
     ghost use Rattle.model_history.specs.History.Action.{Operation};
     ghost use Rattle.model_history.specs.Log.{IsTakenFrom};
@@ -98,51 +77,83 @@ impl<T: Replica> DeltaLog<T> {
     ghost use Rattle.data_deltalog.specs.Contents.{appended, answer_by, IsMadeOf, IsDeltaFor};
     ghost use Rattle.data_deltalog.specs.Answers.{answer_for};
     ghost use Rattle.data_deltalog.specs.Answers.Answer.{AsGroup};
-    ghost use Rattle.data_deltalog.specs.Words.{answer_in, IfGroup, HasRoom, all_appended, AreNext};
+    ghost use Rattle.data_deltalog.specs.Words.{answer_in, IfGroup, HasRoom, IsAfter, all_appended, AreNext};
     ghost use Rattle.data_deltalog.specs.Images.{StandsForLog};
 
     /// A log without records of an origin, for a key of this kind. Its last number is 0.
     pub fn new(alloc: Global, origin: Id, kind: T::Kind) -> DeltaLog<T>
-        ensures value { result ≡ record { origin = origin; kind = kind; last = 0; records = [] } }
+        ensures value { result ≡ record { origin = origin; kind = kind; last = 0; before = map.empty; records = [] } }
         ensures image { (log : History T.Op) (entry : Entry T.Op) → IsHistory log → IsTakenFrom log entry.history → at entry.history origin ≡ 0 → StandsForLog T.IsDeltaOf result log entry }
     {
         DeltaLog {
             origin,
             kind,
             last: 0,
+            before: VersionVector::new(alloc),
             records: Recent::new(alloc),
         }
     }
 
-    /// The origin's next record: the records that the member had before it, and its delta, or nothing for a prune.
+    /// The origin's next record: the records that the member had before it, and its delta, or nothing for a prune. They are copied
+    /// only where the log has other numbers of the others, so no other record may come between.
     pub fn prepare(
+        &self,
+        alloc: Global,
+        known: &VersionVector,
+        delta: Option<T::Delta>,
+    ) -> Result<NextRecord<T::Delta>, Memory>
+        ensures before { IfOk result (IsAfter self.now (number_at known.now)) }
+        ensures delta { IfOk result (λ next. next.delta ≡ delta) }
+        ensures room { IfOk result (HasRoom self.now) }
+    {
+        let room = self.records.room()?;
+        let before = if agree_but(&self.before, known, self.origin) {
+            None
+        } else {
+            Some(known.copy(alloc)?)
+        };
+        Ok(NextRecord {
+            before,
+            delta,
+            room,
+        })
+    }
+
+    /// As `prepare`, for a record that may follow others which were prepared from the log as it is: it brings what the member had
+    /// before it.
+    pub fn prepare_after(
         &self,
         before: VersionVector,
         delta: Option<T::Delta>,
     ) -> Result<NextRecord<T::Delta>, Memory>
-        ensures record { IfOk result (λ next. next.record ≡ record { before = before; delta = delta }) }
+        ensures before { IfOk result (λ next. next.before ≡ Some before) }
+        ensures delta { IfOk result (λ next. next.delta ≡ delta) }
         ensures room { IfOk result (HasRoom self.now) }
     {
         let room = self.records.room()?;
-        let record = OwnRecord { before, delta };
-        Ok(NextRecord { record, room })
+        Ok(NextRecord {
+            before: Some(before),
+            delta,
+            room,
+        })
     }
 
     /// Adds the origin's next record, which takes no memory. The oldest goes where more than 50 would be kept.
     pub fn add(&mut self, next: NextRecord<T::Delta>)
         requires small { self.old.last < 2 ^ 62 }
-        requires fits { IsDeltaFor T.IsOfOrigin T.delta_fits_kind self.old.kind self.old.origin next.record.delta }
+        requires fits { IsDeltaFor T.IsOfOrigin T.delta_fits_kind self.old.kind self.old.origin next.delta }
         requires room { HasRoom self.old next }
-        ensures value { self.new ≡ appended self.old next.record.before next.record.delta }
+        ensures value { self.new ≡ appended self.old next.before next.delta }
         ensures operation { (log : History T.Op) (entry : Entry T.Op) (op : T.Op) (made : T.Delta) → StandsForLog T.IsDeltaOf self.old log entry
-            → IsTakenFrom log (with_action entry self.old.origin (Operation op)).history → ((i : ℕ) → number_at next.record.before i ≡ at entry.history i)
-            → next.record.delta ≡ Some made → T.IsDeltaOf made log self.old.origin (at entry.history self.old.origin) (at entry.history self.old.origin + 1)
+            → IsTakenFrom log (with_action entry self.old.origin (Operation op)).history → IsAfter self.old (at entry.history) next
+            → next.delta ≡ Some made → T.IsDeltaOf made log self.old.origin (at entry.history self.old.origin) (at entry.history self.old.origin + 1)
             → StandsForLog T.IsDeltaOf self.new log (with_action entry self.old.origin (Operation op)) }
         ensures prune { (log : History T.Op) (entry : Entry T.Op) (removed : ℕ) → StandsForLog T.IsDeltaOf self.old log entry
-            → IsTakenFrom log (with_prune entry self.old.origin removed).history → ((i : ℕ) → number_at next.record.before i ≡ at entry.history i) → next.record.delta ≡ None
+            → IsTakenFrom log (with_prune entry self.old.origin removed).history → IsAfter self.old (at entry.history) next → next.delta ≡ None
             → StandsForLog T.IsDeltaOf self.new log (with_prune entry self.old.origin removed) }
     {
-        self.records.push(next.record, next.room);
+        self.records.push(next.delta, next.room);
+        put(&mut self.before, next.before);
         self.last += 1;
     }
 
@@ -181,16 +192,13 @@ impl<T: Replica> DeltaLog<T> {
         let first = kept - wanted as usize;
         match combined::<T>(alloc, &self.records, first)? {
             None => Ok(Grouped::NoDelta),
-            Some(delta) => {
-                let last = self.records.at(kept - 1);
-                Ok(Grouped::Group(Group {
-                    origin: self.origin,
-                    after,
-                    upto: self.last,
-                    needs: last.needs(alloc, self.origin, after)?,
-                    delta,
-                }))
-            }
+            Some(delta) => Ok(Grouped::Group(Group {
+                origin: self.origin,
+                after,
+                upto: self.last,
+                needs: needed(alloc, &self.before, self.origin, after)?,
+                delta,
+            })),
         }
     }
 }

@@ -66,8 +66,7 @@ impl<X> Recent<X> {
         requires { length self.old ≡ 0 → IsSome room.spare }
         ensures { self.new ≡ last_of most_kept (self.old ++ item ∷ []) }
     {
-        let Room { spare } = room;
-        take_room(&mut self.items, spare);
+        take_room(&mut self.items, room.spare);
         self.items.push_back_reserved(item);
         if self.items.len() > MOST_KEPT {
             self.items.pop_front();

@@ -173,12 +173,16 @@ fn shop(alloc: Global, first: &mut Member, second: &mut Member) -> Result<String
     shown(alloc, second, cart()?)
 }
 
-/// Two members of one view.
+/// Two members of one view. The first has the keys from its start, and the second declares them while it runs.
 fn pair(alloc: Global) -> Result<(Member, Member), Stopped> {
     let views = ViewList::new(alloc, 2)?;
     let keys = keys(alloc)?;
     let first = member(alloc, 0, views.last(), keys.as_slice())?;
-    let second = member(alloc, 1, views.last(), keys.as_slice())?;
+    let none = Items::new(alloc);
+    let mut second = member(alloc, 1, views.last(), none.as_slice())?;
+    for key in keys.as_slice() {
+        second.declare(key)?;
+    }
     Ok((first, second))
 }
 

@@ -22,10 +22,10 @@ pub use member_codec::{CodecError, read_message, read_view, spell_message, spell
 pub use member_desk::{Desk, Notice, Notices, Subscribed};
 pub use member_keeper::{Keeper, KeeperError, MemoryKeeper, Stored};
 pub use member_node::{
-    Answered, Closed, Fate, Finished, FromKeeperError, Gossiped, Got, HIGHEST_LIMIT, Input,
-    Installed, KeyDecl, KeyOutcome, KeyState, Level, LoadError, Look, MOST_STEPS, Message, Node,
-    OperationResult, Outcome, Outcomes, Output, Post, Posts, Pruned, Received, Reply, StepError,
-    UpdateRefusal, Updated,
+    Answered, Closed, Declared, Fate, Finished, FromKeeperError, Gossiped, Got, HIGHEST_LIMIT,
+    Input, Installed, KeyDecl, KeyOutcome, KeyState, Level, LoadError, Look, MOST_STEPS, Message,
+    Node, OperationResult, Outcome, Outcomes, Output, Post, Posts, Pruned, Received, Reply,
+    StepError, UpdateRefusal, Updated,
 };
 pub use member_sqlite::{FileKeeper, OpenError, SqliteKeeper, StoreKeeper, Unknown, Wary};
 pub use member_views::{Member as Seat, View, ViewError, ViewList};

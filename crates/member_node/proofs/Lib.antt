@@ -4,6 +4,7 @@ pub mod Sparse
 pub mod Operating
 pub mod Forgetting
 pub mod Standing
+pub mod Declarings
 pub mod Sendings
 pub mod Planned
 pub mod Growing

@@ -355,9 +355,9 @@ module _ {T K Kind Op Delta : Type 0} {ghosts : Ghosts T Kind Op Delta} {keeping
   -- THE STEP
   pub makes_step : (input : Input T Kind Op Delta ghosts) → Prepares spelling old input prepared → IsStepOf spelling old input fate (after_fate fate prepared.output) new
   makes_step input prepares = record {
-    image = λ kinds logs node sent s i safe.
+    image = λ kinds logs node sent s i of_known safe.
         let safe_before = safe_with logs (entries_same (replication ghosts spelling) node sent (meant_fate fate)) safe in
-        by_fate kinds logs node s sent (prepares kinds logs node sent s i safe_before) fate refl c.kept;
+        by_fate kinds logs node s sent (prepares kinds logs node sent s i of_known safe_before) fate refl c.kept;
     called = called_by fate c.kept;
     had_room = few;
     limit = c.limit;

@@ -12,7 +12,7 @@ use Rattle.std.proofs.lemmas.List.{get_or-map, get_or_default, length-map}
 use Rattle.std.proofs.lemmas.List.Elements.{All-push}
 use Rattle.std.proofs.Math.Seq.{map-set_same, take-append_seam}
 use Rattle.std.proofs.lemmas.Option.{get_or_from_slice_get, slice_get_within}
-use Rattle.std.specs.FinMap.{get-empty}
+use Rattle.std.specs.FinMap.{empty, get-empty}
 use Rattle.std.proofs.lemmas.Simd.{map-map}
 use Rattle.member_node.proofs.Common.{known, identity_limit, Text, VersionVector, IdentitySet, History, versions, at, View, bytes_eq-tells, seen_by, number_at, Numbers, mark_of, performed_in, Shown, Ghosts, Keeping, Parts, StandsFor, parts_of, LogParts, StandsForLog, AreSound, HoldsKept, KeyState, AreOfTheirKinds, HasFewOwn, IsUnpruned, AreLogged, AreDistinctKeys, declared_by, IsFresh, Node, StandsForKey, StandsForNode}
 use Rattle.model_history.specs.Table.{identities}
@@ -188,7 +188,7 @@ module _ {T Kind Op Delta : Type 0} (ghosts : Ghosts T Kind Op Delta) (id given 
 
 -- KEY BY KEY
 
-all_fail : {X : Type 0} (p : X → Bool) (xs : List X) (k : ℕ) (d : X) → find p xs ≡ None → k < length xs → p (get_or xs k d) ≡ false
+pub all_fail : {X : Type 0} (p : X → Bool) (xs : List X) (k : ℕ) (d : X) → find p xs ≡ None → k < length xs → p (get_or xs k d) ≡ false
 all_fail p [] k d none within = absurd (omega arith)
 all_fail p (x ∷ xs) zero d none within = go (p x) refl none
   where
@@ -315,7 +315,7 @@ module _ {T Kind Op Delta : Type 0} (ghosts : Ghosts T Kind Op Delta) (spelling 
     };
     seen = takes.seen;
     log = ap (λ (state : KeyState T Kind Op Delta). state.log) takes.others ∙ (elim held [ inl untouched ↦ untouched.fresh.log | inr one ↦ one.log ])
-        ∙ ap (λ (kind : Kind). record { origin = id; kind = kind; last = 0; records = [] }) (ap (λ (state : KeyState T Kind Op Delta). state.kind) (sym takes.others));
+        ∙ ap (λ (kind : Kind). record { origin = id; kind = kind; last = 0; before = empty; records = [] }) (ap (λ (state : KeyState T Kind Op Delta). state.kind) (sym takes.others));
     sent = ap (λ (state : KeyState T Kind Op Delta). state.flushed) takes.others ∙ (elim held [ inl untouched ↦ untouched.fresh.sent | inr one ↦ one.sent ]);
   }
 
@@ -470,7 +470,7 @@ record IsNewKey {T Kind Op Delta : Type 0} (kind_of : T → Kind) (id : ℕ) (st
   kind_is : kind_of state.entry.value ≡ state.kind
   few : number_at (parts_of state.entry).versions id ≡ 0
   unpruned : performed_in (parts_of state.entry).marks id ≡ false
-  log : state.log ≡ record { origin = id; kind = state.kind; last = 0; records = [] }
+  log : state.log ≡ record { origin = id; kind = state.kind; last = 0; before = empty; records = [] }
 
 module _ {T Kind Op Delta : Type 0} (ghosts : Ghosts T Kind Op Delta) (id given : ℕ) (parts : Parts T) (names : NamesEarlier ghosts id given parts) where
   pub none_own : number_at parts.versions id ≡ 0
@@ -530,10 +530,10 @@ names_loaded {T} {Kind} {Op} {Delta} states keys same distinct i j name e f =
 
 -- an empty log stands for an entry with no own record
 empty_log : {Kind Op Delta : Type 0} (IsDeltaOf : Delta → History Op → ℕ → ℕ → ℕ → Type 0) (parts : LogParts Kind Delta) (log : History Op) (entry : Entry Op) (id : ℕ) (kind : Kind) {State : Type 0} {D : State → History Op → VersionVector → IdentitySet → Type 0} (held : Parts State)
-    → parts ≡ record { origin = id; kind = kind; last = 0; records = [] } → StandsFor D held log entry → at entry.history id ≡ 0 → StandsForLog IsDeltaOf parts log entry
+    → parts ≡ record { origin = id; kind = kind; last = 0; before = empty; records = [] } → StandsFor D held log entry → at entry.history id ≡ 0 → StandsForLog IsDeltaOf parts log entry
 empty_log {Kind} {Op} {Delta} IsDeltaOf parts log entry id kind held is stands none =
     subst (λ (parts : LogParts Kind Delta). StandsForLog IsDeltaOf parts log entry) (sym is)
-    (record { histories = stands.histories; taken = stands.taken; last = sym none; count = refl; kept = λ k own has. absurd (cc has) })
+    (record { histories = stands.histories; taken = stands.taken; last = sym none; count = refl; before = λ some. absurd (omega arith); kept = λ k own has. absurd (cc has) })
 
 module _ {T Kind Op Delta : Type 0} (ghosts : Ghosts T Kind Op Delta) (spelling : Spelling T Kind Op Delta)
     (byte_means : (state : T) (log : History Op) (held : VersionVector) (gone : IdentitySet) → IsPrunedCut log held gone → ghosts.IsDataOf state log held gone → spelling.byte_of state ≡ spelling.history_byte (ghosts.kind_of state) (cut log held))

@@ -65,6 +65,7 @@ module _ {T K Kind Op Delta : Type 0} {ghosts : Ghosts T Kind Op Delta} {keeping
     id = id i;
     view = view i;
     keys = keys i;
+    places = tt;
     operations = operations i;
     steps = steps i;
     limit = limit i;

@@ -3,23 +3,26 @@
 -- What a write and an answer bring: an entry that is told, or one that is passed over.
 -- Steps of gossip, in the model and at a member.
 use Rattle.std.proofs.Common.{◌≡◌, ℕ, List, get_or, refl, sym, ap, ◌∙◌, subst, true, false, Option, None, unwrap_or, if◌then◌else◌, ◌≢◌, [], ◌∷◌, length, cond, arith, suc, Bool, Some, map, find, option_map, nat_le, All, bytes_eq, not, ◌&&◌, ◌||◌, ◌==◌}
-use Rattle.member_node.proofs.Common.{known, uncleaned, Text, VersionVector, IdentitySet, History, at, versions, IsTakenFrom, is_member, Replication, one_step_later, OpenOperation, state_of, step, step_of_take, answered, after_entries, counted, answer_to, performed_in, Shown, Ghosts, Keeping, Envelope, StandsFor, parts_of, LogParts, StandsForLog, Message, StandsForKeyed, Keyed, Node, KeyState, Change, Flushed, Each, Prepared, changed, AreMade, StandsForKey, StandsForNode, changed_operations, StandForOperations, IsSoundPlan, LeadsOn, IsPrepared, StandsForOutput, IsKept, LeadsTo, AreHeld, declared_by, IsEntryPassedOver, HoldsKey}
+use Rattle.member_node.proofs.Common.{known, uncleaned, Text, VersionVector, IdentitySet, History, at, versions, IsTakenFrom, is_member, Replication, one_step_later, OpenOperation, state_of, step, step_of_take, answered, after_entries, counted, answer_to, performed_in, Shown, Ghosts, Keeping, Envelope, StandsFor, parts_of, LogParts, StandsForLog, Message, StandsForKeyed, Keyed, Node, KeyState, Change, Flushed, Each, Prepared, changed, AreMade, StandsForKey, StandsForNode, changed_operations, StandForOperations, IsSoundPlan, LeadsOn, IsPrepared, StandsForOutput, IsKept, LeadsTo, AreHeld, declared_by, IsEntryPassedOver, HoldsKey, HasKey, is_unchanged, is_unchanged-same}
 use Rattle.model_history.specs.Vector.{members_of}
 use Rattle.model_members.specs.Entry as model
 use Rattle.model_members.specs.Message as sending
 use Rattle.model_members.specs.Message.{Message as Sent}
 use Rattle.model_members.specs.Node as nodes
 use Rattle.model_members.specs.Node.{Fate, Input}
-use Rattle.model_members.specs.Node.Reply.{NotFromMember, Done, NotAPeer}
-use Rattle.model_members.specs.Step.{keyed_option, with_answer, sent, status_of}
-use Rattle.model_members.proofs.Cases.{with_taken_entry, counted_for}
+use Rattle.model_members.specs.Node.Reply.{NotFromMember, Done, NotAPeer, Already, Taken}
+use Rattle.model_members.specs.Step.{keyed_option, with_answer, sent, status_of, took}
+use Rattle.model_members.proofs.Cases.{counted_for}
+use Rattle.model_members.proofs.Taking.{is_changed-any}
+use Rattle.std.proofs.lemmas.List.Folds.{list_any_none}
 use Rattle.member_messages.specs.declared.message.Message.TheVariants.{Write, WriteAck, WriteNack, Read, ReadAnswer, Status}
 use Rattle.member_node.specs.Answers.{is_exchange, is_status}
 use Rattle.member_node.specs.declared.change.Change.TheVariants.{Entry}
+use Rattle.member_node.specs.Keys.{HaveKinds}
 use Rattle.member_node.specs.Own.{IsLogged}
 use Rattle.member_node.specs.Planning.{new_entry}
 use Rattle.member_node.specs.Taking.{KeepsOwn, AreHeldBy}
-use Rattle.member_node.specs.Inputs.{IsWritten, TellsWrite, keyed_entry_of}
+use Rattle.member_node.specs.Inputs.{TellsWrite, IsOfKnownKey, write_told, keyed_entry_of}
 use Rattle.member_node.proofs.Takings.{kept_changed, undeclared_in, tells_one}
 use Rattle.member_node.proofs.Planned.{sound_each, leads_each, owned}
 use Rattle.member_node.proofs.Standing.{apart}
@@ -40,7 +43,7 @@ module _ {T K Kind Op Delta : Type 0} {ghosts : Ghosts T Kind Op Delta} {keeping
 -- a log stays that of an entry that counts as many own records
 log_kept : {Kind Delta Op : Type 0} (IsDeltaOf : Delta → History Op → ℕ → ℕ → ℕ → Type 0) (parts : LogParts Kind Delta) (log : History Op) (before after : model.Entry Op) → IsTakenFrom log after.history → at after.history parts.origin ≡ at before.history parts.origin
     → StandsForLog IsDeltaOf parts log before → StandsForLog IsDeltaOf parts log after
-log_kept IsDeltaOf parts log before after taken same s = record { histories = s.histories; taken = taken; last = s.last ∙ sym same; count = s.count; kept = s.kept }
+log_kept IsDeltaOf parts log before after taken same s = record { histories = s.histories; taken = taken; last = s.last ∙ sym same; count = s.count; before = s.before; kept = s.kept }
 
 module _ {T Kind Op Delta : Type 0} (kind_of : T → Kind) (IsDataOf : T → History Op → VersionVector → IdentitySet → Type 0) (IsDeltaOf : Delta → History Op → ℕ → ℕ → ℕ → Type 0) (kinds : Text → Kind) (logs : Text → History Op) (id : ℕ) (old new : Text → model.Entry Op) (flushed : Text → VersionVector) where
   -- an envelope that counts as many own records
@@ -133,25 +136,46 @@ module _ {T K Kind Op Delta : Type 0} {ghosts : Ghosts T Kind Op Delta} {keeping
 
 -- A WRITE AND AN ANSWER
 
-none_named : {T Kind Op Delta : Type 0} (keys : List (KeyState T Kind Op Delta)) (key : Text) → All (λ (state : KeyState T Kind Op Delta). state.name ≢ key) keys → find (λ (state : KeyState T Kind Op Delta). bytes_eq state.name key) keys ≡ None
-none_named [] key others = refl
-none_named (state ∷ keys) key others =
-    ap (λ b. cond b (Some state) (find (λ (state : KeyState _ _ _ _). bytes_eq state.name key) keys)) (apart state.name key (others 0 state (omega arith)))
-    ∙ none_named keys key (λ k d within. others (suc k) d (omega arith))
+-- nothing that is brought changes nothing
+pub nothing_brought : {Kind Op : Type 0} (D : Replication Kind Op Shown) (node : nodes.Node Kind Op Shown) (from : ℕ) → step_of_take D node from Fate.NoStore (Sent.Deltas [] []) ≡ answered node Already
+nothing_brought {Kind} D node from =
+    ap (λ b. answered node (if not b then Already else Taken)) (is_changed-any node node ∙ list_any_none (λ (decl : nodes.KeyDecl Kind). not (is_unchanged (node.entries decl.name) (node.entries decl.name))) node.keys
+    (λ k d within. ap not (is_unchanged-same (node.entries (get_or node.keys k d).name))))
 
--- the entry that a write brings is taken as it is told
-pub written_taken : {T Kind Op Delta : Type 0} (ghosts : Ghosts T Kind Op Delta) (kinds : Text → Kind) (logs : Text → History Op) (keys : List (KeyState T Kind Op Delta)) (node : nodes.Node Kind Op Shown) → node.keys ≡ map declared_by keys
-    → (op : ℕ) (key : Text) (envelope : Envelope T Kind Op Delta) (message : Sent Op) (w : TellsWrite ghosts kinds logs keys op key envelope message)
-    → after_entries node (record { key = w.written.key; item = w.written.item } ∷ []) ≡ after_entries node w.told_entries
-written_taken ghosts kinds logs keys node declares op key envelope message w =
-    elim (tells_one (StandsForKeyed ghosts.kind_of ghosts.IsDataOf kinds logs) (IsEntryPassedOver ghosts keys) (record { key = key; item = envelope }) w.told_entries w.entries_stand) [
-      | one_told y is s ↦
-          let same : w.written ≡ y = subst (λ es. IsWritten keys key es w.written) is w.is_written in
-          ap (λ (e : sending.Keyed (model.Entry _)). after_entries node (record { key = e.key; item = e.item } ∷ [])) same ∙ sym (ap (after_entries node) is)
-      | one_passed is passed ↦
-          let others : All (λ (state : KeyState _ _ _ _). state.name ≢ w.written.key) keys = subst (λ es. IsWritten keys key es w.written) is w.is_written in
-          ap (λ o. with_taken_entry node (option_map (state_of node) o) w.written.item) (undeclared_in node keys w.written.key declares (none_named keys w.written.key others)) ∙ sym (ap (after_entries node) is)
-    ]
+module _ {T Kind Op Delta : Type 0} (ghosts : Ghosts T Kind Op Delta) (kinds : Text → Kind) where
+  -- an entry of the key's kind is passed over where no such key is declared
+  none_named : (keys : List (KeyState T Kind Op Delta)) (keyed : Keyed (Envelope T Kind Op Delta)) → ghosts.kind_of keyed.item.value ≡ kinds keyed.key → HaveKinds kinds keys → IsEntryPassedOver ghosts keys keyed
+      → find (λ (state : KeyState T Kind Op Delta). bytes_eq state.name keyed.key) keys ≡ None
+  none_named [] keyed kind of_kinds passed = refl
+  none_named (state ∷ keys) keyed kind of_kinds passed =
+      ap (λ b. cond b (Some state) (find (λ (state : KeyState T Kind Op Delta). bytes_eq state.name keyed.key) keys))
+      (apart state.name keyed.key (λ same. passed 0 state (omega arith) same (sym (of_kinds 0 state (omega arith)) ∙ ap kinds same ∙ sym kind)))
+      ∙ none_named keys keyed kind (λ k d within. of_kinds (suc k) d (omega arith)) (λ k d within. passed (suc k) d (omega arith))
+
+  module _ (logs : Text → History Op) (keys : List (KeyState T Kind Op Delta)) (node : nodes.Node Kind Op Shown) (from op : ℕ) (key : Text) (envelope : Envelope T Kind Op Delta) (message : Sent Op) (w : TellsWrite ghosts kinds logs keys op key envelope message) where
+    abbrev keyed : Keyed (Envelope T Kind Op Delta)
+    keyed = record { key = key; item = envelope }
+
+    -- the entry that a write brings is taken as it is told, unless it is passed over
+    pub written_taken : (D : Replication Kind Op Shown) → (IsEntryPassedOver ghosts keys keyed → ⊥)
+        → step_of_take D node from Fate.NoStore message ≡ took D node (after_entries node w.told_entries) Fate.NoStore [] (answer_to D from (Sent.WriteAck op))
+    written_taken D known =
+        elim (tells_one (StandsForKeyed ghosts.kind_of ghosts.IsDataOf kinds logs) (IsEntryPassedOver ghosts keys) keyed w.told_entries w.entries_stand) [
+          | one_told y is s ↦
+              ap (step_of_take D node from Fate.NoStore) (w.is ∙ ap (write_told op) is) ∙ sym (ap (λ es. took D node (after_entries node es) Fate.NoStore [] (answer_to D from (Sent.WriteAck op))) is)
+          | one_passed is passed ↦ absurd (known passed)
+        ]
+
+    -- where it is passed over, nothing is brought
+    pub written_none : node.keys ≡ map declared_by keys → HaveKinds kinds keys → IsEntryPassedOver ghosts keys keyed → IsOfKnownKey node (Input.Take from message) → message ≡ Sent.Deltas [] []
+    written_none declares of_kinds passed of_known =
+        elim (tells_one (StandsForKeyed ghosts.kind_of ghosts.IsDataOf kinds logs) (IsEntryPassedOver ghosts keys) keyed w.told_entries w.entries_stand) [
+          | one_told y is s ↦
+              let has : (kind : Kind) × HasKey node y.key kind = subst (λ m. IsOfKnownKey node (Input.Take from m)) (w.is ∙ ap (write_told op) is) of_known in
+              let none = undeclared_in node keys y.key declares (ap (λ name. find (λ (state : KeyState T Kind Op Delta). bytes_eq state.name name) keys) s.same ∙ none_named keys keyed s.held.kind of_kinds passed) in
+              absurd (cc (none, has.1.1))
+          | one_passed is passed ↦ w.is ∙ ap (write_told op) is
+        ]
 
 -- an entry under its key, by the words of both
 pub keyed_same : {Kind Op : Type 0} (D : Replication Kind Op Shown) (key : Text) (entry : Option (model.Entry Op)) → keyed_option D key entry ≡ keyed_entry_of key entry

@@ -117,8 +117,6 @@ module _ {T Kind Op Delta : Type 0} {ghosts : Ghosts T Kind Op Delta} (kinds : T
   told_whole (Write op key envelope) sent s = record {
     told_entries = record { key = key; item = s.entry } ∷ [];
     entries_stand = told (record { key = key; item = envelope }) (record { key = key; item = s.entry }) [] [] (record { same = refl; held = s.held }) nothing;
-    written = record { key = key; item = s.entry };
-    is_written = refl;
     is = s.is;
   }
   told_whole (ReadAnswer op key None) sent s = record { entry = None; entries_stand = nothing; is = s }

@@ -41,7 +41,7 @@ use Rattle.data_envelope.proofs.Judging.{init_absent}
 use Rattle.data_envelope.specs.Pruning.{init_as, init_of}
 use Rattle.data_envelope.specs.declared.outcomes.Perform.{Perform}
 use Rattle.data_envelope.specs.declared.outcomes.Perform.TheVariants as perform
-use Rattle.data_deltalog.specs.Contents.{appended, IsDeltaFor}
+use Rattle.data_deltalog.specs.Contents.{before_with, appended, IsDeltaFor}
 use Rattle.data_deltalog.specs.Words.{HasRoom, all_appended}
 use Rattle.data_deltalog.proofs.Keeping.{stands_prune, stands_still}
 use Rattle.data_deltalog.proofs.Following.{origin_later}
@@ -290,12 +290,12 @@ module _ {T Kind Op Delta : Type 0} (ghosts : Ghosts T Kind Op Delta) (log : His
     entry = stands;
     known = λ i. ap (λ m. number_at m i) known_is ∙ raised_next old.known (versions so_far.entry.history) (versions next.entry.history) id (number_at (parts_of mid.entry).versions id) member course.known course.entry.holds.cut.few own_is grown i;
     logged = subst (λ l. StandsForLog ghosts.IsDeltaOf (all_appended state.log l) log next.entry) (sym pushed)
-        (subst (λ (parts : LogParts Kind Delta). StandsForLog ghosts.IsDeltaOf parts log next.entry) (sym (fold-append (λ (parts : LogParts Kind Delta) (x : NextRecord Delta). appended parts x.record.before x.record.delta) state.log old.prunes (noted.next ∷ [])))
-        (subst (λ (e : model.Entry Op). StandsForLog ghosts.IsDeltaOf (appended (all_appended state.log old.prunes) noted.next.record.before noted.next.record.delta) log e) (sym after)
-        (subst (λ o. StandsForLog ghosts.IsDeltaOf (appended (all_appended state.log old.prunes) noted.next.record.before noted.next.record.delta) log (with_prune so_far.entry o r)) own_origin
-        (stands_prune ghosts.IsDeltaOf (all_appended state.log old.prunes) log so_far.entry r noted.next.record.before noted.next.record.delta course.logged
+        (subst (λ (parts : LogParts Kind Delta). StandsForLog ghosts.IsDeltaOf parts log next.entry) (sym (fold-append (λ (parts : LogParts Kind Delta) (x : NextRecord Delta). appended parts x.before x.delta) state.log old.prunes (noted.next ∷ [])))
+        (subst (λ (e : model.Entry Op). StandsForLog ghosts.IsDeltaOf (appended (all_appended state.log old.prunes) noted.next.before noted.next.delta) log e) (sym after)
+        (subst (λ o. StandsForLog ghosts.IsDeltaOf (appended (all_appended state.log old.prunes) noted.next.before noted.next.delta) log (with_prune so_far.entry o r)) own_origin
+        (stands_prune ghosts.IsDeltaOf (all_appended state.log old.prunes) log so_far.entry r noted.next.before noted.next.delta course.logged
         (subst (λ o. IsTakenFrom log (with_prune so_far.entry o r).history) (sym own_origin) (subst (λ (e : model.Entry Op). IsTakenFrom log e.history) after stands.taken))
-        (λ i. ap (λ m. number_at m i) (noted.before ∙ mid_known) ∙ course.known i) noted.placeholder))));
+        (λ i other. ap (λ before. number_at (before_with (all_appended state.log old.prunes) before) i) (noted.before ∙ ap Some mid_known) ∙ course.known i) noted.placeholder))));
   }
     where
       known_is : new.known ≡ raised old.known id (number_at (parts_of mid.entry).versions id)
@@ -418,7 +418,7 @@ module _ {T Kind Op Delta : Type 0} (state : KeyState T Kind Op Delta) (ticking 
     kind = ap (λ (e : Envelope T Kind Op Delta). kind_of e.value) is ∙ can.kind;
     number = (let a = ap (λ (e : Envelope T Kind Op Delta). number_at (parts_of e).versions id) is in let b = ap length none in omega (arith, a, b));
     unpruned = ap (λ (e : Envelope T Kind Op Delta). performed_in (parts_of e).marks id) is ∙ can.unpruned;
-    placeholders = subst (All (λ (next : NextRecord Delta). next.record.delta ≡ None)) (sym none) (All-nil (λ (next : NextRecord Delta). next.record.delta ≡ None));
+    placeholders = subst (All (λ (next : NextRecord Delta). next.delta ≡ None)) (sym none) (All-nil (λ (next : NextRecord Delta). next.delta ≡ None));
     room = subst (All (HasRoom state.log)) (sym none) (All-nil (HasRoom state.log));
   }
 
@@ -430,7 +430,7 @@ module _ {T Kind Op Delta : Type 0} (state : KeyState T Kind Op Delta) (ticking 
     logged = subst (λ l. StandsForLog ghosts.IsDeltaOf (all_appended state.log l) log entry) (sym none) logged;
   }
 
-  no_delta : (ghosts : Ghosts T Kind Op Delta) (next : NextRecord Delta) → next.record.delta ≡ None → IsDeltaFor ghosts.IsOfOrigin ghosts.delta_fits_kind state.log.kind state.log.origin next.record.delta
+  no_delta : (ghosts : Ghosts T Kind Op Delta) (next : NextRecord Delta) → next.delta ≡ None → IsDeltaFor ghosts.IsOfOrigin ghosts.delta_fits_kind state.log.kind state.log.origin next.delta
   no_delta ghosts next none = record { made = λ made is. absurd (cc (is, none)); of_kind = λ made is. absurd (cc (is, none)) }
 
   pub own_last : (ghosts : Ghosts T Kind Op Delta) (id : ℕ) (removed : List ℕ) (tick : KeyTick T Kind Op Delta) → CanTick ghosts.kind_of id removed state → IsOwnCourse ghosts.kind_of id state ticking → length ticking.prunes ≤ length removed
@@ -438,7 +438,7 @@ module _ {T Kind Op Delta : Type 0} (state : KeyState T Kind Op Delta) (ticking 
   own_last ghosts id removed tick can own few is same = record {
     follows = record {
       small = (let l = can.logged.last in let f = can.few in let s = can.small in omega (arith, l, f, s, few, count));
-      fit = subst (All (λ (next : NextRecord Delta). IsDeltaFor ghosts.IsOfOrigin ghosts.delta_fits_kind state.log.kind state.log.origin next.record.delta)) (sym same) (λ k d within. no_delta ghosts (get_or ticking.prunes k d) (own.placeholders k d within));
+      fit = subst (All (λ (next : NextRecord Delta). IsDeltaFor ghosts.IsOfOrigin ghosts.delta_fits_kind state.log.kind state.log.origin next.delta)) (sym same) (λ k d within. no_delta ghosts (get_or ticking.prunes k d) (own.placeholders k d within));
       room = subst (All (HasRoom state.log)) (sym same) own.room;
     };
     few = (let f = can.few in omega (arith, f, few, count));
@@ -514,7 +514,7 @@ pub own_none : {T Kind Op Delta : Type 0} (ghosts : Ghosts T Kind Op Delta) (id 
 own_none {T} {Kind} {Op} {Delta} ghosts id removed state tick can is none = record {
   follows = record {
     small = (let l = can.logged.last in let s = can.small in let c = ap length none in omega (arith, l, s, c));
-    fit = subst (All (λ (next : NextRecord Delta). IsDeltaFor ghosts.IsOfOrigin ghosts.delta_fits_kind state.log.kind state.log.origin next.record.delta)) (sym none) (All-nil (λ (next : NextRecord Delta). IsDeltaFor ghosts.IsOfOrigin ghosts.delta_fits_kind state.log.kind state.log.origin next.record.delta));
+    fit = subst (All (λ (next : NextRecord Delta). IsDeltaFor ghosts.IsOfOrigin ghosts.delta_fits_kind state.log.kind state.log.origin next.delta)) (sym none) (All-nil (λ (next : NextRecord Delta). IsDeltaFor ghosts.IsOfOrigin ghosts.delta_fits_kind state.log.kind state.log.origin next.delta));
     room = subst (All (HasRoom state.log)) (sym none) (All-nil (HasRoom state.log));
   };
   few = (let c = ap length none in omega (arith, c));

@@ -148,8 +148,8 @@ module _ {T Kind Op Delta : Type 0} (ghosts : Ghosts T Kind Op Delta) (id : ℕ)
     own_record logged small made = record {
       recordable = record {
         small = (let l = logged.last in omega arith);
-        fits = subst (λ kind. IsDeltaFor ghosts.IsOfOrigin ghosts.delta_fits_kind kind state.log.origin next.record.delta) (sym logged.kind)
-            (subst (λ i. IsDeltaFor ghosts.IsOfOrigin ghosts.delta_fits_kind (ghosts.kind_of state.entry.value) i next.record.delta) (sym logged.origin) made.fits);
+        fits = subst (λ kind. IsDeltaFor ghosts.IsOfOrigin ghosts.delta_fits_kind kind state.log.origin next.delta) (sym logged.kind)
+            (subst (λ i. IsDeltaFor ghosts.IsOfOrigin ghosts.delta_fits_kind (ghosts.kind_of state.entry.value) i next.delta) (sym logged.origin) made.fits);
         room = made.room;
       };
       number = made.number;
@@ -159,18 +159,18 @@ module _ {T Kind Op Delta : Type 0} (ghosts : Ghosts T Kind Op Delta) (id : ℕ)
 
     pub means_record : IsLogged ghosts.kind_of id state
         → ((log : History Op) (held : Entry Op) → StandsFor ghosts.IsDataOf (parts_of state.entry) log held → refusal_at ghosts id op state held ≡ None)
-        → ((log : History Op) (held : Entry Op) → StandsFor ghosts.IsDataOf (parts_of state.entry) log held → IsTakenFrom log (with_action held id (Operation op)).history → StandsForRecorded ghosts log id op held entry next)
+        → ((log : History Op) (held : Entry Op) → StandsFor ghosts.IsDataOf (parts_of state.entry) log held → IsTakenFrom log (with_action held id (Operation op)).history → StandsForRecorded ghosts state.log log id op held entry next)
         → MeansUpdate ghosts id op state (Recorded entry next)
     means_record logged unrefused image = λ log held s stands taken.
         let from_log = taken (unrefused log held s) in
         let made = image log held s from_log in
-        let longer = stands_operation ghosts.IsDeltaOf state.log log held op next.record.before next.record.delta made.made stands
+        let longer = stands_operation ghosts.IsDeltaOf state.log log held op next.before next.delta made.made stands
         (subst (λ i. IsTakenFrom log (with_action held i (Operation op)).history) (sym logged.origin) from_log) made.known made.some
         (subst (λ i. ghosts.IsDeltaOf made.made log i (at held.history i) (at held.history i + 1)) (sym logged.origin) made.delta) in
         record {
           unrefused = unrefused log held s;
           image = made.entry;
-          logged = subst (λ i. StandsForLog ghosts.IsDeltaOf (appended state.log next.record.before next.record.delta) log (with_action held i (Operation op))) logged.origin longer;
+          logged = subst (λ i. StandsForLog ghosts.IsDeltaOf (appended state.log next.before next.delta) log (with_action held i (Operation op))) logged.origin longer;
         }
 
   -- A REFUSAL

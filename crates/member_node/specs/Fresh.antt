@@ -14,7 +14,7 @@ pub record IsFresh {T Kind Op Delta : Type 0} (kind_of : T → Kind) (IsDataOf :
   pub kind_is : kind_of state.entry.value ≡ state.kind
   pub versions : (parts_of state.entry).versions ≡ map.empty
   pub marks : (parts_of state.entry).marks ≡ map.empty
-  pub log : state.log ≡ record { origin = id; kind = state.kind; last = 0; records = [] }
+  pub log : state.log ≡ record { origin = id; kind = state.kind; last = 0; before = map.empty; records = [] }
   pub sent : state.flushed ≡ map.empty
   pub image : (log : History Op) → IsHistory log → StandsFor IsDataOf (parts_of state.entry) log empty_entry
   pub logged : (log : History Op) → IsHistory log → StandsForLog IsDeltaOf state.log log empty_entry

@@ -2,13 +2,16 @@
 --     Tells        items that stand for those of the model, but for some that are passed over
 --     StandsForTaken        a message, without what is of no declared key, or of another kind
 --     StandsForInput        an input
+--     IsOfKnownKey        an input of the model that writes no key but a declared one
 use Rattle.std.specs.Prelude.{◌≡◌, ◌≢◌, ℕ, List, [], ◌∷◌, Option, Some, None, false, map, All}
 use Rattle.model_history.specs.Texts.{Text}
 use Rattle.model_members.specs.Entry as model
 use Rattle.model_members.specs.Message as sending
 use Rattle.model_members.specs.Message.{Message as Sent}
 use Rattle.model_members.specs.Node as nodes
+use Rattle.model_members.specs.Node.{HasKey}
 use Rattle.model_history.specs.History.{History}
+use Rattle.model_kinds.specs.declared.shown.Shown.{Shown}
 use Rattle.data_lattice.specs.declared.replica.Replica.{Ghosts}
 use Rattle.data_envelope.specs.declared.envelope.Envelope.{Envelope}
 use Rattle.data_envelope.specs.declared.group.Group.{Group}
@@ -67,18 +70,17 @@ module _ {T Kind Op Delta : Type 0} where
   keyed_envelope key None = []
   keyed_envelope key (Some envelope) = record { key = key; item = envelope } ∷ []
 
-  -- the model's entry is of this key, or where it is passed over, of a key that isn't declared
-  abbrev pub IsWritten : List (KeyState T Kind Op Delta) → Text → List (sending.Keyed (model.Entry Op)) → sending.Keyed (model.Entry Op) → Type 0
-  IsWritten keys key [] written = All (λ state. state.name ≢ written.key) keys
-  IsWritten keys key (entry ∷ more) written = written ≡ entry
+-- the write of an entry; where there is none, nothing is brought
+abbrev pub write_told : {Op : Type 0} → ℕ → List (sending.Keyed (model.Entry Op)) → Sent Op
+write_told op [] = Sent.Deltas [] []
+write_told op (entry ∷ more) = Sent.Write op entry.key entry.item
 
 module _ {T Kind Op Delta : Type 0} (ghosts : Ghosts T Kind Op Delta) (kinds : Text → Kind) (logs : Text → History Op) (keys : List (KeyState T Kind Op Delta)) where
+  -- a write of the entry, or, where it is passed over, no write
   pub record TellsWrite (op : ℕ) (key : Text) (envelope : Envelope T Kind Op Delta) (message : Sent Op) : Type 0 where
     pub told_entries : List (sending.Keyed (model.Entry Op))
     pub entries_stand : TellsEntries ghosts kinds logs keys (record { key = key; item = envelope } ∷ []) told_entries
-    pub written : sending.Keyed (model.Entry Op)
-    pub is_written : IsWritten keys key told_entries written
-    pub is : message ≡ Sent.Write op written.key written.item
+    pub is : message ≡ write_told op told_entries
 
   pub record TellsAnswer (op : ℕ) (key : Text) (envelope : Option (Envelope T Kind Op Delta)) (message : Sent Op) : Type 0 where
     pub entry : Option (model.Entry Op)
@@ -112,3 +114,8 @@ module _ {T Kind Op Delta : Type 0} {ghosts : Ghosts T Kind Op Delta} (kinds : T
   StandsForInput (input.GossipTo id) sent = sent ≡ nodes.Input.GossipTo id
   StandsForInput input.PruneTick sent = sent ≡ nodes.Input.PruneTick
   StandsForInput (input.Timeout op) sent = sent ≡ nodes.Input.Timeout op
+
+-- a write that is taken is of a key that the member of the model declares
+abbrev pub IsOfKnownKey : {Kind Op : Type 0} → nodes.Node Kind Op Shown → nodes.Input Op → Type 0
+IsOfKnownKey {Kind} node (nodes.Input.Take from (Sent.Write op key entry)) = (kind : Kind) × HasKey node key kind
+IsOfKnownKey node sent = Unit {0}

@@ -1,5 +1,6 @@
 -- Declared keys.
-use Rattle.std.specs.Prelude.{◌≡◌, ℕ, List, Some, slice_get, All, map}
+use Rattle.std.specs.Prelude.{◌≡◌, ℕ, ◌<◌, List, true, Some, slice_get, slice_index_or, length, All, map}
+use Rattle.std.specs.Str.{bytes_eq}
 use Rattle.model_history.specs.Texts.{Text}
 use Rattle.model_members.specs.Node as nodes
 use Rattle.member_node.specs.declared.key.KeyDecl.{KeyDecl}
@@ -26,3 +27,8 @@ module _ {T Kind Op Delta : Type 0} where
   -- no key stands twice
   abbrev pub AreDistinctKeys : List (KeyState T Kind Op Delta) → Type 0
   AreDistinctKeys keys = AreDistinct (map (λ state. state.name) keys)
+
+  -- the key of this name stands at this place
+  pub record IsKeyAt (keys : List (KeyState T Kind Op Delta)) (name : Text) (place : ℕ) : Type 0 where
+    pub within : place < length keys
+    pub named : (d : KeyState T Kind Op Delta) → bytes_eq (slice_index_or keys place d).name name ≡ true

@@ -10,6 +10,7 @@ pub mod Fresh
 pub mod Keys
 pub mod Members
 pub mod Forgetting
+pub mod Declaring
 pub mod Sending
 pub mod Changes
 pub mod Taking

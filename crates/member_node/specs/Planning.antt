@@ -35,7 +35,7 @@ use Rattle.member_node.specs.Steps.{StandsForOutput}
 
 module _ {T Kind Op Delta : Type 0} where
   abbrev pub recorded : KeyState T Kind Op Delta → Envelope T Kind Op Delta → NextRecord Delta → KeyState T Kind Op Delta
-  recorded state entry next = record state { entry = entry; log = appended state.log next.record.before next.record.delta }
+  recorded state entry next = record state { entry = entry; log = appended state.log next.before next.delta }
 
   -- another entry, if there is one, and the log with the prunes in it
   abbrev pub ticked : KeyState T Kind Op Delta → KeyTick T Kind Op Delta → KeyState T Kind Op Delta
@@ -76,7 +76,7 @@ module _ {T Kind Op Delta : Type 0} (ghosts : Ghosts T Kind Op Delta) where
   -- the record follows the log
   pub record IsRecordable (state : KeyState T Kind Op Delta) (next : NextRecord Delta) : Type 0 where
     pub small : state.log.last < 2 ^ 62
-    pub fits : IsDeltaFor ghosts.IsOfOrigin ghosts.delta_fits_kind state.log.kind state.log.origin next.record.delta
+    pub fits : IsDeltaFor ghosts.IsOfOrigin ghosts.delta_fits_kind state.log.kind state.log.origin next.delta
     pub room : HasRoom state.log next
 
   pub record CanRecord (keys : List (KeyState T Kind Op Delta)) (index : ℕ) (next : NextRecord Delta) : Type 0 where

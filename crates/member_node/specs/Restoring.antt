@@ -107,7 +107,7 @@ module _ {T Kind Op Delta : Type 0} (ghosts : Ghosts T Kind Op Delta) (spelling 
     pub parts : Parts T
     pub fit : IsFitFor ghosts spelling id view.given state stored.bytes parts
     pub seen : HasSeen ghosts.IsDataOf id view.number parts state.entry
-    pub log : state.log ≡ record { origin = id; kind = state.kind; last = 0; records = [] }
+    pub log : state.log ≡ record { origin = id; kind = state.kind; last = 0; before = map.empty; records = [] }
     pub sent : state.flushed ≡ map.empty
 
   -- or it is as new, and none of these has its name

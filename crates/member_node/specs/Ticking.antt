@@ -88,8 +88,8 @@ module _ {T Kind Op Delta : Type 0} where
   pub record HasNoted (log : LogParts Kind Delta) (id : ℕ) (old new : KeyTicking T Kind Op Delta) : Type 0 where
     pub next : NextRecord Delta
     pub prunes : new.prunes ≡ old.prunes ++ next ∷ []
-    pub before : next.record.before ≡ old.known
-    pub placeholder : next.record.delta ≡ None
+    pub before : next.before ≡ Some old.known
+    pub placeholder : next.delta ≡ None
     pub room : HasRoom log next
     pub known : new.known ≡ raised old.known id (number_at (parts_of old.entry).versions id)
 
@@ -102,7 +102,7 @@ module _ {T Kind Op Delta : Type 0} where
     pub kind : kind_of ticking.entry.value ≡ state.kind
     pub number : number_at (parts_of ticking.entry).versions id ≡ own_number id state + length ticking.prunes
     pub unpruned : performed_in (parts_of ticking.entry).marks id ≡ false
-    pub placeholders : All (λ (next : NextRecord Delta). next.record.delta ≡ None) ticking.prunes
+    pub placeholders : All (λ (next : NextRecord Delta). next.delta ≡ None) ticking.prunes
     pub room : All (HasRoom state.log) ticking.prunes
 
   -- a key of the leader before a tick. Those that left are not the leader

@@ -1,12 +1,13 @@
 //! What the calls of a member answer: for each its own type, with nothing in it that the call can't come to.
 
-ghost use Rattle.std.specs.Prelude.{◌≡◌, IsTrue};
+ghost use Rattle.std.specs.Prelude.{◌≡◌, Bool, IsTrue};
 ghost use Rattle.member_node.specs.Answerable.{is_of_update, is_of_get, is_of_take, is_of_install, is_of_gossip, is_of_tick, is_of_timeout};
-ghost use Rattle.member_node.specs.Calls.{updated_reply, got_reply, received_reply, installed_reply, gossiped_reply, pruned_reply, closed_reply};
+ghost use Rattle.member_node.specs.declared.reply.Reply.{Reply};
+ghost use Rattle.member_node.specs.Calls.{told_by, updated_reply, got_reply, received_reply, installed_reply, gossiped_reply, pruned_reply, closed_reply};
 
 use crate::operation::Finished;
 use crate::outcome::Outcomes;
-use crate::reply::Reply;
+use crate::reply::{Output, Reply};
 use base_vectors::Id;
 use data_lattice::Replica;
 use member_messages::Posts;
@@ -20,6 +21,39 @@ pub struct Answered<T: Replica, A> {
     pub answer: A,
     pub posts: Posts<T>,
     pub finished: Option<Finished>,
+}
+
+/// What a call can come to. Each of it is what one reply says.
+pub(crate) trait Answer {
+    ghost says: { Self → Reply };
+
+    // The replies that say something of it.
+    ghost is_said: { Reply → Bool };
+
+    /// What the reply says.
+    fn of(reply: Reply) -> Self
+        requires { IsTrue (Self.is_said reply) }
+        ensures { Self.says result ≡ reply };
+}
+
+impl<T: Replica, A: Answer> Answered<T, A> {
+    /// The output of a step, with what its reply says in the place of the reply.
+    pub(crate) fn of(output: Output<T>) -> Answered<T, A>
+        requires { IsTrue (A.is_said output.reply) }
+        ensures { told_by A.says result ≡ output }
+    {
+        let Output {
+            reply,
+            posts,
+            finished,
+        } = output;
+        let answer = A::of(reply);
+        Answered {
+            answer,
+            posts,
+            finished,
+        }
+    }
 }
 
 /// What came of an update.
@@ -133,12 +167,12 @@ pub enum Closed {
     NoSuchOp,
 }
 
-impl Updated {
-    /// What the reply to an update says.
-    pub(crate) fn of(reply: Reply) -> Updated
-        requires { IsTrue (is_of_update reply) }
-        ensures { updated_reply result ≡ reply }
-    {
+impl Answer for Updated {
+    ghost says = { updated_reply };
+
+    ghost is_said = { is_of_update };
+
+    fn of(reply: Reply) -> Updated {
         match reply {
             Reply::Done => Updated::Done,
             Reply::Pending(op) => Updated::Pending(op),
@@ -157,12 +191,12 @@ impl Updated {
     }
 }
 
-impl Got {
-    /// What the reply to a read says.
-    pub(crate) fn of(reply: Reply) -> Got
-        requires { IsTrue (is_of_get reply) }
-        ensures { got_reply result ≡ reply }
-    {
+impl Answer for Got {
+    ghost says = { got_reply };
+
+    ghost is_said = { is_of_get };
+
+    fn of(reply: Reply) -> Got {
         match reply {
             Reply::Value(shown) => Got::Value(shown),
             Reply::Deleted => Got::Deleted,
@@ -175,12 +209,12 @@ impl Got {
     }
 }
 
-impl Received {
-    /// What the reply to a message says.
-    pub(crate) fn of(reply: Reply) -> Received
-        requires { IsTrue (is_of_take reply) }
-        ensures { received_reply result ≡ reply }
-    {
+impl Answer for Received {
+    ghost says = { received_reply };
+
+    ghost is_said = { is_of_take };
+
+    fn of(reply: Reply) -> Received {
         match reply {
             Reply::Taken => Received::Taken,
             Reply::Already => Received::Already,
@@ -192,12 +226,12 @@ impl Received {
     }
 }
 
-impl Installed {
-    /// What the reply to a view says.
-    pub(crate) fn of(reply: Reply) -> Installed
-        requires { IsTrue (is_of_install reply) }
-        ensures { installed_reply result ≡ reply }
-    {
+impl Answer for Installed {
+    ghost says = { installed_reply };
+
+    ghost is_said = { is_of_install };
+
+    fn of(reply: Reply) -> Installed {
         match reply {
             Reply::Installed => Installed::Installed,
             Reply::OldView => Installed::OldView,
@@ -207,12 +241,12 @@ impl Installed {
     }
 }
 
-impl Gossiped {
-    /// What the reply to a gossip says.
-    pub(crate) fn of(reply: Reply) -> Gossiped
-        requires { IsTrue (is_of_gossip reply) }
-        ensures { gossiped_reply result ≡ reply }
-    {
+impl Answer for Gossiped {
+    ghost says = { gossiped_reply };
+
+    ghost is_said = { is_of_gossip };
+
+    fn of(reply: Reply) -> Gossiped {
         match reply {
             Reply::Done => Gossiped::Told,
             Reply::NotAPeer => Gossiped::NotAPeer,
@@ -221,12 +255,12 @@ impl Gossiped {
     }
 }
 
-impl Pruned {
-    /// What the reply to a tick says.
-    pub(crate) fn of(reply: Reply) -> Pruned
-        requires { IsTrue (is_of_tick reply) }
-        ensures { pruned_reply result ≡ reply }
-    {
+impl Answer for Pruned {
+    ghost says = { pruned_reply };
+
+    ghost is_said = { is_of_tick };
+
+    fn of(reply: Reply) -> Pruned {
         match reply {
             Reply::Ticked(outcomes) => Pruned::Ticked(outcomes),
             Reply::TickedStoreFailed(outcomes) => Pruned::NotStored(outcomes),
@@ -236,12 +270,12 @@ impl Pruned {
     }
 }
 
-impl Closed {
-    /// What the reply to a timeout says.
-    pub(crate) fn of(reply: Reply) -> Closed
-        requires { IsTrue (is_of_timeout reply) }
-        ensures { closed_reply result ≡ reply }
-    {
+impl Answer for Closed {
+    ghost says = { closed_reply };
+
+    ghost is_said = { is_of_timeout };
+
+    fn of(reply: Reply) -> Closed {
         match reply {
             Reply::TimedOut => Closed::Closed,
             Reply::NoSuchOp => Closed::NoSuchOp,

@@ -10,7 +10,7 @@ ghost use Rattle.member_node.specs.Steps.{MakesStep, MayRefuse, IsUnchanged};
 use crate::answers::{Answered, Closed, Gossiped, Got, Installed, Pruned, Received, Updated};
 use crate::input::Input;
 use crate::node::Node;
-use crate::reply::{Output, StepError};
+use crate::reply::StepError;
 use base_bytes::Text;
 use base_vectors::Id;
 use data_lattice::SpelledData;
@@ -40,17 +40,8 @@ where
         ensures full { result ≡ Err StepError.HistoryFull ↔ (self.old.steps ≡ self.old.limit) }
         ensures unchanged { OnErr result (IsUnchanged self.old self.new) }
     {
-        let Output {
-            reply,
-            posts,
-            finished,
-        } = self.step(&Input::Update { key, op, level })?;
-        let answer = Updated::of(reply);
-        Ok(Answered {
-            answer,
-            posts,
-            finished,
-        })
+        let output = self.step(&Input::Update { key, op, level })?;
+        Ok(Answered::of(output))
     }
 
     /// Reads the value of a key, as it is when the entries of so many members are merged.
@@ -64,17 +55,8 @@ where
         ensures full { result ≡ Err StepError.HistoryFull ↔ (self.old.steps ≡ self.old.limit) }
         ensures unchanged { OnErr result (IsUnchanged self.old self.new) }
     {
-        let Output {
-            reply,
-            posts,
-            finished,
-        } = self.step(&Input::Get { key, level })?;
-        let answer = Got::of(reply);
-        Ok(Answered {
-            answer,
-            posts,
-            finished,
-        })
+        let output = self.step(&Input::Get { key, level })?;
+        Ok(Answered::of(output))
     }
 
     /// Takes a message, which stays where it is.
@@ -92,17 +74,8 @@ where
         ensures full { result ≡ Err StepError.HistoryFull ↔ (self.old.steps ≡ self.old.limit) }
         ensures unchanged { OnErr result (IsUnchanged self.old self.new) }
     {
-        let Output {
-            reply,
-            posts,
-            finished,
-        } = self.take(from, message)?;
-        let answer = Received::of(reply);
-        Ok(Answered {
-            answer,
-            posts,
-            finished,
-        })
+        let output = self.take(from, message)?;
+        Ok(Answered::of(output))
     }
 
     /// Sends each other member the own records that it was not sent.
@@ -131,17 +104,8 @@ where
         ensures full { result ≡ Err StepError.HistoryFull ↔ (self.old.steps ≡ self.old.limit) }
         ensures unchanged { OnErr result (IsUnchanged self.old self.new) }
     {
-        let Output {
-            reply,
-            posts,
-            finished,
-        } = self.step(&Input::GossipTo(to))?;
-        let answer = Gossiped::of(reply);
-        Ok(Answered {
-            answer,
-            posts,
-            finished,
-        })
+        let output = self.step(&Input::GossipTo(to))?;
+        Ok(Answered::of(output))
     }
 
     /// Puts a view in the place of the member's own, if its number is greater.
@@ -155,17 +119,8 @@ where
         ensures full { result ≡ Err StepError.HistoryFull ↔ (self.old.steps ≡ self.old.limit) }
         ensures unchanged { OnErr result (IsUnchanged self.old self.new) }
     {
-        let Output {
-            reply,
-            posts,
-            finished,
-        } = self.step(&Input::Install(view))?;
-        let answer = Installed::of(reply);
-        Ok(Answered {
-            answer,
-            posts,
-            finished,
-        })
+        let output = self.step(&Input::Install(view))?;
+        Ok(Answered::of(output))
     }
 
     /// Marks, or prunes, what is left of members that left, if the member leads its view.
@@ -179,17 +134,8 @@ where
         ensures full { result ≡ Err StepError.HistoryFull ↔ (self.old.steps ≡ self.old.limit) }
         ensures unchanged { OnErr result (IsUnchanged self.old self.new) }
     {
-        let Output {
-            reply,
-            posts,
-            finished,
-        } = self.step(&Input::PruneTick)?;
-        let answer = Pruned::of(reply);
-        Ok(Answered {
-            answer,
-            posts,
-            finished,
-        })
+        let output = self.step(&Input::PruneTick)?;
+        Ok(Answered::of(output))
     }
 
     /// Closes the open operation of this number, without a result.
@@ -203,16 +149,7 @@ where
         ensures full { result ≡ Err StepError.HistoryFull ↔ (self.old.steps ≡ self.old.limit) }
         ensures unchanged { OnErr result (IsUnchanged self.old self.new) }
     {
-        let Output {
-            reply,
-            posts,
-            finished,
-        } = self.step(&Input::Timeout(op))?;
-        let answer = Closed::of(reply);
-        Ok(Answered {
-            answer,
-            posts,
-            finished,
-        })
+        let output = self.step(&Input::Timeout(op))?;
+        Ok(Answered::of(output))
     }
 }

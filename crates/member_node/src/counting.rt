@@ -17,7 +17,7 @@ ghost use Rattle.member_node.specs.Preparing.{IsSoundFor, Prepares};
 ghost use Rattle.member_node.specs.Answerable.{RepliesTo};
 
 use crate::change::{Changes, current};
-use crate::entries::{any_changed, merged};
+use crate::entries::{any_changed, is_known, merged};
 use crate::node::Node;
 use crate::operation::{Asked, Finished, Operation, OperationResult};
 use crate::operations::{OperationChange, Operations};
@@ -153,7 +153,8 @@ fn copy_with_records<T: Replica>(
 }
 
 impl<T: SpelledData, K: Keeper + Drop> Node<T, K> {
-    /// Takes an entry that another member writes here.
+    /// Takes an entry that another member writes here. One of a key that is not declared, or of another kind, is passed over,
+    /// and not acknowledged: this member holds nothing of it.
     pub(crate) fn write_taken(
         &self,
         from: Id,
@@ -166,8 +167,19 @@ impl<T: SpelledData, K: Keeper + Drop> Node<T, K> {
         ensures image { IfOk result (Prepares T.SpelledData.own self.now (input.Take from (message.Write op key.now envelope.now))) }
         ensures replies { IfOk result (RepliesTo (input.Take from (message.Write op key.now envelope.now))) }
     {
+        if !is_known(&self.keys, &self.places, key, envelope) {
+            return Ok(Prepared::reply(self.alloc, Reply::Already));
+        }
         let view = self.view.number();
-        let changes = merged(self.alloc, &self.keys, self.id, view, key, Some(envelope))?;
+        let changes = merged(
+            self.alloc,
+            &self.keys,
+            &self.places,
+            self.id,
+            view,
+            key,
+            Some(envelope),
+        )?;
         let reply = Reply::of_take(any_changed(&self.keys, &changes));
         let posts = answer_to(self.alloc, from, Message::WriteAck { op })?;
         Ok(Prepared {
@@ -306,7 +318,15 @@ impl<T: SpelledData, K: Keeper + Drop> Node<T, K> {
         ensures replies { IfOk result (RepliesTo (input.Take from (message.ReadAnswer op key.now (option_copied envelope.entry)))) }
     {
         let view = self.view.number();
-        let changes = merged(self.alloc, &self.keys, self.id, view, key, envelope)?;
+        let changes = merged(
+            self.alloc,
+            &self.keys,
+            &self.places,
+            self.id,
+            view,
+            key,
+            envelope,
+        )?;
         let reply = Reply::of_take(any_changed(&self.keys, &changes));
         let counted = self.read_counted(from, op, key, &changes)?;
         Ok(Prepared {

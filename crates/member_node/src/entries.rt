@@ -1,4 +1,4 @@
-ghost use Rattle.std.specs.Prelude.{◌≡◌, ◌≢◌, ◌||◌, None, Some, nat_lt, length, IfOk, OnOk, IfSome};
+ghost use Rattle.std.specs.Prelude.{◌≡◌, ◌≢◌, ◌||◌, ◌↔◌, None, Some, nat_lt, length, IfOk, OnOk, IfSome, IsFalse};
 ghost use Rattle.std.specs.List.{list_any};
 ghost use Rattle.std.specs.Option.{option_copied};
 ghost use Rattle.model_history.specs.Texts.{Text as Name};
@@ -7,12 +7,15 @@ ghost use Rattle.model_members.specs.Entry.{Entry};
 ghost use Rattle.base_vectors.specs.Vectors.{number_at};
 ghost use Rattle.data_markers.specs.Marks.{performed_in};
 ghost use Rattle.member_node.specs.Changes.{AreMade};
-ghost use Rattle.member_node.specs.Inputs.{keyed_envelope};
+ghost use Rattle.member_node.specs.Inputs.{keyed_envelope, IsEntryPassedOver};
+ghost use Rattle.member_node.specs.Keys.{AreDistinctKeys};
+ghost use Rattle.member_node.specs.Own.{AreOfTheirKinds};
 ghost use Rattle.member_node.specs.Taking.{KeepsOwn, IsKept, LeadsTo};
 ghost use Rattle.member_node.specs.Entries.{MeansEntryTaken, MeansEnvelopeTaken, MeansEntriesTaken, MeansMerged, PassesEntryOver, is_changed_at};
 
 use crate::change::{Change, Changes, current, put, unchanged};
-use crate::key::{KeyState, index_of};
+use crate::key::KeyState;
+use crate::places::Places;
 use base_bytes::{Memory, Text};
 use base_vectors::Id;
 use data_envelope::Envelope;
@@ -51,23 +54,45 @@ fn take_entry<T: Replica>(
     Ok(Some(entry))
 }
 
+/// Whether the key is declared, with the kind of the entry. Else the entry is passed over.
+pub(crate) fn is_known<T: Replica>(
+    keys: &[KeyState<T>],
+    places: &Places,
+    key: &Text,
+    envelope: &Envelope<T>,
+) -> bool
+    requires of_kinds { AreOfTheirKinds T.kind_of keys.now }
+    requires distinct { AreDistinctKeys keys.now }
+    ensures { IsFalse result ↔ IsEntryPassedOver T.Replica keys.now (record { key = key.now; item = envelope.now }) }
+{
+    match places.place(keys, key) {
+        Some(index) => {
+            let value = keys[index].entry.envelope().value();
+            value.same_kind(envelope.value())
+        }
+        None => false,
+    }
+}
+
 /// Takes an entry of a key, if the key is declared.
 pub(crate) fn take_envelope<T: Replica>(
     alloc: Global,
     keys: &[KeyState<T>],
+    places: &Places,
     changes: &mut Changes<T>,
     id: Id,
     view: u32,
     key: &Text,
     envelope: &Envelope<T>,
 ) -> Result<(), Memory>
-    requires { length changes.old ≡ length keys.now }
+    requires counted { length changes.old ≡ length keys.now }
+    requires distinct { AreDistinctKeys keys.now }
     ensures counted { OnOk result (length changes.new ≡ length keys.now) }
     ensures kept { AreMade (IsKept T.kind_of id) keys.now changes.old → OnOk result (AreMade (IsKept T.kind_of id) keys.now changes.new) }
     ensures image { OnOk result (MeansEnvelopeTaken T.Replica id view keys.now (record { key = key.now; item = envelope.now }) changes.old changes.new) }
     ensures passed_over { OnOk result (PassesEntryOver T.Replica id keys.now (record { key = key.now; item = envelope.now }) changes.old changes.new) }
 {
-    let Some(index) = index_of(keys, key) else {
+    let Some(index) = places.place(keys, key) else {
         return Ok(());
     };
     let now = current(&keys[index], changes, index);
@@ -79,17 +104,28 @@ pub(crate) fn take_envelope<T: Replica>(
 pub(crate) fn take_entries<T: Replica>(
     alloc: Global,
     keys: &[KeyState<T>],
+    places: &Places,
     changes: &mut Changes<T>,
     id: Id,
     view: u32,
     entries: &[Keyed<Envelope<T>>],
 ) -> Result<(), Memory>
-    requires { length changes.old ≡ length keys.now }
+    requires counted { length changes.old ≡ length keys.now }
+    requires distinct { AreDistinctKeys keys.now }
     ensures kept { AreMade (IsKept T.kind_of id) keys.now changes.old → OnOk result (AreMade (IsKept T.kind_of id) keys.now changes.new) }
     ensures image { OnOk result (MeansEntriesTaken T.Replica id view keys.now entries.now changes.old changes.new) }
 {
     for keyed in entries {
-        take_envelope(alloc, keys, changes, id, view, &keyed.key, &keyed.item)?;
+        take_envelope(
+            alloc,
+            keys,
+            places,
+            changes,
+            id,
+            view,
+            &keyed.key,
+            &keyed.item,
+        )?;
     }
     Ok(())
 }
@@ -98,11 +134,13 @@ pub(crate) fn take_entries<T: Replica>(
 pub(crate) fn merged<T: Replica>(
     alloc: Global,
     keys: &[KeyState<T>],
+    places: &Places,
     id: Id,
     view: u32,
     key: &Text,
     envelope: Option<&Envelope<T>>,
 ) -> Result<Changes<T>, Memory>
+    requires distinct { AreDistinctKeys keys.now }
     ensures kept { IfOk result (AreMade (IsKept T.kind_of id) keys.now) }
     ensures image { IfOk result (MeansMerged T.Replica id view keys.now (keyed_envelope key.now (option_copied envelope.entry))) }
 {
@@ -110,7 +148,7 @@ pub(crate) fn merged<T: Replica>(
     let Some(envelope) = envelope else {
         return Ok(changes);
     };
-    take_envelope(alloc, keys, &mut changes, id, view, key, envelope)?;
+    take_envelope(alloc, keys, places, &mut changes, id, view, key, envelope)?;
     Ok(changes)
 }
 

@@ -8,6 +8,7 @@ ghost use Rattle.member_node.specs.FromKeeper.{IsFromKeeper, StandsForKept, IsRe
 use crate::key::{KeyDecl, KeyState};
 use crate::node::{MOST_STEPS, Node};
 use crate::operations::Operations;
+use crate::places::Places;
 use crate::restoring::{Unfit, restored};
 use base_bytes::Text;
 use base_vectors::Id;
@@ -58,17 +59,21 @@ impl<T: SpelledData, K: Keeper + Drop> Node<T, K> {
             Ok(states) => states,
             Err(_) => return Err(FromKeeperError::Memory(keeper)),
         };
+        let Ok(places) = Places::of(alloc, &states) else {
+            return Err(FromKeeperError::Memory(keeper));
+        };
         let loaded = match keeper.load() {
             Ok(loaded) => loaded,
             Err(KeeperError::Failed) => return Err(FromKeeperError::LoadFailed(keeper)),
             Err(KeeperError::Memory) => return Err(FromKeeperError::Memory(keeper)),
         };
-        match restored(alloc, &states, id, &view, loaded) {
+        match restored(alloc, &states, &places, id, &view, loaded) {
             Ok(keys) => Ok(Node {
                 alloc,
                 id,
                 view,
                 keys,
+                places,
                 operations: Operations::new(alloc),
                 steps: 0,
                 limit: MOST_STEPS,

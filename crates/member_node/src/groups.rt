@@ -1,11 +1,13 @@
 ghost use Rattle.std.specs.Prelude.{◌≡◌, ◌==◌, ◌||◌, ◌++◌, false, None, length, IfOk, OnOk, IfSome};
 ghost use Rattle.data_markers.specs.Marks.{performed_in};
 ghost use Rattle.member_node.specs.Changes.{AreMade};
+ghost use Rattle.member_node.specs.Keys.{AreDistinctKeys};
 ghost use Rattle.member_node.specs.Taking.{KeepsOwn, IsKept, gaps_at};
 ghost use Rattle.member_node.specs.Groups.{TellsPassedOver, MeansGroupTaken, MeansGroupTakenAt, PassesGroupOver, MeansGroupsTaken, MeansGaps};
 
 use crate::change::{Changes, current, put};
-use crate::key::{KeyState, index_of};
+use crate::key::KeyState;
+use crate::places::Places;
 use base_bytes::{Items, Memory, Text};
 use base_vectors::Id;
 use data_envelope::{Envelope, Group, Judgement};
@@ -83,18 +85,20 @@ fn add_gap(alloc: Global, gaps: &mut Gaps, key: &Text, lacking: Option<Id>) -> R
 fn take_group_at<T: Replica>(
     alloc: Global,
     keys: &[KeyState<T>],
+    places: &Places,
     changes: &mut Changes<T>,
     gaps: &mut Gaps,
     id: Id,
     keyed: &Keyed<Group<T>>,
 ) -> Result<(), Memory>
-    requires { length changes.old ≡ length keys.now }
+    requires counted { length changes.old ≡ length keys.now }
+    requires distinct { AreDistinctKeys keys.now }
     ensures counted { OnOk result (length changes.new ≡ length keys.now) }
     ensures kept { AreMade (IsKept T.kind_of id) keys.now changes.old → OnOk result (AreMade (IsKept T.kind_of id) keys.now changes.new) }
     ensures image { OnOk result (MeansGroupTakenAt T.Replica id keys.now keyed.now changes.old gaps.old changes.new gaps.new) }
     ensures passed_over { OnOk result (PassesGroupOver T.Replica id keys.now keyed.now changes.old gaps.old changes.new gaps.new) }
 {
-    let Some(index) = index_of(keys, &keyed.key) else {
+    let Some(index) = places.place(keys, &keyed.key) else {
         return Ok(());
     };
     let now = current(&keys[index], changes, index);
@@ -108,18 +112,20 @@ fn take_group_at<T: Replica>(
 pub(crate) fn take_groups<T: Replica>(
     alloc: Global,
     keys: &[KeyState<T>],
+    places: &Places,
     changes: &mut Changes<T>,
     id: Id,
     groups: &[Keyed<Group<T>>],
 ) -> Result<Gaps, Memory>
-    requires { length changes.old ≡ length keys.now }
+    requires counted { length changes.old ≡ length keys.now }
+    requires distinct { AreDistinctKeys keys.now }
     ensures kept { AreMade (IsKept T.kind_of id) keys.now changes.old → OnOk result (AreMade (IsKept T.kind_of id) keys.now changes.new) }
     ensures image { OnOk result (MeansGroupsTaken T.Replica id keys.now groups.now changes.old changes.new) }
     ensures gaps { IfOk result (MeansGaps T.Replica id keys.now groups.now changes.old) }
 {
     let mut gaps = Items::new(alloc);
     for keyed in groups {
-        take_group_at(alloc, keys, changes, &mut gaps, id, keyed)?;
+        take_group_at(alloc, keys, places, changes, &mut gaps, id, keyed)?;
     }
     Ok(gaps)
 }

@@ -5,13 +5,15 @@
 //!
 //! - One step for each input (update and get at a level, take of a message, install of a view,
 //!   flush, gossip, tick, timeout of an operation). For every member of the model that the member
-//!   stands for, and every input of the model that the input stands for, in every log that holds
-//!   the next entries' records and in which their histories are exactly pruned: the member after
-//!   the step stands for the model's next one after the same input and what became of the store,
-//!   the reply, the messages and the operation that ended by it are the model's, and where the
-//!   keeper tells its table, it tells it with the durable entries that changed put in format 2, or
-//!   as it was if the store failed. Nothing of another kind than its key's, and nothing of
-//!   an undeclared key, has any effect (`Node::step`, clause `step` (`IsStepOf`)).
+//!   stands for, and every input of the model that the input stands for and that is no write of a
+//!   key that is not declared, in every log that holds the next entries' records and in which their
+//!   histories are exactly pruned: the member after the step stands for the model's next one after
+//!   the same input and what became of the store, the reply, the messages and the operation that
+//!   ended by it are the model's, and where the keeper tells its table, it tells it with the durable
+//!   entries that changed put in format 2, or as it was if the store failed. Nothing of another kind
+//!   than its key's, and nothing of an undeclared key, has any effect: a write of it stands for a
+//!   message that brings nothing, and is not acknowledged (`Node::step`, clause `step` (`IsStepOf`,
+//!   `TellsWrite`)).
 //! - Each input has its own list of replies, and none but those is ever given; nothing but a message
 //!   that is taken ends an operation (`Node::step`, clauses `reply` (`CanReply`), `ends` (`CanEnd`)).
 //! - For each input there is a call with an answer of its own, `Node::update` and others. It makes the
@@ -22,6 +24,10 @@
 //!   first that is still open. It then stands for the model's member without these ends, and is else
 //!   as before (`Node::forget`, clauses `forgotten` (`forgotten_to`), `stands`
 //!   (`StandsForgetting`), `same`).
+//! - A running member may be told of one more key, which is no step. A key of a new name then stands
+//!   before the first with a later name, without records; the others are held as they were, and the
+//!   member stands for the model's with that key. A key that is declared already stays as it is, and
+//!   the answer says whether it was declared so (`Node::declare`, clause `declared` (`Declares`)).
 //! - The keeper is called once where something is to be stored, and else not; a reply tells `store
 //!   failed` exactly where that call failed. All memory is taken before that call, so a step that
 //!   the keeper took is never refused (`Node::step` (`IsStepOf.called`, `unchanged`), `Fate`).
@@ -46,6 +52,7 @@ mod calls;
 mod change;
 mod closing;
 mod counting;
+mod declaring;
 mod entries;
 mod from_keeper;
 mod gossip;
@@ -61,6 +68,7 @@ mod opening;
 mod operation;
 mod operations;
 mod outcome;
+mod places;
 mod plan;
 mod preparing;
 mod recording;
@@ -75,6 +83,7 @@ mod ticking;
 pub use answers::{
     Answered, Closed, Gossiped, Got, Installed, Pruned, Received, UpdateRefusal, Updated,
 };
+pub use declaring::Declared;
 pub use from_keeper::FromKeeperError;
 pub use input::Input;
 pub use key::{KeyDecl, KeyState};

@@ -46,12 +46,13 @@ impl<T: SpelledData, K: Keeper + Drop> Node<T, K> {
             Err(KeeperError::Failed) => return Err(LoadError::LoadFailed(old)),
             Err(KeeperError::Memory) => return Err(LoadError::Memory(old)),
         };
-        match restored(old.alloc, &old.keys, id, &view, loaded) {
+        match restored(old.alloc, &old.keys, &old.places, id, &view, loaded) {
             Ok(keys) => Ok(Node {
                 alloc: old.alloc,
                 id,
                 view,
                 keys,
+                places: old.places,
                 operations: Operations::new(old.alloc),
                 steps: 0,
                 limit: old.limit,

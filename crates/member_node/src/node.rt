@@ -4,8 +4,9 @@ ghost use Rattle.member_node.specs.Keys.{AreDistinctKeys};
 ghost use Rattle.member_node.specs.Operations.{known};
 
 use crate::input::Input;
-use crate::key::{KeyDecl, KeyState, index_of};
+use crate::key::{KeyDecl, KeyState};
 use crate::operations::{OperationChange, Operations};
+use crate::places::Places;
 use crate::plan::{Plan, Prepared, carry_out};
 use crate::reply::{Fate, Output, StepError};
 use crate::storing::{keep, stores};
@@ -33,6 +34,7 @@ pub struct Node<T: Replica, K: Keeper> {
     pub(crate) id: Id,
     pub(crate) view: View,
     pub(crate) keys: Vec<KeyState<T>>,
+    pub(crate) places: Places,
     pub(crate) operations: Operations,
     pub(crate) steps: usize,
     pub(crate) limit: usize,
@@ -86,12 +88,16 @@ impl<T: SpelledData, K: Keeper + Drop> Node<T, K> {
         ensures limit { IfOk result (λ node. node.limit ≡ program_steps) }
         ensures err { IfErr result (λ refused. refused.0 ≡ keeper) }
     {
-        match KeyState::all_new(alloc, id, keys) {
-            Ok(keys) => Ok(Node {
+        let Ok(keys) = KeyState::all_new(alloc, id, keys) else {
+            return Err((keeper, Memory));
+        };
+        match Places::of(alloc, &keys) {
+            Ok(places) => Ok(Node {
                 alloc,
                 id,
                 view,
                 keys,
+                places,
                 operations: Operations::new(alloc),
                 steps: 0,
                 limit: MOST_STEPS,
@@ -160,7 +166,7 @@ impl<T: SpelledData, K: Keeper + Drop> Node<T, K> {
     pub(crate) fn position(&self, key: &Text) -> Option<usize>
         ensures { result ≡ position (λ state. bytes_eq state.name key.now) self.now.keys.items }
     {
-        index_of(&self.keys, key)
+        self.places.place(&self.keys, key)
     }
 
     /// The keeper of a member that stops.

@@ -122,7 +122,15 @@ impl<T: SpelledData, K: Keeper + Drop> Node<T, K> {
         ensures replies { IfOk result (RepliesTo (input.Take from message.now)) }
     {
         let view = self.view.number();
-        let taken = taken(self.alloc, &self.keys, self.id, view, from, message)?;
+        let taken = taken(
+            self.alloc,
+            &self.keys,
+            &self.places,
+            self.id,
+            view,
+            from,
+            message,
+        )?;
         let MessageTaken { changes, output } = taken;
         Ok(Prepared {
             view: None,

@@ -11,7 +11,8 @@ ghost use Rattle.member_node.specs.Fresh.{IsFresh};
 ghost use Rattle.member_node.specs.Loading.{IsSoundAt, AreSound, IsFirstUnsound};
 ghost use Rattle.member_node.specs.Restoring.{is_earlier, mark_names, names_at, is_named, names_others, IsFitFor, IsFitAt, Takes, TakesAt, HoldsKept, IfDamaged};
 
-use crate::key::{KeyDecl, KeyState, index_of};
+use crate::key::{KeyDecl, KeyState};
+use crate::places::Places;
 use base_bytes::{Items, Memory, Text};
 use base_vectors::{IDENTITIES, Id};
 use data_codec::{CodecError, read_stored};
@@ -151,6 +152,7 @@ fn read_for<T: SpelledData>(
 fn read_kept<T: SpelledData>(
     alloc: Global,
     keys: &[KeyState<T>],
+    places: &Places,
     id: Id,
     given: u8,
     stored: &Stored,
@@ -160,7 +162,7 @@ fn read_kept<T: SpelledData>(
     ensures fit { IfOk result (λ kept. IsFitAt T.Replica T.SpelledData.own id given keys.now stored.now kept.index (parts_of kept.entry)) }
     ensures unsound { IfErr result (λ error. error ≡ flaw.Damaged → IsSoundAt T.Replica T.SpelledData.own keys.now id given stored.now → ⊥) }
 {
-    let Some(index) = index_of(keys, &stored.key) else {
+    let Some(index) = places.place(keys, &stored.key) else {
         return Err(Flaw::Damaged);
     };
     match read_for(alloc, &keys[index], id, given, stored.bytes.as_slice()) {
@@ -196,6 +198,7 @@ fn take_at<T: Replica>(
 fn take_all<T: SpelledData>(
     alloc: Global,
     keys: &[KeyState<T>],
+    places: &Places,
     states: &mut [KeyState<T>],
     id: Id,
     view: &View,
@@ -213,7 +216,7 @@ fn take_all<T: SpelledData>(
     let given = view.given();
     let number = view.number();
     for stored in loaded {
-        match read_kept(alloc, keys, id, given, &stored) {
+        match read_kept(alloc, keys, places, id, given, &stored) {
             Ok(kept) => take_at(states, kept.index, kept.entry, id, number),
             Err(Flaw::Damaged) => return Err(Unfit::Damaged(stored.key)),
             Err(Flaw::Memory) => return Err(Unfit::Memory),
@@ -255,6 +258,7 @@ fn all_emptied<T: Replica>(
 pub(crate) fn restored<T: SpelledData>(
     alloc: Global,
     keys: &[KeyState<T>],
+    places: &Places,
     id: Id,
     view: &View,
     loaded: Vec<Stored>,
@@ -270,7 +274,7 @@ pub(crate) fn restored<T: SpelledData>(
         Ok(states) => states,
         Err(_) => return Err(Unfit::Memory),
     };
-    match take_all(alloc, keys, states.as_mut_slice(), id, view, loaded) {
+    match take_all(alloc, keys, places, states.as_mut_slice(), id, view, loaded) {
         Ok(()) => Ok(states),
         Err(unfit) => Err(unfit),
     }

@@ -1,6 +1,7 @@
 ghost use Rattle.std.specs.Prelude.{◌≡◌, ◌≤◌, false, length, None, IfOk, IsTrue};
 ghost use Rattle.member_node.specs.Answerable.{is_of_take};
 ghost use Rattle.member_node.specs.Changes.{AreMade};
+ghost use Rattle.member_node.specs.Keys.{AreDistinctKeys};
 ghost use Rattle.member_node.specs.Taking.{IsKept};
 ghost use Rattle.member_node.specs.Answers.{ComparesIfOk, BringsIfOk, TakesIfOk};
 ghost use Rattle.member_node.specs.Outputs.{is_pending};
@@ -11,6 +12,7 @@ use crate::entries::{any_changed, take_entries};
 use crate::gossip::answer;
 use crate::groups::take_groups;
 use crate::key::KeyState;
+use crate::places::Places;
 use crate::reply::{Output, Reply};
 use base_bytes::Memory;
 use base_vectors::Id;
@@ -56,11 +58,13 @@ fn compared<T: SpelledData>(
 fn brought<T: Replica>(
     alloc: Global,
     keys: &[KeyState<T>],
+    places: &Places,
     id: Id,
     view: u32,
     from: Id,
     message: &Message<T>,
 ) -> Result<MessageTaken<T>, Memory>
+    requires distinct { AreDistinctKeys keys.now }
     ensures counted { IfOk result (λ taken. length taken.changes ≡ length keys.now) }
     ensures few { IfOk result (λ taken. length taken.output.posts ≤ 2) }
     ensures opens_none { IfOk result (λ taken. is_pending taken.output.reply ≡ false) }
@@ -70,8 +74,16 @@ fn brought<T: Replica>(
     ensures image { BringsIfOk id view from keys.now message.now result }
 {
     let mut changes = unchanged(alloc, keys);
-    let gaps = take_groups(alloc, keys, &mut changes, id, message.groups())?;
-    take_entries(alloc, keys, &mut changes, id, view, message.entries())?;
+    let gaps = take_groups(alloc, keys, places, &mut changes, id, message.groups())?;
+    take_entries(
+        alloc,
+        keys,
+        places,
+        &mut changes,
+        id,
+        view,
+        message.entries(),
+    )?;
     let entries = named(alloc, keys, &changes, message.names())?;
     let changed = any_changed(keys, &changes);
     let reply = reply(message, gaps.as_slice(), changed);
@@ -88,11 +100,13 @@ fn brought<T: Replica>(
 pub(crate) fn taken<T: SpelledData>(
     alloc: Global,
     keys: &[KeyState<T>],
+    places: &Places,
     id: Id,
     view: u32,
     from: Id,
     message: &Message<T>,
 ) -> Result<MessageTaken<T>, Memory>
+    requires distinct { AreDistinctKeys keys.now }
     ensures counted { IfOk result (λ taken. length taken.changes ≡ length keys.now) }
     ensures few { IfOk result (λ taken. length taken.output.posts ≤ 2) }
     ensures opens_none { IfOk result (λ taken. is_pending taken.output.reply ≡ false) }
@@ -103,6 +117,6 @@ pub(crate) fn taken<T: SpelledData>(
 {
     match message {
         Message::Status { digests } => compared(alloc, keys, id, from, digests.as_slice()),
-        _ => brought(alloc, keys, id, view, from, message),
+        _ => brought(alloc, keys, places, id, view, from, message),
     }
 }

@@ -104,7 +104,7 @@ impl<T: Replica> KeyTicking<T> {
             return Ok(());
         }
         let before = self.known.copy(self.alloc)?;
-        let next = log.prepare(before, None)?;
+        let next = log.prepare_after(before, None)?;
         let number = self.entry.versions().at(id);
         self.known.raise(id, number)?;
         self.prunes.push(next)

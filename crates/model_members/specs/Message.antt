@@ -1,5 +1,5 @@
 -- What members send each other.
-use Rattle.std.specs.Prelude.{◌≡◌, ℕ, List, [], ◌∷◌, Option, Some, slice_get}
+use Rattle.std.specs.Prelude.{◌≡◌, ℕ, List, [], ◌∷◌, Bool, filter, if◌then◌else◌, Option, Some, slice_get}
 use Rattle.model_history.specs.Texts.{Text}
 use Rattle.model_members.specs.Entry.{Entry, Group}
 
@@ -41,3 +41,12 @@ module _ {Op : Type 0} where
   abbrev pub groups_in : Message Op → List (Keyed (Group Op))
   groups_in (Message.Deltas groups entries) = groups
   groups_in _ = []
+
+  -- what a message says of some keys. A question stays whole, and so does an answer that is of no key
+  abbrev pub part_of : (Text → Bool) → Message Op → Message Op
+  part_of knows (Message.Deltas groups entries) = Message.Deltas (filter (λ (g : Keyed (Group Op)). knows g.key) groups) (filter (λ (e : Keyed (Entry Op)). knows e.key) entries)
+  part_of knows (Message.Status digests) = Message.Status (filter (λ (d : Keyed (List ℕ)). knows d.key) digests)
+  part_of knows (Message.Gossip entries wants) = Message.Gossip (filter (λ (e : Keyed (Entry Op)). knows e.key) entries) wants
+  part_of knows (Message.Write op key entry) = if knows key then Message.Write op key entry else Message.Deltas [] []
+  part_of knows (Message.ReadAnswer op key entry) = if knows key then Message.ReadAnswer op key entry else Message.Deltas [] []
+  part_of knows message = message

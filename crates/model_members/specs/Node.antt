@@ -1,7 +1,7 @@
 -- The state of a member, its inputs, and what it answers.
-use Rattle.std.specs.Prelude.{◌≡◌, ℕ, ◌+◌, ◌/◌, max, min, List, Bool, if◌then◌else◌, nat_le, Option, None, Some, map, find, option_map}
+use Rattle.std.specs.Prelude.{◌≡◌, ℕ, ◌+◌, ◌/◌, max, min, List, [], ◌∷◌, Bool, if◌then◌else◌, nat_le, Option, None, Some, map, find, option_map}
 use Rattle.std.specs.Str.{bytes_eq}
-use Rattle.model_history.specs.Texts.{Text}
+use Rattle.model_history.specs.Texts.{Text, text_lt}
 use Rattle.model_history.specs.Vector.{VersionVector, IdentitySet}
 use Rattle.model_members.specs.View.{View}
 use Rattle.model_members.specs.Entry.{Entry, Outcome}
@@ -13,6 +13,11 @@ pub record KeyDecl (Kind : Type 0) : Type 0 where
   pub name : Text
   pub kind : Kind
   pub durable : Bool
+
+-- the keys with one more, before the first with a later name
+abbrev pub with_key : {Kind : Type 0} → KeyDecl Kind → List (KeyDecl Kind) → List (KeyDecl Kind)
+with_key decl [] = decl ∷ []
+with_key decl (key ∷ keys) = if text_lt decl.name key.name then decl ∷ key ∷ keys else key ∷ with_key decl keys
 
 -- an open operation: a read or a write of a key, how many must answer, and who did
 pub record OpenOperation : Type 0 where

@@ -101,7 +101,7 @@ abbrev pub is_blocked : Outcome → Bool
 is_blocked (Outcome.Blocked shares) = true
 is_blocked _ = false
 
--- how many outcomes of the last line were Blocked
+-- how many outcomes of an answer were Blocked
 abbrev pub blocked_in_answer : {Shown : Type 0} → Answer Shown → ℕ
 blocked_in_answer (Replied (Reply.Ticked outcomes)) = length (filter (λ (o : KeyOutcome). is_blocked o.outcome) outcomes)
 blocked_in_answer (Replied (Reply.TickedNotStored outcomes)) = length (filter (λ (o : KeyOutcome). is_blocked o.outcome) outcomes)

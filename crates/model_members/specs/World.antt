@@ -1,12 +1,12 @@
 -- Members, links and stores, and what may happen to them.
-use Rattle.std.specs.Prelude.{◌≡◌, ◌≢◌, ℕ, suc, ◌-◌, ◌<◌, ◌≤◌, List, [], ◌∷◌, ◌++◌, length, map, fold, nat_lt, ◌==◌, if◌then◌else◌, IsTrue, IsFalse, Option, None, Some, slice_get, find, option_map, option_and_then, unwrap_or}
+use Rattle.std.specs.Prelude.{◌≡◌, ◌≢◌, ℕ, Bool, suc, ◌-◌, ◌<◌, ◌≤◌, List, [], ◌∷◌, ◌++◌, length, map, fold, nat_lt, ◌==◌, if◌then◌else◌, IsTrue, IsFalse, Option, None, Some, slice_get, find, option_map, option_and_then, unwrap_or}
 use Rattle.std.specs.Str.{bytes_eq}
 use Rattle.model_history.specs.Table.{identity_limit, with_at}
 use Rattle.model_history.specs.Texts.{Text}
 use Rattle.model_members.specs.View.{View, is_member, is_taken, place_of, without_member, with_joined, with_replaced, first_view}
 use Rattle.model_members.specs.Entry.{Entry, empty_entry, seen_by}
 use Rattle.model_members.specs.DataType.{Replication}
-use Rattle.model_members.specs.Message.{Keyed, Message, Post}
+use Rattle.model_members.specs.Message.{Keyed, Message, Post, part_of}
 use Rattle.model_members.specs.Node.{KeyDecl, KeyState, Node, Input, Fate, Output, Stepped, keyed_entry}
 use Rattle.model_members.specs.Node.Fate.{NoStore, Stored}
 use Rattle.model_members.specs.Step.{step, is_full, to_store}
@@ -196,11 +196,11 @@ module _ {Kind Op Shown : Type 0} (D : Replication Kind Op Shown) where
   FitsFate node input NoStore = stores node input ≡ []
   FitsFate node input _ = stores node input ≢ []
 
-  -- an installed view is one of the list, and messages come by deliveries
-  abbrev pub IsGiven : World Kind Op Shown → Input Op → Type 0
-  IsGiven world (Input.Take from message) = ⊥
-  IsGiven world (Input.Install view) = (k : ℕ) × (slice_get (views_of world) k ≡ Some view)
-  IsGiven world _ = Unit {0}
+  -- an installed view is one of the list. Messages come by deliveries, or in part: what one that was sent says of some keys
+  abbrev pub IsGiven : World Kind Op Shown → (at : ℕ) → Input Op → Type 0
+  IsGiven world i (Input.Take from message) = (index : ℕ) × (whole : Message Op) × (knows : Text → Bool) × (message_at world from i index ≡ Some whole) × (message ≡ part_of knows whole)
+  IsGiven world i (Input.Install view) = (k : ℕ) × (slice_get (views_of world) k ≡ Some view)
+  IsGiven world i _ = Unit {0}
 
   -- a running member that isn't full makes this step
   pub record StepsAt (world : World Kind Op Shown) (i : ℕ) (input : Input Op) (fate : Fate) : Type 0 where
@@ -210,7 +210,7 @@ module _ {Kind Op Shown : Type 0} (D : Replication Kind Op Shown) where
     pub fate_fits : FitsFate node input fate
 
   abbrev pub IsLawful : World Kind Op Shown → Event Op → Type 0
-  IsLawful world (InputAt i input fate) = IsGiven world input × StepsAt world i input fate
+  IsLawful world (InputAt i input fate) = IsGiven world i input × StepsAt world i input fate
   IsLawful world (Delivery from to index fate) =
       (message : Message Op) × (message_at world from to index ≡ Some message) × StepsAt world to (Input.Take from message) fate
   IsLawful world (Loss from to) = (world.links from to).next < length (world.links from to).messages

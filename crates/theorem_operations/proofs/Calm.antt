@@ -29,8 +29,7 @@ use Rattle.theorem_runs.proofs.Keeping.{if_holds, same_text}
 use Rattle.theorem_runs.proofs.Stepping.{HasView, moves}
 use Rattle.theorem_runs.proofs.Stepping.HasView.{SameView, NewView}
 use Rattle.theorem_runs.proofs.Growth.{step_grows, step_no_fewer}
-use Rattle.theorem_runs.proofs.Happening.{Comes, NodeAfter}
-use Rattle.theorem_runs.proofs.Happening.Comes.{Given, Brought}
+use Rattle.theorem_runs.proofs.Happening.{NodeAfter}
 use Rattle.theorem_runs.proofs.Happening.NodeAfter.{Same, Stepped as MadeStep, Started}
 use Rattle.theorem_runs.proofs.RunViews.{at_most_last}
 use Rattle.theorem_runs.specs.Pruning.{HasEntry}
@@ -50,7 +49,7 @@ module _ {Kind Op Shown : Type 0} (D : Replication Kind Op Shown) (members : ℕ
   -- a running member ran before, and may have made a step
   pub data Continues (world : World Kind Op Shown) (t : ℕ) (node : Node Kind Op Shown) : Type 0 where
     Unmoved : world.nodes t ≡ Some node → Continues world t node
-    Moved : (old : Node Kind Op Shown) (input : Input Op) (fate : Fate) → world.nodes t ≡ Some old → Comes D world t input → (step D old input fate).node ≡ node → Continues world t node
+    Moved : (old : Node Kind Op Shown) (input : Input Op) (fate : Fate) → world.nodes t ≡ Some old → IsGiven D world t input → (step D old input fate).node ≡ node → Continues world t node
 
   module _ (V : View) (world : World Kind Op Shown) (calm : IsCalm V world) (event : Event Op) (lawful : IsLawful D world event) (leaves : KeepsMembers event) where
     abbrev next : World Kind Op Shown
@@ -65,15 +64,14 @@ module _ {Kind Op Shown : Type 0} (D : Replication Kind Op Shown) (members : ℕ
         go (Started store is given member made from) = absurd (let a : next.view.given ≡ world.view.given = ap (λ (v : View). v.given) (view_stays D world event leaves) in omega arith)
 
     -- no later view is given
-    no_later : (input : Input Op) (t : ℕ) (old : Node Kind Op Shown) (view : View) → world.nodes t ≡ Some old → Comes D world t input → input ≡ Install view → old.view.number < view.number → ⊥
-    no_later input t old view runs (Given given) is later =
+    no_later : (input : Input Op) (t : ℕ) (old : Node Kind Op Shown) (view : View) → world.nodes t ≡ Some old → IsGiven D world t input → input ≡ Install view → old.view.number < view.number → ⊥
+    no_later input t old view runs given is later =
         let views = (safe_at D members keys world calm.stands).views.views in
-        let g : (k : ℕ) × (slice_get (views_of world) k ≡ Some view) = subst (λ (x : Input Op). IsGiven D world x) is given in
+        let g : (k : ℕ) × (slice_get (views_of world) k ≡ Some view) = subst (λ (x : Input Op). IsGiven D world t x) is given in
         let a = at_most_last (views_of world) world.view views g.0 view g.1 in
         let b = views.numbered g.0 view g.1 in
         let c : old.view.number ≡ world.view.number = ap (λ (v : View). v.number) (calm.installed t old runs ∙ sym calm.view) in
         omega arith
-    no_later input t old view runs (Brought from index message sent was) is later = cc (sym was ∙ is)
 
     pub calm_next : IsCalm V next
     calm_next =
@@ -83,7 +81,7 @@ module _ {Kind Op Shown : Type 0} (D : Replication Kind Op Shown) (members : ℕ
           installed = λ t node e. go t node (continues t node e);
         }
       where
-        by_view : (t : ℕ) (old : Node Kind Op Shown) (input : Input Op) (fate : Fate) → world.nodes t ≡ Some old → Comes D world t input → HasView old input (step D old input fate).node → (step D old input fate).node.view ≡ V
+        by_view : (t : ℕ) (old : Node Kind Op Shown) (input : Input Op) (fate : Fate) → world.nodes t ≡ Some old → IsGiven D world t input → HasView old input (step D old input fate).node → (step D old input fate).node.view ≡ V
         by_view t old input fate runs comes (SameView e) = e ∙ calm.installed t old runs
         by_view t old input fate runs comes (NewView view is later e) = absurd (no_later input t old view runs comes is later)
 

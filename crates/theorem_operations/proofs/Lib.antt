@@ -3,6 +3,7 @@ pub mod Turns
 pub mod Counting
 pub mod Operations
 pub mod Moments
+pub mod KnownWrites
 pub mod Calm
 pub mod Phases
 pub mod Openings

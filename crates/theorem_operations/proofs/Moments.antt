@@ -18,8 +18,8 @@ use Rattle.model_members.specs.World.Event.{InputAt, Delivery, Loss, Removal, Jo
 use Rattle.model_members.proofs.Cases.{stepped_at, delivered}
 use Rattle.theorem_runs.specs.Pruning.{HistoryVariables, variables_of}
 use Rattle.theorem_runs.proofs.Keeping.{if_holds}
-use Rattle.theorem_runs.proofs.Happening.{Comes, NodeAfter, ViewsAfter, Follows, event_follows}
-use Rattle.theorem_runs.proofs.Happening.Comes.{Given, Brought}
+use Rattle.theorem_runs.proofs.Parts.{all_known, IsUndivided, is_whole}
+use Rattle.theorem_runs.proofs.Happening.{NodeAfter, ViewsAfter, Follows, event_follows}
 use Rattle.theorem_runs.proofs.Happening.NodeAfter.{Same, Stepped, Started}
 use Rattle.theorem_runs.proofs.Happening.ViewsAfter.{SameViews, NextViews}
 use Rattle.theorem_runs.proofs.RunViews.{HasViews, same_some, at_most_last}
@@ -73,10 +73,10 @@ module _ {Kind Op Shown : Type 0} (D : Replication Kind Op Shown) where
   -- a message: it was sent before, or is a post of a step
   pub data MessageFrom (event : Event Op) (world next : World Kind Op Shown) (from to : ℕ) (message : Message Op) : Type 0 where
     OldOne : (index : ℕ) → message_at world from to index ≡ Some message → MessageFrom event world next from to message
-    NewOne : (old : Node Kind Op Shown) (input : Input Op) (fate : Fate) → world.nodes from ≡ Some old → MakesStep world event from input fate → Comes D world from input → next.nodes from ≡ Some (step D old input fate).node
+    NewOne : (old : Node Kind Op Shown) (input : Input Op) (fate : Fate) → world.nodes from ≡ Some old → MakesStep world event from input fate → IsGiven D world from input → next.nodes from ≡ Some (step D old input fate).node
         → is_member old.view to ≡ true → Tells D old (step D old input fate).node input to message → MessageFrom event world next from to message
 
-  module _ (world : World Kind Op Shown) (i : ℕ) (old : Node Kind Op Shown) (runs : world.nodes i ≡ Some old) (input : Input Op) (fate : Fate) (event : Event Op) (makes : MakesStep world event i input fate) (comes : Comes D world i input) (links : Links Op) where
+  module _ (world : World Kind Op Shown) (i : ℕ) (old : Node Kind Op Shown) (runs : world.nodes i ≡ Some old) (input : Input Op) (fate : Fate) (event : Event Op) (makes : MakesStep world event i input fate) (comes : IsGiven D world i input) (links : Links Op) where
     abbrev after : World Kind Op Shown
     after = stepped_at D (record world { links = links }) i (Some old) input fate
 
@@ -94,12 +94,12 @@ module _ {Kind Op Shown : Type 0} (D : Replication Kind Op Shown) where
   pub messages_follow : (world : World Kind Op Shown) (event : Event Op) → IsLawful D world event → AllOn (MessageFrom event world (happens D world event)) (happens D world event).links
   messages_follow world (InputAt i input fate) lawful =
       subst (λ o. AllOn (MessageFrom (InputAt i input fate) world (stepped_at D world i o input fate)) (stepped_at D world i o input fate).links) (sym lawful.1.runs)
-      (step_messages world i lawful.1.node lawful.1.runs input fate (InputAt i input fate) (ByInput refl) (Given lawful.0) world.links (old_ones (InputAt i input fate) world _))
+      (step_messages world i lawful.1.node lawful.1.runs input fate (InputAt i input fate) (ByInput refl) lawful.0 world.links (old_ones (InputAt i input fate) world _))
   messages_follow world (Delivery from to index fate) lawful =
       let event : Event Op = Delivery from to index fate in
       let moved = record world { links = moved_on world.links from to index } in
       let makes : MakesStep world event to (Take from lawful.0) fate = ByDelivery from index lawful.0 refl lawful.1 refl in
-      let comes : Comes D world to (Take from lawful.0) = Brought from index lawful.0 lawful.1 refl in
+      let comes : IsGiven D world to (Take from lawful.0) = (index, lawful.0, λ key. true, lawful.1, sym (all_known lawful.0)) in
       subst (λ m. AllOn (MessageFrom event world (delivered D world from to index m fate)) (delivered D world from to index m fate).links) (sym lawful.1)
       (subst (λ o. AllOn (MessageFrom event world (stepped_at D moved to o (Take from lawful.0) fate)) (stepped_at D moved to o (Take from lawful.0) fate).links) (sym lawful.2.runs)
       (step_messages world to lawful.2.node lawful.2.runs (Take from lawful.0) fate event makes comes (moved_on world.links from to index)
@@ -126,14 +126,11 @@ module _ {Kind Op Shown : Type 0} (D : Replication Kind Op Shown) where
   view_stays world (Joining place) leaves = absurd leaves
   view_stays world (Restart i) leaves = absurd leaves
 
-  -- a message that is taken was sent
-  pub brought : (world : World Kind Op Shown) (t i : ℕ) (message : Message Op) (input : Input Op) → input ≡ Take i message → Comes D world t input → (index : ℕ) × (message_at world i t index ≡ Some message)
-  brought world t i message input is (Given given) = absurd (subst (λ (x : Input Op). IsGiven D world x) is given)
-  brought world t i message input is (Brought from index m sent was) =
-      let same : Take from m ≡ Take i message = sym was ∙ is in
-      let same_from : from ≡ i = cc same in
-      let same_message : m ≡ message = cc same in
-      (index, ap (λ f. message_at world f t index) (sym same_from) ∙ sent ∙ ap Some same_message)
+  -- a message of an operation that is taken was sent
+  pub brought : (world : World Kind Op Shown) (t i : ℕ) (message : Message Op) → IsUndivided message → (input : Input Op) → input ≡ Take i message → IsGiven D world t input → (index : ℕ) × (message_at world i t index ≡ Some message)
+  brought world t i message undivided input is comes =
+      let given : IsGiven D world t (Take i message) = subst (λ (x : Input Op). IsGiven D world t x) is comes in
+      (given.0, given.3 ∙ ap Some (is_whole given.2 given.1 message undivided given.4))
 
 -- NUMBERS OF OPERATIONS
 
@@ -236,16 +233,16 @@ module _ {Kind Op Shown : Type 0} (D : Replication Kind Op Shown) where
     asks old new input to (ReadAnswer op key entry) t = tt
 
     -- an answer has the number of what it answers
-    answers : (t i : ℕ) (old new node : Node Kind Op Shown) (input : Input Op) → Comes D world t input → next.nodes i ≡ Some node → (message : Message Op) → Tells D old new input i message → AnsweredBelow node.next_op message
+    answers : (t i : ℕ) (old new node : Node Kind Op Shown) (input : Input Op) → IsGiven D world t input → next.nodes i ≡ Some node → (message : Message Op) → Tells D old new input i message → AnsweredBelow node.next_op message
     answers t i old new node input comes runs (Deltas groups entries) tells = tt
     answers t i old new node input comes runs (Nack keys) tells = tt
     answers t i old new node input comes runs (Status digests) tells = tt
     answers t i old new node input comes runs (Gossip entries wants) tells = tt
     answers t i old new node input comes runs (Write op key entry) tells = tt
-    answers t i old new node input comes runs (WriteAck op) tells = let b = brought D world t i (Write op tells.0 tells.1) input tells.2 comes in asked_since i t b.0 (Write op tells.0 tells.1) node b.1 (since i node (follows.nodes i node runs))
+    answers t i old new node input comes runs (WriteAck op) tells = let b = brought D world t i (Write op tells.0 tells.1) tt input tells.2 comes in asked_since i t b.0 (Write op tells.0 tells.1) node b.1 (since i node (follows.nodes i node runs))
     answers t i old new node input comes runs (WriteNack op) tells = tt
     answers t i old new node input comes runs (Read op key) tells = tt
-    answers t i old new node input comes runs (ReadAnswer op key entry) tells = let b = brought D world t i (Read op key) input tells.0 comes in asked_since i t b.0 (Read op key) node b.1 (since i node (follows.nodes i node runs))
+    answers t i old new node input comes runs (ReadAnswer op key entry) tells = let b = brought D world t i (Read op key) tt input tells.0 comes in asked_since i t b.0 (Read op key) node b.1 (since i node (follows.nodes i node runs))
 
     stood_after : (t : ℕ) (node : Node Kind Op Shown) (o : OpenOperation) → NodeAfter D world next t node → IsIn node.open_operations o → o.op < node.next_op
     stood_after t node o (Same e stays) h = numbers.stood t node o e h

@@ -13,8 +13,7 @@ use Rattle.model_members.specs.Message.Message.{Write, WriteAck, Read, ReadAnswe
 use Rattle.model_members.specs.Node.{KeyDecl, Node, OpenOperation, Finished, Input, Fate, state_of, key_state, one_step_later}
 use Rattle.model_members.specs.Node.Input.{Take}
 use Rattle.model_members.specs.Step.{step, after_entries, answered_entry}
-use Rattle.model_members.specs.World.{World, Event, happens, message_at, IsLawful}
-use Rattle.theorem_runs.proofs.Happening.{Comes}
+use Rattle.model_members.specs.World.{World, Event, happens, message_at, IsGiven, IsLawful}
 use Rattle.theorem_runs.proofs.RunViews.{same_some}
 use Rattle.theorem_runs.proofs.Growth.{step_no_fewer}
 use Rattle.theorem_operations.specs.Quorum.{KeepsMembers}
@@ -73,12 +72,12 @@ module _ {Kind Op Shown : Type 0} (D : Replication Kind Op Shown) (members : ℕ
     keeps t has = held_next D members keys V decl key i k x world writing.made event lawful leaves t has
 
     -- who is counted with a new answer has the record
-    with_one_more : (old : Node Kind Op Shown) (input : Input Op) (from : ℕ) (p : OpenOperation) → world.nodes i ≡ Some old → Comes D world i input → Counts old input from p → p.op ≡ op → (t : ℕ) → with_member p.counted from t ≡ true → (is_member V t ≡ true) × Has world t
+    with_one_more : (old : Node Kind Op Shown) (input : Input Op) (from : ℕ) (p : OpenOperation) → world.nodes i ≡ Some old → IsGiven D world i input → Counts old input from p → p.op ≡ op → (t : ℕ) → with_member p.counted from t ≡ true → (is_member V t ≡ true) × Has world t
     with_one_more old input from p runs comes counts same t m = by (in_with p.counted from t m)
       where
         acked_by : IsAnswer input from p → Has world from
         acked_by (Acked is reads) =
-            let b = brought D world i from (WriteAck p.op) input is comes in
+            let b = brought D world i from (WriteAck p.op) tt input is comes in
             writing.acked from b.0 (b.1 ∙ ap (λ j. Some (WriteAck j)) same)
         acked_by (ReadBack entry is reads) = absurd (let f = sym reads ∙ (writing.counted old p runs counts.stood same).1 in cc f)
 
@@ -113,7 +112,7 @@ module _ {Kind Op Shown : Type 0} (D : Replication Kind Op Shown) (members : ℕ
         acked_next t (NewOne old input fate runs makes comes new member tells) = λ node e.
             let name : Text = tells.0 in
             let entry : Entry Op = tells.1 in
-            let b = brought D world t i (Write op name entry) input tells.2 comes in
+            let b = brought D world t i (Write op name entry) tt input tells.2 comes in
             let asked = writing.asked t b.0 name entry b.1 in
             let sent : message_at world i t b.0 ≡ Some (Write op key entry) = b.1 ∙ ap (λ n. Some (Write op n entry)) asked.0 in
             let took = takes D members keys V decl key i k x world writing.made i t b.0 (Write op key entry) old entry sent (zero, refl) runs member in
@@ -171,7 +170,7 @@ module _ {Kind Op Shown : Type 0} (D : Replication Kind Op Shown) (members : ℕ
 
     module _ (op n : ℕ) (world : World Kind Op Shown) (reading : IsReading op n world) where
       -- who is counted with a new answer, and had the record, has brought it
-      pub read_one_more : (old : Node Kind Op Shown) (input : Input Op) (fate : Fate) (from : ℕ) (p : OpenOperation) → world.nodes j ≡ Some old → Comes D world j input → Counts old input from p → p.op ≡ op
+      pub read_one_more : (old : Node Kind Op Shown) (input : Input Op) (fate : Fate) (from : ℕ) (p : OpenOperation) → world.nodes j ≡ Some old → IsGiven D world j input → Counts old input from p → p.op ≡ op
           → (t : ℕ) → with_member p.counted from t ≡ true → (is_member V t ≡ true) × (S t ≡ true → k < at ((step D old input fate).node.entries key).history i)
       read_one_more old input fate from p runs comes counts same t m = by (in_with p.counted from t m)
         where
@@ -183,7 +182,7 @@ module _ {Kind Op Shown : Type 0} (D : Replication Kind Op Shown) (members : ℕ
           told_by (ReadBack entry is reads) s =
               let p_key : p.key ≡ key = (reading.counted old p runs counts.stood same).2 in
               let is_now : input ≡ Take from (ReadAnswer op key entry) = is ∙ (λ l. Take from (ReadAnswer (same l) (p_key l) entry)) in
-              let b = brought D world j from (ReadAnswer op key entry) input is_now comes in
+              let b = brought D world j from (ReadAnswer op key entry) tt input is_now comes in
               let t = reading.told from b.0 key entry b.1 in
               let e = t.1 s in
               let sent : message_at world from j b.0 ≡ Some (ReadAnswer op key (Some e.0)) = b.1 ∙ ap (λ x. Some (ReadAnswer op key x)) e.1 in
@@ -231,7 +230,7 @@ module _ {Kind Op Shown : Type 0} (D : Replication Kind Op Shown) (members : ℕ
             told_next : (t : ℕ) (name : Text) (entry : Option (Entry Op)) → MessageFrom D event world afterwards t j (ReadAnswer op name entry) → (name ≡ key) × (S t ≡ true → (e : Entry Op) × (entry ≡ Some e) × (k < at e.history i))
             told_next t name entry (OldOne index e) = reading.told t index name entry e
             told_next t name entry (NewOne old input fate runs makes comes new member tells) =
-                let b = brought D world t j (Read op name) input tells.0 comes in
+                let b = brought D world t j (Read op name) tt input tells.0 comes in
                 let is_key : name ≡ key = reading.asked t b.0 name b.1 in (
                   is_key,
                   λ s.

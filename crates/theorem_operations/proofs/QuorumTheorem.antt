@@ -18,11 +18,10 @@ use Rattle.model_members.specs.Node.{KeyDecl, Node, OpenOperation, Finished, Lev
 use Rattle.model_members.specs.Node.Result.{Wrote}
 use Rattle.model_members.proofs.Cases.{stepped_at, delivered, got, got_needing}
 use Rattle.model_members.specs.Step.{step, member_count, with_answer, result_of, read_result, value_reply, meaning_of}
-use Rattle.model_members.specs.World.{World, Event, happens, run, start, moved_on, IsLawful, AreLawful}
+use Rattle.model_members.specs.World.{World, Event, happens, run, start, moved_on, IsGiven, IsLawful, AreLawful}
 use Rattle.model_members.specs.World.Event.{InputAt}
-use Rattle.theorem_runs.proofs.Happening.{Comes}
-use Rattle.theorem_runs.proofs.Happening.Comes.{Given, Brought}
 use Rattle.theorem_runs.proofs.Keeping.{if_holds}
+use Rattle.theorem_runs.proofs.Parts.{all_known}
 use Rattle.theorem_runs.proofs.RunViews.{same_some}
 use Rattle.theorem_operations.specs.Quorum.{KeepsMembers, AllInstalled, Finishes, MajorityWrite, write_event, HasSucceeded, WriteThenRead, IsUnchanged, at_write, to_read, at_read, read_event, at_end, reply_in, ShowsWrite}
 use Rattle.theorem_operations.proofs.Lists.{is_alone}
@@ -337,9 +336,9 @@ module _ {Kind Op Shown : Type 0} (D : Replication Kind Op Shown) where
 
     module _ (V : View) (decl : KeyDecl Kind) (key : Text) (i k : ℕ) (x : Record Op) (j : ℕ) (S : IdentitySet) (p cap wcap : ℕ) (world : World Kind Op Shown) (reading : IsReading D members keys V decl key i k x j S p (needed_number (Level.Majority cap) (length V.members)) world)
         (in_S : (t : ℕ) → S t ≡ true → is_member V t ≡ true) (many : needed_number (Level.Majority wcap) (length V.members) ≤ length (members_of S)) where
-      comes_of : (event : Event Op) → IsLawful D world event → (input : Input Op) (fate : Fate) → MakesStep world event j input fate → Comes D world j input
-      comes_of event lawful input fate (ByInput e) = Given (subst (λ (ev : Event Op). IsLawful D world ev) e lawful).0
-      comes_of event lawful input fate (ByDelivery from index message e sent is) = Brought from index message sent is
+      comes_of : (event : Event Op) → IsLawful D world event → (input : Input Op) (fate : Fate) → MakesStep world event j input fate → IsGiven D world j input
+      comes_of event lawful input fate (ByInput e) = (subst (λ (ev : Event Op). IsLawful D world ev) e lawful).0
+      comes_of event lawful input fate (ByDelivery from index message e sent is) = subst (λ (x : Input Op). IsGiven D world j x) (sym is) (index, message, λ key. true, sent, sym (all_known message))
 
       leaves_of : (event : Event Op) (input : Input Op) (fate : Fate) → MakesStep world event j input fate → KeepsMembers event
       leaves_of event input fate (ByInput e) = subst (λ (ev : Event Op). KeepsMembers ev) (sym e) tt

@@ -1,7 +1,12 @@
 pub mod Tables
 pub mod Views
+pub mod Keys
+pub mod Parts
+pub mod Messages
+pub mod OpenKeys
 pub mod OtherEnds
 pub mod Forgetting
+pub mod Takes
 pub mod Ways
 pub mod Steps
 pub mod Inputs

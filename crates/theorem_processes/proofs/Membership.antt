@@ -1,11 +1,13 @@
--- Members that leave, join and come back are the model's; and a step that was refused, what is forgotten and another limit are nothing.
-use Rattle.std.proofs.Common.{◌≡◌, ◌≢◌, ℕ, ◌+◌, ◌-◌, ◌<◌, List, [], ◌∷◌, ◌++◌, length, map, refl, sym, ap, subst, ◌∙◌, arith, Bool, true, false, Option, Some, None, inl, inr}
-use Rattle.std.specs.Prelude.{max, is_some, if◌then◌else◌, IsTrue, IsFalse}
+-- Members that leave, join and come back are the model's; and a step that was refused, what is forgotten, another limit and a declared key are nothing.
+use Rattle.std.proofs.Common.{◌≡◌, ◌≢◌, ℕ, ◌+◌, ◌-◌, ◌<◌, List, [], ◌∷◌, ◌++◌, length, map, get_or, refl, sym, ap, subst, ◌∙◌, arith, Bool, true, false, Option, Some, None, inl, inr}
+use Rattle.std.specs.Prelude.{max, is_some, if◌then◌else◌, IsTrue, IsFalse, slice_get, option_map}
 use Rattle.std.proofs.lemmas.Bool.Decides.{eqb_tells}
+use Rattle.std.proofs.lemmas.Option.{slice_get-map, slice_get-get_or}
+use Rattle.std.proofs.lemmas.Simd.{map-map}
 use Rattle.model_history.specs.Table.{identity_limit, with_at}
 use Rattle.model_history.specs.Texts.{Text}
 use Rattle.model_history.specs.History.{History, IsHistory}
-use Rattle.model_history.proofs.HistoryLaws.{append_nothing, with_at_same, with_at_other}
+use Rattle.model_history.proofs.HistoryLaws.{append_nothing, with_at_same, with_at_other, slice_get-below}
 use Rattle.model_members.specs.DataType.{Replication}
 use Rattle.model_members.specs.Node as nodes
 use Rattle.model_members.specs.View.{View, is_member, is_taken, place_of, without_member, with_joined, with_replaced}
@@ -14,6 +16,7 @@ use Rattle.model_members.specs.World.{Event, Store, happens, views_of, no_entrie
 use Rattle.model_members.specs.World.Event.{Removal, Joining, Restart}
 use Rattle.theorem_operations.proofs.Moments.{run_pushed}
 use Rattle.theorem_runs.proofs.ViewLaws.{place_without, joins_at, replaces_at}
+use Rattle.base_bytes.specs.TextOrder.{IsRising}
 use Rattle.model_kinds.specs.declared.operation.Op.{Op}
 use Rattle.model_kinds.specs.declared.shown.Shown.{Shown}
 use Rattle.data_lattice.specs.declared.replica.Replica.{Ghosts}
@@ -22,8 +25,12 @@ use Rattle.member_keeper.specs.declared.keeper.Keeper.{Ghosts as Keeping}
 use Rattle.member_keeper.specs.Calls.{Becomes}
 use Rattle.member_keeper.specs.Tables.{Table, IsTable}
 use Rattle.member_views.specs.Sound.{last_view}
+use Rattle.member_node.specs.declared.declaring.Declared.{Declared}
+use Rattle.member_node.specs.declared.declaring.Declared.TheVariants.{New, Already, Otherwise}
 use Rattle.member_node.specs.declared.key.KeyDecl.{KeyDecl}
 use Rattle.member_node.specs.declared.node.Node.{Node}
+use Rattle.member_node.specs.Declaring as declaring
+use Rattle.member_node.specs.Declaring.{declaration_of, IsDeclared}
 use Rattle.member_node.specs.Keys.{AreOfKinds, declared}
 use Rattle.member_node.specs.Limits.{IsLimited}
 use Rattle.member_node.specs.Members.{StandsForNode}
@@ -33,16 +40,18 @@ use Rattle.world_members.specs.Standing.{TellsStore}
 use Rattle.world_members.proofs.Lists.{at_each}
 use Rattle.world_members.proofs.Standings.{last_is, still_stands}
 use Rattle.world_members.proofs.Storing.{spells_nothing, store_stays}
-use Rattle.theorem_processes.specs.Forgetting.{HasForgotten, StandsButForEnds, StandsForProcess}
+use Rattle.theorem_processes.specs.Declaring.{declared_keys, HasDeclared}
+use Rattle.theorem_processes.specs.Forgetting.{HasForgotten, StandsInPart, StandsForProcess}
 use Rattle.theorem_processes.specs.Processes.{Processes, IsMade, IsMaybeLimited, IsBack, with_view, with_member, happened, next_identity, now_of}
-use Rattle.theorem_processes.specs.Processes.Happening.{Refuses, Forgets, Limits, Leaves, Joins, Returns}
+use Rattle.theorem_processes.specs.Processes.Happening.{Refuses, Forgets, Limits, Declares, Leaves, Joins, Returns}
 use Rattle.theorem_processes.specs.Runs.{lasting, StandFor}
-use Rattle.theorem_processes.proofs.Forgetting.{whole, forgets}
+use Rattle.theorem_processes.proofs.Forgetting.{loaded_in_part, goes_on, forgets, declares_key}
 use Rattle.theorem_processes.proofs.Inputs.{Advances}
-use Rattle.theorem_processes.proofs.OtherEnds.{with_ends}
+use Rattle.theorem_processes.proofs.Keys.{none_found}
+use Rattle.theorem_processes.proofs.Parts.{kinds_of_part, stores_no_others}
 use Rattle.theorem_processes.proofs.Tables.{both_at}
 use Rattle.theorem_processes.proofs.Views.{joined_place, joined_apart, replaced_place}
-use Rattle.theorem_processes.proofs.Ways.{Reached, at_work, way_of, way_before, member_of_view, members_below, places_there}
+use Rattle.theorem_processes.proofs.Ways.{Reached, at_work, way_of, way_before, member_of_view, members_below, keys_there, places_there}
 
 module _ {T K Kind Delta : Type 0} {ghosts : Ghosts T Kind Op Delta} {keeping : Keeping K} where
   -- what stands in a table of members with another one at a place
@@ -94,18 +103,18 @@ module _ {T K Kind Delta : Type 0} {ghosts : Ghosts T Kind Op Delta} {keeping : 
   -- THE MEMBER IS ANOTHER, AND THE WORLD THE SAME
 
   module _ (at : ℕ) (after before : Node T K Kind Op Delta ghosts keeping) (runs : ps.members at ≡ Some before) (forgotten : ℕ → ℕ)
-      (stays : (logs : Text → History Op) (node : nodes.Node Kind Op Shown) → StandsButForEnds kinds logs (ps.forgotten at) before node → StandsButForEnds kinds logs (forgotten at) after node)
+      (stays : (logs : Text → History Op) (node : nodes.Node Kind Op Shown) → ((key : Text) → IsHistory (logs key)) → world.nodes at ≡ Some node → StandsInPart kinds logs (ps.forgotten at) before node → StandsInPart kinds logs (forgotten at) after node)
       (others : (j : ℕ) → j ≢ at → forgotten j ≡ ps.forgotten j) (keeps : (logs : Text → History Op) (store : Store Op) → Tell logs before.keeper store → Tell logs after.keeper store) where
     abbrev changed : Processes ghosts keeping
     changed = record (with_member ps at (Some after)) { forgotten = forgotten }
 
-    stands_changed : (logs : Text → History Op) → Stand logs ps world → Stand logs changed world
-    stands_changed logs s =
+    stands_changed : (logs : Text → History Op) → ((key : Text) → IsHistory (logs key)) → Stand logs ps world → Stand logs changed world
+    stands_changed logs histories s =
         let there = at_work spelling kinds decls count logs ps world s at before runs in
         record {
           views = s.views;
           keys = s.keys;
-          running = at_each (λ j code. Running logs (forgotten j) code (world.nodes j)) ps.members at (Some after) (there.node, there.runs, stays logs there.node there.stands)
+          running = at_each (λ j code. Running logs (forgotten j) code (world.nodes j)) ps.members at (Some after) (there.node, there.runs, stays logs there.node histories there.runs there.stands)
               (λ j other. subst (λ (n : ℕ). Running logs n (ps.members j) (world.nodes j)) (sym (others j other)) (s.running j));
           links = s.links;
           stores = here_or_other ps.members at (Some after) (λ j member. Tell logs member.keeper (world.stores (place_of world.view j)))
@@ -117,7 +126,7 @@ module _ {T K Kind Delta : Type 0} {ghosts : Ghosts T Kind Op Delta} {keeping : 
     still_reached : Reached {ghosts = ghosts} {keeping = keeping} spelling kinds decls count (events ++ []) changed world
     still_reached =
         subst (λ (es : List (Event Op)). Reached {ghosts = ghosts} {keeping = keeping} spelling kinds decls count es changed world) (sym (append_nothing events))
-        (record { is_run = r.is_run; stand = λ logs way. stands_changed logs (r.stand logs way) })
+        (record { is_run = r.is_run; stand = λ logs way. stands_changed logs way.histories (r.stand logs way) })
 
   same_keeper : (logs : Text → History Op) (before after : Node T K Kind Op Delta ghosts keeping) (store : Store Op) → after.keeper ≡ before.keeper → Tell logs before.keeper store → Tell logs after.keeper store
   same_keeper logs before after store same tells = subst (λ (k : K). Tell logs k store) (sym same) tells
@@ -127,7 +136,7 @@ module _ {T K Kind Delta : Type 0} {ghosts : Ghosts T Kind Op Delta} {keeping : 
       record {
         next = world;
         reached = still_reached at after before runs ps.forgotten
-            (λ logs node s. record { ends = s.ends; left = s.left; stands = still_stands spelling kinds logs before after (with_ends s.ends node) unchanged.same s.stands }) (λ j other. refl)
+            (λ logs node histories there s. goes_on kinds logs (ps.forgotten at) before after node (λ n. still_stands spelling kinds logs before after n unchanged.same) s) (λ j other. refl)
             (λ logs store tells. store_stays ghosts spelling kinds logs keeping alike before.keeper after.keeper store unchanged.told.table tells);
         told = tt;
       }
@@ -137,7 +146,7 @@ module _ {T K Kind Delta : Type 0} {ghosts : Ghosts T Kind Op Delta} {keeping : 
       record {
         next = world;
         reached = still_reached at after before runs ps.forgotten
-            (λ logs node s. record { ends = s.ends; left = s.left; stands = limited.stands kinds logs (with_ends s.ends node) s.stands }) (λ j other. refl)
+            (λ logs node histories there s. goes_on kinds logs (ps.forgotten at) before after node (λ n. limited.stands kinds logs n) s) (λ j other. refl)
             (λ logs store tells. same_keeper logs before after store limited.keeper tells);
         told = tt;
       }
@@ -148,10 +157,62 @@ module _ {T K Kind Delta : Type 0} {ghosts : Ghosts T Kind Op Delta} {keeping : 
       record {
         next = world;
         reached = still_reached at after old runs (with_at ps.forgotten at more)
-            (λ logs node s. subst (λ (n : ℕ). StandsButForEnds kinds logs n after node) (sym (with_at_same ps.forgotten at more)) (forgets kinds logs (ps.forgotten at) old after node has.stands s))
+            (λ logs node histories there s. subst (λ (n : ℕ). StandsInPart kinds logs n after node) (sym (with_at_same ps.forgotten at more)) (forgets kinds logs (ps.forgotten at) old after node has.stands s))
             (λ j other. with_at_other ps.forgotten at more j other) (λ logs store tells. same_keeper logs old after store has.same.keeper tells);
         told = tt;
       }
+
+  -- A KEY IS DECLARED
+
+  keys_are : world.keys ≡ keys
+  keys_are = let now = way_of D count keys events world r.is_run in (r.stand now.0 now.1).keys
+
+  module _ (at : ℕ) (decl : KeyDecl T Kind Op Delta) (after before : Node T K Kind Op Delta ghosts keeping) (runs : ps.members at ≡ Some before) where
+    -- nothing changed
+    stays_so : after ≡ before → Advances {ghosts = ghosts} {keeping = keeping} spelling kinds decls count events ps world (Declares at decl after)
+    stays_so same =
+        record {
+          next = world;
+          reached = still_reached at after before runs ps.forgotten
+              (λ logs node histories there s. subst (λ (code : Node T K Kind Op Delta ghosts keeping). StandsInPart kinds logs (ps.forgotten at) code node) (sym same) s) (λ j other. refl)
+              (λ logs store tells. same_keeper logs before after store (ap (λ (code : Node T K Kind Op Delta ghosts keeping). code.keeper) same) tells);
+          told = tt;
+        }
+
+    module _ (rising : IsRising (map (λ (key : KeyDecl T Kind Op Delta). key.key) decls)) (index : ℕ) (listed : slice_get decls index ≡ Some decl) where
+      of_kind : kinds decl.key ≡ decl.kind
+      of_kind =
+          let within = slice_get-below decls decl index listed in
+          let same : get_or decls index decl ≡ decl = (let e : Some (get_or decls index decl) ≡ Some decl = sym (slice_get-get_or decls index decl within) ∙ listed in cc e) in
+          subst (λ (key : KeyDecl T Kind Op Delta). kinds key.key ≡ key.kind) same (of_kinds index decl within)
+
+      module _ (node : nodes.Node Kind Op Shown) (there : world.nodes at ≡ Some node) where
+        own_keys : keys ≡ node.keys
+        own_keys = sym (keys_there D count keys events world r.is_run at node there ∙ keys_are)
+
+        rising_there : IsRising (map (λ (key : nodes.KeyDecl Kind). key.name) node.keys)
+        rising_there = subst (λ (ks : List (nodes.KeyDecl Kind)). IsRising (map (λ (key : nodes.KeyDecl Kind). key.name) ks)) own_keys (subst IsRising (sym (map-map (λ (key : nodes.KeyDecl Kind). key.name) declared decls)) rising)
+
+        listed_there : slice_get node.keys index ≡ Some (declared decl)
+        listed_there = ap (λ (ks : List (nodes.KeyDecl Kind)). slice_get ks index) (sym own_keys) ∙ slice_get-map declared decls index ∙ ap (option_map declared) listed
+
+      takes_its_place : declaration_of decl.key before.keys.items ≡ None → IsDeclared decl before after → Advances {ghosts = ghosts} {keeping = keeping} spelling kinds decls count events ps world (Declares at decl after)
+      takes_its_place none is =
+          record {
+            next = world;
+            reached = still_reached at after before runs ps.forgotten
+                (λ logs node histories there s. declares_key kinds logs (ps.forgotten at) before after node decl index (rising_there node there) (listed_there node there) histories of_kind (none_found (declared_keys before) decl.key none) is s)
+                (λ j other. refl) (λ logs store tells. same_keeper logs before after store is.keeper tells);
+            told = tt;
+          }
+
+      by_answer : (answer : Declared) → declaring.Declares before decl after answer → Advances {ghosts = ghosts} {keeping = keeping} spelling kinds decls count events ps world (Declares at decl after)
+      by_answer New is = takes_its_place is.0 is.1
+      by_answer Already is = stays_so is.1
+      by_answer Otherwise is = stays_so is.3
+
+  pub declares : (at : ℕ) (decl : KeyDecl T Kind Op Delta) (after before : Node T K Kind Op Delta ghosts keeping) → ps.members at ≡ Some before → HasDeclared decls decl before after → Advances {ghosts = ghosts} {keeping = keeping} spelling kinds decls count events ps world (Declares at decl after)
+  declares at decl after before runs has = by_answer at decl after before runs has.rising has.index has.listed has.answer has.declares
 
   -- A CHANGE OF THE VIEWS
 
@@ -211,9 +272,11 @@ module _ {T K Kind Delta : Type 0} {ghosts : Ghosts T Kind Op Delta} {keeping : 
         ∙ ap (λ (store : Store Op). with_at world.nodes given (Some (loaded_node world.keys given joined store))) (with_at_same world.stores place no_entries)
 
     module _ (logs : Text → History Op) (histories : (key : Text) → IsHistory (logs key)) (s : Stand logs ps world) where
-      new_stands : StandsForNode ghosts.kind_of ghosts.IsDataOf kinds logs new (loaded_node world.keys given joined no_entries)
+      new_stands : StandsInPart kinds logs (ps.forgotten given) new (loaded_node world.keys given joined no_entries)
       new_stands =
-          subst (λ (ks : List (nodes.KeyDecl Kind)). StandsForNode ghosts.kind_of ghosts.IsDataOf kinds logs new (loaded_node ks given joined no_entries)) (sym s.keys) (made_there.is_new kinds logs histories of_kinds)
+          subst (λ (ks : List (nodes.KeyDecl Kind)). StandsInPart kinds logs (ps.forgotten given) new (loaded_node ks given joined no_entries)) (sym s.keys)
+          (loaded_in_part kinds logs (ps.forgotten given) new (map declared made_there.own) keys given joined no_entries made_there.part (λ name decl unknown named durable. refl)
+          (made_there.is_new kinds logs histories (kinds_of_part kinds made_there.own decls made_there.part of_kinds)))
 
       new_tells : Tell logs new.keeper no_entries
       new_tells = λ table told.
@@ -226,7 +289,7 @@ module _ {T K Kind Delta : Type 0} {ghosts : Ghosts T Kind Op Delta} {keeping : 
             views = ap (λ (vs : List View). vs ++ joined ∷ []) s.views;
             keys = s.keys;
             running = λ j. subst (λ (ns : ℕ → Option (nodes.Node Kind Op Shown)). Running logs (ps.forgotten j) (with_at ps.members given (Some new) j) (ns j)) (sym nodes_joined)
-                (both_at (λ k code running. Running logs (ps.forgotten k) code running) ps.members world.nodes given (Some new) (Some (loaded_node world.keys given joined no_entries)) (loaded_node world.keys given joined no_entries, refl, whole kinds logs (ps.forgotten given) new (loaded_node world.keys given joined no_entries) new_stands) (λ k other. s.running k) j);
+                (both_at (λ k code running. Running logs (ps.forgotten k) code running) ps.members world.nodes given (Some new) (Some (loaded_node world.keys given joined no_entries)) (loaded_node world.keys given joined no_entries, refl, new_stands) (λ k other. s.running k) j);
             links = s.links;
             stores = here_or_other ps.members given (Some new) (λ j member. Tell logs member.keeper (with_at world.stores place no_entries (place_of joined j)))
                 (λ member is. (let same : new ≡ member = cc is in
@@ -268,11 +331,14 @@ module _ {T K Kind Delta : Type 0} {ghosts : Ghosts T Kind Op Delta} {keeping : 
       spells : IsTable back.table × SpellsStore ghosts spelling kinds logs back.table (world.stores old_place)
       spells = s.stores i back.before back.was back.table back.kept
 
-      back_stands : StandsForNode ghosts.kind_of ghosts.IsDataOf kinds logs new (loaded_node world.keys given replaced (world.stores old_place))
+      back_stands : StandsInPart kinds logs (ps.forgotten given) new (loaded_node world.keys given replaced (world.stores old_place))
       back_stands =
-          subst (λ (ks : List (nodes.KeyDecl Kind)). StandsForNode ghosts.kind_of ghosts.IsDataOf kinds logs new (loaded_node ks given replaced (world.stores old_place))) (sym s.keys)
-          (subst (λ (v : View). StandsForNode ghosts.kind_of ghosts.IsDataOf kinds logs new (loaded_node keys v.given (with_replaced v i) (world.stores old_place))) last
-          (limited_stands kinds logs (loaded_node keys (now_of ps).given (with_replaced (now_of ps) i) (world.stores old_place)) back.made new back.limited (back.stands kinds logs back.table (world.stores old_place) back.told of_kinds histories spells.1)))
+          subst (λ (ks : List (nodes.KeyDecl Kind)). StandsInPart kinds logs (ps.forgotten given) new (loaded_node ks given replaced (world.stores old_place))) (sym s.keys)
+          (subst (λ (v : View). StandsInPart kinds logs (ps.forgotten given) new (loaded_node keys v.given (with_replaced v i) (world.stores old_place))) last
+          (loaded_in_part kinds logs (ps.forgotten given) new (map declared back.own) keys (now_of ps).given (with_replaced (now_of ps) i) (world.stores old_place) back.part
+          (stores_no_others ghosts spelling kinds logs back.made.keys.items (next_identity ps) (with_replaced (now_of ps) i).given (map declared back.own) keys back.table (world.stores old_place) back.loaded.keys back.sound spells.1)
+          (limited_stands kinds logs (loaded_node (map declared back.own) (now_of ps).given (with_replaced (now_of ps) i) (world.stores old_place)) back.made new back.limited
+          (back.stands kinds logs back.table (world.stores old_place) back.told (kinds_of_part kinds back.own decls back.part of_kinds) histories spells.1))))
 
       back_tells : Tell logs new.keeper (world.stores old_place)
       back_tells = λ table told.
@@ -288,7 +354,7 @@ module _ {T K Kind Delta : Type 0} {ghosts : Ghosts T Kind Op Delta} {keeping : 
             keys = s.keys;
             running = λ j. subst (λ (ns : ℕ → Option (nodes.Node Kind Op Shown)). Running logs (ps.forgotten j) (with_at (with_at ps.members i None) given (Some new) j) (ns j)) (sym nodes_back)
                 (both_at (λ k code running. Running logs (ps.forgotten k) code running) (with_at ps.members i None) (with_at world.nodes i None) given (Some new) (Some (loaded_node world.keys given replaced (world.stores old_place)))
-                (loaded_node world.keys given replaced (world.stores old_place), refl, whole kinds logs (ps.forgotten given) new (loaded_node world.keys given replaced (world.stores old_place)) back_stands)
+                (loaded_node world.keys given replaced (world.stores old_place), refl, back_stands)
                 (λ k other. both_at (λ l code running. Running logs (ps.forgotten l) code running) ps.members world.nodes i None None refl (λ l apart. s.running l) k) j);
             links = s.links;
             stores = here_or_other (with_at ps.members i None) given (Some new) (λ j member. Tell logs member.keeper (world.stores (place_of replaced j)))

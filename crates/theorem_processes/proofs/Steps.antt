@@ -1,5 +1,6 @@
 -- A step that a member makes at its process is the model's next event.
---     made, tells        the processes then stand for the next world, and what was told is what the event puts out
+--     made        the processes then stand for the next world
+--     seen, tells        what the step says, and that it is what the event puts out
 use Rattle.std.proofs.Common.{◌≡◌, ◌≢◌, ℕ, List, [], ◌∷◌, ◌++◌, map, refl, sym, ap, subst, ◌∙◌, arith, Bool, false, Some, inl, inr}
 use Rattle.std.specs.Prelude.{is_some, if◌then◌else◌, ◌==◌}
 use Rattle.std.specs.List.{AllZip}
@@ -29,25 +30,25 @@ use Rattle.member_node.specs.declared.node.Node.{Node}
 use Rattle.member_node.specs.declared.input.Input as given_input
 use Rattle.member_node.specs.declared.reply.Fate as done
 use Rattle.member_node.specs.declared.reply.Output.{Output}
-use Rattle.member_node.specs.Inputs.{StandsForInput}
 use Rattle.member_node.specs.Keys.{declared}
 use Rattle.member_node.specs.Limits.{highest_limit}
-use Rattle.member_node.specs.Members.{IsSafe, StandsForMessage}
+use Rattle.member_node.specs.Members.{IsSafe, StandsForMessage, StandsForPosts}
 use Rattle.member_node.specs.Replies.{meant_fate}
 use Rattle.member_node.proofs.Fates.{entries_same}
 use Rattle.world_members.specs.Sending.{messages_to}
 use Rattle.world_members.specs.Standing.{TellsStore}
-use Rattle.world_members.proofs.Answering.{names_apart, all_fine}
 use Rattle.world_members.proofs.Linking.{sent_to, posts_here, posts_elsewhere, messages_stand}
 use Rattle.world_members.proofs.Lists.{zip_append}
 use Rattle.world_members.proofs.Storing.{store_stands}
-use Rattle.theorem_processes.specs.Forgetting.{StandsButForEnds, StandsForProcess}
+use Rattle.theorem_declaring.specs.Parts.{with_keys, SpeaksOf}
+use Rattle.theorem_processes.specs.Declaring.{declared_keys}
+use Rattle.theorem_processes.specs.Forgetting.{StandsInPart, StandsForProcess}
 use Rattle.theorem_processes.specs.Processes.{Processes, Makes, after_step}
 use Rattle.theorem_processes.specs.Runs.{lasting, StandFor, Tells}
-use Rattle.theorem_processes.proofs.Forgetting.{IsImageButForEnds, carried}
-use Rattle.theorem_processes.proofs.OtherEnds.{with_ends, adds_alike}
+use Rattle.theorem_processes.proofs.Forgetting.{AreSame, Gives, IsImageInPart, carried, entries_after, says}
+use Rattle.theorem_processes.proofs.OtherEnds.{with_ends}
 use Rattle.theorem_processes.proofs.Tables.{both_at}
-use Rattle.theorem_processes.proofs.Ways.{IsWay, Reached, IsAtWork, at_work, way_of, way_before, safe_there, safe_alike, member_of_view, places_there}
+use Rattle.theorem_processes.proofs.Ways.{IsWay, Reached, IsAtWork, at_work, way_of, way_before, safe_there, safe_alike, member_of_view, identity_there, places_there}
 
 module _ {T K Kind Delta : Type 0} {ghosts : Ghosts T Kind Op Delta} {keeping : Keeping K} (spelling : Spelling T Kind Op Delta) (alike : (a b : K) → is_some (keeping.table a) ≡ is_some (keeping.table b)) (kinds : Text → Kind) (decls : List (KeyDecl T Kind Op Delta)) (count : ℕ)
     (events : List (Event Op)) (ps : Processes ghosts keeping) (world : worlds.World Kind Op Shown) (r : Reached {ghosts = ghosts} {keeping = keeping} spelling kinds decls count events ps world)
@@ -61,20 +62,23 @@ module _ {T K Kind Delta : Type 0} {ghosts : Ghosts T Kind Op Delta} {keeping : 
   abbrev Stand : (Text → History Op) → Type 0
   Stand logs = StandFor {ghosts = ghosts} {keeping = keeping} spelling kinds decls logs ps world
 
-  now : (logs : Text → History Op) × IsWay D count keys logs events
+  pub now : (logs : Text → History Op) × IsWay D count keys logs events
   now = way_of D count keys events world r.is_run
 
-  work : IsAtWork {ghosts = ghosts} {keeping = keeping} spelling kinds decls count now.0 ps world at m.before
+  pub work : IsAtWork {ghosts = ghosts} {keeping = keeping} spelling kinds decls count now.0 ps world at m.before
   work = at_work spelling kinds decls count now.0 ps world (r.stand now.0 now.1) at m.before m.runs
 
   abbrev node : nodes.Node Kind Op Shown
   node = work.node
 
-  node_stands : (logs : Text → History Op) → Stand logs → StandsButForEnds kinds logs (ps.forgotten at) m.before node
+  identity : node.identity ≡ at
+  identity = identity_there D count keys events world r.is_run at node work.runs
+
+  pub node_stands : (logs : Text → History Op) → Stand logs → StandsInPart kinds logs (ps.forgotten at) m.before node
   node_stands logs s =
       let there = at_work spelling kinds decls count logs ps world s at m.before m.runs in
       let same : there.node ≡ node = (let e : Some there.node ≡ Some node = sym there.runs ∙ work.runs in cc e) in
-      subst (StandsButForEnds kinds logs (ps.forgotten at) m.before) same there.stands
+      subst (StandsInPart kinds logs (ps.forgotten at) m.before) same there.stands
 
   -- its own limit is at most the highest
   has_room : is_full D node ≡ false
@@ -83,12 +87,12 @@ module _ {T K Kind Delta : Type 0} {ghosts : Ghosts T Kind Op Delta} {keeping : 
     | inr other ↦ other.0
   ]
 
-  -- an event in which the member takes the input, and links whose messages are those of the world
+  -- an event in which the member takes an input at which it moves as at what was given, and links whose messages are those of the world
   module _ (sent : Input Op) (event : Fate → Event Op) (links : Links Op)
       (lawful : (n : nodes.Node Kind Op Shown) → world.nodes at ≡ Some n → is_full D n ≡ false → (f : Fate) → FitsFate D n sent f → IsLawful D world (event f))
       (happens_so : (n : nodes.Node Kind Op Shown) → world.nodes at ≡ Some n → (f : Fate) → happens D world (event f) ≡ worlds.after_step (record world { links = links }) at n f (step D n sent f))
       (puts_out : (n : nodes.Node Kind Op Shown) → world.nodes at ≡ Some n → (f : Fate) → output_of D world (event f) ≡ Some (step D n sent f).output)
-      (same_messages : (a b : ℕ) → (links a b).messages ≡ (world.links a b).messages) (input_stands : (logs : Text → History Op) → Stand logs → StandsForInput kinds logs m.before.keys.items given sent) where
+      (same_messages : (a b : ℕ) → (links a b).messages ≡ (world.links a b).messages) (speaks : SpeaksOf (declared_keys m.before) sent) (gives : (logs : Text → History Op) → Stand logs → Gives spelling kinds logs m.before at given sent) where
     run_with : (f : Fate) → FitsFate D node sent f → IsRun D count keys (events ++ event f ∷ []) (happens D world (event f))
     run_with f fits = run_pushed D count keys events world (event f) r.is_run (lawful node work.runs has_room f fits)
 
@@ -104,13 +108,21 @@ module _ {T K Kind Delta : Type 0} {ghosts : Ghosts T Kind Op Delta} {keeping : 
         safe_there D count keys (events ++ event f ∷ []) (happens D world (event f)) (run_with f fits) logs way at (step D node sent f).node
         (ap (λ (w : worlds.World Kind Op Shown). w.nodes at) (happens_so node work.runs f) ∙ with_at_same world.nodes at (Some (step D node sent f).node))
 
-    image : (logs : Text → History Op) → Stand logs → IsSafe logs (step D node sent (meant_fate fate)).node → IsImageButForEnds spelling kinds logs (ps.forgotten at) m.before fate output after node sent
+    -- what the member says, as its input stands for it
+    abbrev part : (logs : Text → History Op) → Stand logs → nodes.Node Kind Op Shown
+    part logs s = with_keys (declared_keys m.before) (with_ends (node_stands logs s).ends node)
+
+    abbrev said : (logs : Text → History Op) → Stand logs → nodes.Output Op Shown
+    said logs s = (step D (part logs s) (gives logs s).taken (meant_fate fate)).output
+
+    pub image : (logs : Text → History Op) (s : Stand logs) → IsSafe logs (step D node sent (meant_fate fate)).node → IsImageInPart spelling kinds logs (ps.forgotten at) m.before fate output after node sent (said logs s)
     image logs s safe =
         let before = node_stands logs s in
-        let other = with_ends before.ends node in
-        let entries = ap (λ (x : Stepped Kind Op Shown). x.node.entries) (adds_alike D node before.ends sent (meant_fate fate)).alike in
-        carried spelling kinds logs (ps.forgotten at) m.before fate output after node sent before
-        (m.makes.image kinds logs other sent before.stands (input_stands logs s) (safe_alike (step D node sent (meant_fate fate)).node (step D other sent (meant_fate fate)).node entries safe))
+        let g = gives logs s in
+        let f = meant_fate fate in
+        let entries = entries_after spelling kinds logs (ps.forgotten at) m.before fate output after node sent at given before identity speaks g f in
+        carried spelling kinds logs (ps.forgotten at) m.before fate output after node sent at given before identity speaks g
+        (m.makes.image kinds logs (part logs s) g.taken before.stands g.stands (g.of_known (with_ends before.ends node)) (safe_alike (step D node sent f).node (step D (part logs s) g.taken f).node entries safe))
 
     -- the entries after the step are the same whatever the store did, so the step is the model's, and its fate fits
     fits : FitsFate D node sent (meant_fate fate)
@@ -129,7 +141,7 @@ module _ {T K Kind Delta : Type 0} {ghosts : Ghosts T Kind Op Delta} {keeping : 
     abbrev next_store : Store Op
     next_store = after_store (meant_fate fate) (map keyed_entry (to_store node stepped.node)) (world.stores place)
 
-    module _ (logs : Text → History Op) (s : Stand logs) (im : IsImageButForEnds spelling kinds logs (ps.forgotten at) m.before fate output after node sent) where
+    module _ (logs : Text → History Op) (s : Stand logs) (im : IsImageInPart spelling kinds logs (ps.forgotten at) m.before fate output after node sent (said logs s)) where
       abbrev IsMeant : Message T Kind Op Delta ghosts → Sent Op → Type 0
       IsMeant = StandsForMessage ghosts.kind_of ghosts.IsDataOf kinds logs
 
@@ -142,7 +154,7 @@ module _ {T K Kind Delta : Type 0} {ghosts : Ghosts T Kind Op Delta} {keeping : 
                 ap (λ (i : ℕ). (with_posts links i stepped.output.posts a b).messages) (sym here.1) ∙ ap (λ (l : worlds.Link Op). l.messages) (posts_here stepped.output.posts links a b) in
                 subst (λ (x : Bool). AllZip IsMeant (if x then ps.posted a b ++ messages_to output.posts b else ps.posted a b) (with_posts links at stepped.output.posts a b).messages) (sym here.0)
                 (subst (AllZip IsMeant (ps.posted a b ++ messages_to output.posts b)) (sym posts)
-                (zip_append IsMeant (ps.posted a b) (messages_to output.posts b) (links a b).messages (sent_to stepped.output.posts b) earlier (messages_stand kinds logs output.posts stepped.output.posts b im.answers.posts)))
+                (zip_append IsMeant (ps.posted a b) (messages_to output.posts b) (links a b).messages (sent_to stepped.output.posts b) earlier (messages_stand kinds logs output.posts stepped.output.posts b (subst (StandsForPosts ghosts.kind_of ghosts.IsDataOf kinds logs output.posts) im.posts im.answers.posts))))
             | inr other ↦
                 subst (λ (x : Bool). AllZip IsMeant (if x then ps.posted a b ++ messages_to output.posts b else ps.posted a b) (with_posts links at stepped.output.posts a b).messages) (sym other.0)
                 (subst (AllZip IsMeant (ps.posted a b)) (sym (ap (λ (l : worlds.Link Op). l.messages) (posts_elsewhere stepped.output.posts links at a b other.1))) earlier)
@@ -153,8 +165,7 @@ module _ {T K Kind Delta : Type 0} {ghosts : Ghosts T Kind Op Delta} {keeping : 
 
       stored : Keeps after.keeper next_store
       stored =
-          store_stands ghosts spelling kinds logs keeping alike fate (to_store node stepped.node) m.before.keeper after.keeper (world.stores place) im.table (names_apart spelling kinds logs after node (with_ends im.stands.ends stepped.node) im.stands.stands)
-          (all_fine spelling kinds logs after node (with_ends im.stands.ends stepped.node) im.stands.stands im.stored) (s.stores at m.before m.runs)
+          store_stands ghosts spelling kinds logs keeping alike fate (to_store node stepped.node) m.before.keeper after.keeper (world.stores place) im.table im.apart im.fine (s.stores at m.before m.runs)
 
       kept : (i : ℕ) (member : Node T K Kind Op Delta ghosts keeping) → with_at ps.members at (Some after) i ≡ Some member → Keeps member.keeper (with_at world.stores place next_store (place_of world.view i))
       kept i member is = elim (eqb_tells i at) [
@@ -189,9 +200,23 @@ module _ {T K Kind Delta : Type 0} {ghosts : Ghosts T Kind Op Delta} {keeping : 
               (stand_after logs s (image logs s (safe_with (meant_fate fate) fits logs way)));
         }
 
-    pub tells : Tells spelling world output (event (meant_fate fate))
-    tells =
+    -- logs of the run with the event, in which the step is seen
+    pub seen : (logs : Text → History Op) × ((s : Stand logs) × IsImageInPart spelling kinds logs (ps.forgotten at) m.before fate output after node sent (said logs s))
+    seen =
         let way = way_of D count keys (events ++ event (meant_fate fate) ∷ []) (happens D world (event (meant_fate fate))) (run_with (meant_fate fate) fits) in
         let s = r.stand way.0 (way_before D count keys way.0 events (event (meant_fate fate) ∷ []) way.1) in
-        let im = image way.0 s (safe_with (meant_fate fate) fits way.0 way.1) in
-        record { meaning = stepped.output; put_out = puts_out node work.runs (meant_fate fate); reply = sym im.answers.reply; ended = im.answers.ended }
+        (way.0, (s, image way.0 s (safe_with (meant_fate fate) fits way.0 way.1)))
+
+    -- where the member also answers as it does at what was given
+    pub tells : ((logs : Text → History Op) (s : Stand logs) → AreSame D (declared_keys m.before) at (gives logs s).taken sent) → Tells spelling world output (event (meant_fate fate))
+    tells same =
+        let logs = seen.0 in
+        let s = seen.1.0 in
+        let answers = seen.1.1.answers in
+        let is : said logs s ≡ stepped.output = says spelling kinds logs (ps.forgotten at) m.before fate output after node sent at given (node_stands logs s) identity speaks (gives logs s) (same logs s) in
+        record {
+          meaning = stepped.output;
+          put_out = puts_out node work.runs (meant_fate fate);
+          reply = ap (λ (o : nodes.Output Op Shown). o.reply) (sym is) ∙ sym answers.reply;
+          ended = ap (λ (o : nodes.Output Op Shown). o.ended) (sym is) ∙ answers.ended;
+        }

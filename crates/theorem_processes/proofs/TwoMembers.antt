@@ -1,6 +1,6 @@
 -- What real calls make of two processes meets the premises.
 use Rattle.std.proofs.Common.{◌≡◌, ℕ, ◌<◌, ◌≤◌, List, [], ◌∷◌, length, get_or, refl, sym, ap, subst, ◌∙◌, arith, Bool, Some, None, inl, inr}
-use Rattle.std.specs.Prelude.{if◌then◌else◌, ◌==◌, slice_get}
+use Rattle.std.specs.Prelude.{if◌then◌else◌, ◌==◌, IsFalse, slice_get}
 use Rattle.std.proofs.lemmas.Bool.{ne_eqb}
 use Rattle.std.proofs.lemmas.Bool.Decides.{eqb_tells}
 use Rattle.model_members.specs.View.{first_view}
@@ -15,9 +15,15 @@ use Rattle.member_node.specs.declared.node.Node.{Node}
 use Rattle.member_node.specs.declared.input.Input.TheVariants as input
 use Rattle.member_quorum.specs.declared.level.Level.TheVariants.{All}
 use Rattle.world_members.specs.Sending.{messages_to}
+use Rattle.theorem_processes.specs.Declaring.{HasDeclared}
 use Rattle.theorem_processes.specs.Forgetting.{HasForgotten}
 use Rattle.theorem_processes.specs.Processes.{IsMade, Begin}
 use Rattle.theorem_processes.specs.Worked.{two, IsPosting, IsTaking, AreMet}
+
+-- the first item of a list that is not empty
+pub first_item : {X : Type 0} (xs : List X) (x : X) → IsFalse (length xs == 0) → x ≡ get_or xs 0 x → slice_get xs 0 ≡ Some x
+first_item [] x some is = absurd (cc some)
+first_item (y ∷ xs) x some is = ap Some (sym is)
 
 -- a list of one item
 pub one_item : {X : Type 0} (xs : List X) (x : X) → length xs ≡ 1 → x ≡ get_or xs 0 x → xs ≡ x ∷ []
@@ -47,8 +53,8 @@ module _ {T K Kind Delta : Type 0} {ghosts : Ghosts T Kind Op Delta} {keeping : 
   begin_two : Begin decls 2 (two one other)
   begin_two = record { some = omega arith; few = omega arith; view = refl; made = made; no_more = no_more; remembers = λ i. refl; silent = λ from to. refl }
 
-  module _ (spelling : Spelling T Kind Op Delta) (deltas : DeltaSpelling T Kind Op Delta) (after middle last forgetful : Node T K Kind Op Delta ghosts keeping) (bytes : List ℕ)
-      (posting : IsPosting spelling deltas one 1 bytes after) (once : IsTaking spelling deltas other 0 bytes middle) (again : IsTaking spelling deltas middle 0 bytes last) (forgets : HasForgotten 1 last forgetful) where
+  module _ (spelling : Spelling T Kind Op Delta) (deltas : DeltaSpelling T Kind Op Delta) (after middle declared last forgetful : Node T K Kind Op Delta ghosts keeping) (bytes : List ℕ) (decl : KeyDecl T Kind Op Delta)
+      (posting : IsPosting spelling deltas one 1 bytes after) (once : IsTaking spelling deltas other 0 bytes middle) (has : HasDeclared decls decl middle declared) (again : IsTaking spelling deltas declared 0 bytes last) (forgets : HasForgotten 1 last forgetful) where
     posted : slice_get (messages_to posting.output.posts 1) 0 ≡ Some posting.message
     posted = ap (λ (posts : List (Post T Kind Op Delta ghosts)). slice_get (messages_to posts 1) 0) posting.one
 
@@ -63,12 +69,17 @@ module _ {T K Kind Delta : Type 0} {ghosts : Ghosts T Kind Op Delta} {keeping : 
           output = posting.output;
           bytes = bytes;
           once = record { read = once.read; fate = once.fate; output = once.output; after = middle };
+          decl = decl;
+          declared = declared;
           again = record { read = again.read; fate = again.fate; output = again.output; after = last };
           happen = (
             (tt, record { before = one; runs = refl; makes = posting.makes }),
             (
               (record { post = posting.message; posted = posted; spelled = posting.spelled; read_so = once.read_so }, record { before = other; runs = refl; makes = once.makes }),
-              ((record { post = posting.message; posted = posted; spelled = posting.spelled; read_so = again.read_so }, record { before = middle; runs = refl; makes = again.makes }), ((last, refl, forgets), tt)),
+              (
+                (middle, refl, has),
+                ((record { post = posting.message; posted = posted; spelled = posting.spelled; read_so = again.read_so }, record { before = declared; runs = refl; makes = again.makes }), ((last, refl, forgets), tt)),
+              ),
             ),
           );
         }

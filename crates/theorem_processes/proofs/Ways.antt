@@ -2,7 +2,8 @@
 --     IsWay        logs hold all histories of the way
 --     Reached        the way is a run, and the processes stand for the world that it leads to
 --     way_of, safe_there        what a run tells of logs
---     member_of_view, apart_places        where running members are
+--     member_of_view, places_there        where running members are
+--     identity_there, keys_there        who they are, and their keys
 use Rattle.std.proofs.Common.{◌≡◌, ℕ, ◌<◌, List, [], ◌++◌, map, sym, ap, subst, ◌∙◌, append_assoc, true, Option, Some}
 use Rattle.model_history.specs.Texts.{Text}
 use Rattle.model_history.specs.History.{History, IsHistory, IsExactlyPruned}
@@ -30,7 +31,7 @@ use Rattle.member_node.specs.declared.key.KeyDecl.{KeyDecl}
 use Rattle.member_node.specs.declared.node.Node.{Node}
 use Rattle.member_node.specs.Keys.{declared}
 use Rattle.member_node.specs.Members.{IsSafe}
-use Rattle.theorem_processes.specs.Forgetting.{StandsButForEnds, StandsForProcess}
+use Rattle.theorem_processes.specs.Forgetting.{StandsInPart, StandsForProcess}
 use Rattle.theorem_processes.specs.Processes.{Processes}
 use Rattle.theorem_processes.specs.Runs.{lasting, StandFor}
 
@@ -74,6 +75,13 @@ module _ {Kind : Type 0} (D : Replication Kind Op Shown) (count : ℕ) (keys : L
     pub member_of_view : (i : ℕ) (node : nodes.Node Kind Op Shown) → world.nodes i ≡ Some node → is_member world.view i ≡ true
     member_of_view i node runs = (safe_world.views.running i node runs).last
 
+    -- it has its identity, and the keys of the world
+    pub identity_there : (i : ℕ) (node : nodes.Node Kind Op Shown) → world.nodes i ≡ Some node → node.identity ≡ i
+    identity_there i node runs = (safe_world.views.running i node runs).identity
+
+    pub keys_there : (i : ℕ) (node : nodes.Node Kind Op Shown) → world.nodes i ≡ Some node → node.keys ≡ world.keys
+    keys_there i node runs = (safe_world.views.running i node runs).keys
+
     pub views_there : AreViews (worlds.views_of world) world.view
     views_there = safe_world.views.views
 
@@ -89,11 +97,11 @@ module _ {T K Kind Delta : Type 0} {ghosts : Ghosts T Kind Op Delta} {keeping : 
     pub is_run : IsRun (lasting ghosts spelling) count (map declared decls) events world
     pub stand : (logs : Text → History Op) → IsWay (lasting ghosts spelling) count (map declared decls) logs events → StandFor spelling kinds decls logs ps world
 
-  -- the model's member that a running one stands for, but for ends that it has forgotten
+  -- the model's member that a running one stands for, but for ends that it has forgotten and keys that it has not declared
   pub record IsAtWork (logs : Text → History Op) (ps : Processes ghosts keeping) (world : worlds.World Kind Op Shown) (i : ℕ) (member : Node T K Kind Op Delta ghosts keeping) : Type 0 where
     pub node : nodes.Node Kind Op Shown
     pub runs : world.nodes i ≡ Some node
-    pub stands : StandsButForEnds kinds logs (ps.forgotten i) member node
+    pub stands : StandsInPart kinds logs (ps.forgotten i) member node
 
   pub at_work : (logs : Text → History Op) (ps : Processes ghosts keeping) (world : worlds.World Kind Op Shown) → StandFor spelling kinds decls logs ps world → (i : ℕ) (member : Node T K Kind Op Delta ghosts keeping) → ps.members i ≡ Some member → IsAtWork logs ps world i member
   at_work logs ps world s i member runs = by (subst (λ (o : Option (Node T K Kind Op Delta ghosts keeping)). StandsForProcess {ghosts = ghosts} {keeping = keeping} kinds logs (ps.forgotten i) o (world.nodes i)) runs (s.running i))

@@ -1,7 +1,7 @@
--- What a member of a process stands for, which may have forgotten how its first operations ended.
+-- What a member of a process stands for, which may have forgotten how its first operations ended, and declared a part of the keys.
 --     HasForgotten        what a member is once it forgot
 --     AreLeft        the ends that are left of all
---     StandsButForEnds, StandsForProcess        a member of the model, but for the ends that were forgotten
+--     StandsInPart, StandsForProcess        a member of the model, but for the ends that were forgotten and the keys that are not declared
 use Rattle.std.specs.Prelude.{◌≡◌, ℕ, ◌<◌, List, [], ◌∷◌, Option, Some, None}
 use Rattle.model_history.specs.Texts.{Text}
 use Rattle.model_history.specs.History.{History}
@@ -14,6 +14,9 @@ use Rattle.member_node.specs.declared.node.Node.{Node}
 use Rattle.member_node.specs.Ended.{forgotten_to}
 use Rattle.member_node.specs.Forgetting.{IsOtherwiseAlike, StandsForgetting}
 use Rattle.member_node.specs.Members.{StandsForNode}
+use Rattle.theorem_declaring.specs.Parts.{with_keys, UsesOnly}
+use Rattle.theorem_processes.specs.Declaring.{declared_keys}
+use Rattle.theorem_processes.specs.Keys.{AsksOnly}
 
 -- all ends in their order, but for some of operations below this number
 pub data AreLeft (forgotten : ℕ) : List (nodes.Finished Shown) → List (nodes.Finished Shown) → Type 0 where
@@ -29,14 +32,17 @@ module _ {T K Kind Delta : Type 0} {ghosts : Ghosts T Kind Op Delta} {keeping : 
     pub stands : StandsForgetting old new
 
   module _ (kinds : Text → Kind) (logs : Text → History Op) (forgotten : ℕ) where
-    -- the member stands for the model's with the ends that are left. So all that it holds, says and posts is the model's, and
-    -- `look` tells less of the operations below this number only. With 0 it stands for the model's member itself
-    pub record StandsButForEnds (code : Node T K Kind Op Delta ghosts keeping) (node : nodes.Node Kind Op Shown) : Type 0 where
+    -- the member stands for the model's with the ends that are left and the keys that it has declared. So all that it holds, says
+    -- and posts is the model's, which holds nothing of the other keys; and `look` tells less of the operations below this number
+    -- only. With 0 and all keys declared it stands for the model's member itself
+    pub record StandsInPart (code : Node T K Kind Op Delta ghosts keeping) (node : nodes.Node Kind Op Shown) : Type 0 where
       pub ends : List (nodes.Finished Shown)
       pub left : AreLeft forgotten ends node.finished
-      pub stands : StandsForNode ghosts.kind_of ghosts.IsDataOf kinds logs code (record node { finished = ends })
+      pub uses : UsesOnly (declared_keys code) node
+      pub asks : AsksOnly (declared_keys code) node
+      pub stands : StandsForNode ghosts.kind_of ghosts.IsDataOf kinds logs code (with_keys (declared_keys code) (record node { finished = ends }))
 
     -- a member runs exactly where the model has one
     abbrev pub StandsForProcess : Option (Node T K Kind Op Delta ghosts keeping) → Option (nodes.Node Kind Op Shown) → Type 0
     StandsForProcess None running = running ≡ None
-    StandsForProcess (Some code) running = (node : nodes.Node Kind Op Shown) × (running ≡ Some node) × StandsButForEnds code node
+    StandsForProcess (Some code) running = (node : nodes.Node Kind Op Shown) × (running ≡ Some node) × StandsInPart code node

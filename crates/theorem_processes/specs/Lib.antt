@@ -1,3 +1,5 @@
+pub mod Keys
+pub mod Declaring
 pub mod Forgetting
 pub mod Processes
 pub mod Runs

@@ -2,7 +2,7 @@
 --     IsSpelledBy        bytes of a message
 --     Processes        what there is at one time
 --     Happening, happened        what happens, and what there is then
---     Begin        the members that are there at the start
+--     IsMade, Begin        a new member, and the members that are there at the start
 --     MayHappen, AllHappen        what is so of what happens
 use Rattle.std.specs.Prelude.{◌≡◌, ◌⊎◌, ℕ, ◌<◌, ◌≤◌, max, List, [], ◌∷◌, ◌++◌, length, ⊤, IsTrue, IsFalse, Option, Some, None, slice_get, ◌==◌, if◌then◌else◌}
 use Rattle.model_history.specs.Table.{identity_limit, with_at}
@@ -24,10 +24,12 @@ use Rattle.member_node.specs.declared.reply.Fate.{Fate}
 use Rattle.member_node.specs.declared.reply.Output.{Output}
 use Rattle.member_node.specs.FromKeeper.{IsFromKeeper, StandsForKept}
 use Rattle.member_node.specs.Limits.{IsLimited}
+use Rattle.member_node.specs.Loading.{AreSound}
 use Rattle.member_node.specs.Members.{IsNewMember}
 use Rattle.member_node.specs.Steps.{IsStepOf, IsUnchanged}
 use Rattle.world_members.specs.Entering.{IsGivenFrom}
 use Rattle.world_members.specs.Sending.{messages_to}
+use Rattle.theorem_processes.specs.Declaring.{ArePart, HasDeclared}
 use Rattle.theorem_processes.specs.Forgetting.{HasForgotten}
 
 -- bytes that a message is spelled by, as `spell_message` and `read_message` say it
@@ -56,6 +58,8 @@ module _ {T K Kind Delta : Type 0} (ghosts : Ghosts T Kind Op Delta) (keeping : 
     -- a member forgets how its operations below a number ended; or it is given another limit of steps
     Forgets : (at before : ℕ) (after : Node T K Kind Op Delta ghosts keeping) → Happening
     Limits : (at limit : ℕ) (after : Node T K Kind Op Delta ghosts keeping) → Happening
+    -- a member is told of one more key
+    Declares : (at : ℕ) (decl : KeyDecl T Kind Op Delta) (after : Node T K Kind Op Delta ghosts keeping) → Happening
     -- whoever decides on membership removes a member; has a new one join at a place; or replaces one by a new one over what its keeper holds
     Leaves : (identity : ℕ) → Happening
     Joins : (place : ℕ) (new : Node T K Kind Op Delta ghosts keeping) → Happening
@@ -95,6 +99,7 @@ module _ {T K Kind Delta : Type 0} {ghosts : Ghosts T Kind Op Delta} {keeping : 
   happened ps (Refuses at after) = with_member ps at (Some after)
   happened ps (Forgets at before after) = with_forgetful ps at after
   happened ps (Limits at limit after) = with_member ps at (Some after)
+  happened ps (Declares at decl after) = with_member ps at (Some after)
   happened ps (Leaves i) = with_view (with_member ps i None) (without_member (now_of ps) i)
   happened ps (Joins place new) = with_view (with_member ps (next_identity ps) (Some new)) (with_joined (now_of ps) place)
   happened ps (Returns i keeper new) = with_view (with_member (with_member ps i None) (next_identity ps) (Some new)) (with_replaced (now_of ps) i)
@@ -105,9 +110,11 @@ module _ {T K Kind Delta : Type 0} {ghosts : Ghosts T Kind Op Delta} {keeping : 
 
   -- WHAT IS SO OF IT
 
-  -- a new member of this identity and view, as `Node::new` makes it, with whatever limit of steps, over a keeper that tells no entry
+  -- a new member of this identity and view, with some of the keys, as `Node::new` makes it, with whatever limit of steps, over a keeper that tells no entry
   pub record IsMade (decls : List (KeyDecl T Kind Op Delta)) (id : ℕ) (view : View) (new : Node T K Kind Op Delta ghosts keeping) : Type 0 where
-    pub is_new : IsNewMember decls id view new
+    pub own : List (KeyDecl T Kind Op Delta)
+    pub part : ArePart own decls
+    pub is_new : IsNewMember own id view new
     pub empty : (table : Table) → keeping.table new.keeper ≡ Some table → table ≡ []
 
   -- at the start: members 0 and up, which have forgotten nothing, and no post
@@ -131,16 +138,19 @@ module _ {T K Kind Delta : Type 0} {ghosts : Ghosts T Kind Op Delta} {keeping : 
       pub runs : ps.members at ≡ Some before
       pub makes : IsStepOf spelling before given fate output after
 
-    -- the member that comes back under a new identity, as `Node::from_keeper` makes it of a keeper which tells the table that the old one's told, with whatever limit of steps
+    -- the member that comes back under a new identity with some of the keys, as `Node::from_keeper` makes it of a keeper which tells the table that the old one's told, with whatever limit of steps
     pub record IsBack (decls : List (KeyDecl T Kind Op Delta)) (ps : Processes ghosts keeping) (i : ℕ) (keeper : K) (new : Node T K Kind Op Delta ghosts keeping) : Type 0 where
       pub before : Node T K Kind Op Delta ghosts keeping
       pub was : ps.members i ≡ Some before
       pub table : Table
       pub kept : keeping.table before.keeper ≡ Some table
       pub told : keeping.table keeper ≡ Some table
+      pub own : List (KeyDecl T Kind Op Delta)
+      pub part : ArePart own decls
       pub made : Node T K Kind Op Delta ghosts keeping
-      pub loaded : IsFromKeeper decls keeper (next_identity ps) (with_replaced (now_of ps) i) made
-      pub stands : StandsForKept spelling decls keeper (next_identity ps) (with_replaced (now_of ps) i) made
+      pub loaded : IsFromKeeper own keeper (next_identity ps) (with_replaced (now_of ps) i) made
+      pub stands : StandsForKept spelling own keeper (next_identity ps) (with_replaced (now_of ps) i) made
+      pub sound : AreSound ghosts spelling made.keys.items (next_identity ps) (with_replaced (now_of ps) i).given table
       pub limited : IsMaybeLimited made new
 
     module _ (deltas : DeltaSpelling T Kind Op Delta) where
@@ -158,6 +168,7 @@ module _ {T K Kind Delta : Type 0} {ghosts : Ghosts T Kind Op Delta} {keeping : 
       MayHappen decls ps (Refuses at after) = (before : Node T K Kind Op Delta ghosts keeping) × (ps.members at ≡ Some before) × IsUnchanged before after
       MayHappen decls ps (Forgets at before after) = (old : Node T K Kind Op Delta ghosts keeping) × (ps.members at ≡ Some old) × HasForgotten before old after
       MayHappen decls ps (Limits at limit after) = (before : Node T K Kind Op Delta ghosts keeping) × (ps.members at ≡ Some before) × IsLimited before limit after
+      MayHappen decls ps (Declares at decl after) = (before : Node T K Kind Op Delta ghosts keeping) × (ps.members at ≡ Some before) × HasDeclared decls decl before after
       MayHappen decls ps (Leaves i) = IsTrue (is_member (now_of ps) i) × (1 < length (now_of ps).members)
       MayHappen decls ps (Joins place new) = (place < 8) × IsFalse (is_taken (now_of ps) place) × (next_identity ps < identity_limit) × IsMade decls (next_identity ps) (with_joined (now_of ps) place) new
       MayHappen decls ps (Returns i keeper new) = IsTrue (is_member (now_of ps) i) × (next_identity ps < identity_limit) × IsBack decls ps i keeper new

@@ -1,4 +1,4 @@
--- What real calls make of two processes: one member posts, the other takes the bytes of the post twice, and then forgets.
+-- What real calls make of two processes: one member posts; the other takes the bytes of the post, declares a key, takes them again, and then forgets.
 use Rattle.std.specs.Prelude.{◌≡◌, ℕ, List, [], ◌∷◌, Some, None, ◌==◌, if◌then◌else◌}
 use Rattle.model_history.specs.Texts.{Text}
 use Rattle.model_members.specs.View.{first_view}
@@ -17,7 +17,7 @@ use Rattle.member_node.specs.declared.reply.Fate.{Fate}
 use Rattle.member_node.specs.declared.reply.Output.{Output}
 use Rattle.member_node.specs.Steps.{IsStepOf}
 use Rattle.theorem_processes.specs.Processes.{Processes, Happening, Begin, AllHappen, IsSpelledBy}
-use Rattle.theorem_processes.specs.Processes.Happening.{Steps, Takes, Forgets}
+use Rattle.theorem_processes.specs.Processes.Happening.{Steps, Takes, Declares, Forgets}
 
 module _ {T K Kind Delta : Type 0} {ghosts : Ghosts T Kind Op Delta} {keeping : Keeping K} where
   -- two members that have posted and forgotten nothing yet
@@ -57,8 +57,8 @@ module _ {T K Kind Delta : Type 0} {ghosts : Ghosts T Kind Op Delta} {keeping : 
     pub read_so : IsSpelledBy spelling deltas read bytes
     pub makes : IsStepOf spelling old (input.Take from read) fate output new
 
-  -- ALL PREMISES ARE MET: member 0 made a step, member 1 took the bytes of its first post twice and forgot its operations below 1,
-  -- and this is what the two are then
+  -- ALL PREMISES ARE MET: member 0 made a step; member 1, which began with no key, took the bytes of its first post, declared a key,
+  -- took the bytes again and forgot its operations below 1; and this is what the two are then
   pub record AreMet (decls : List (KeyDecl T Kind Op Delta)) (one other : Node T K Kind Op Delta ghosts keeping) : Type 0 where
     pub new_one : Node T K Kind Op Delta ghosts keeping
     pub new_other : Node T K Kind Op Delta ghosts keeping
@@ -68,5 +68,7 @@ module _ {T K Kind Delta : Type 0} {ghosts : Ghosts T Kind Op Delta} {keeping : 
     pub output : Output T Kind Op Delta ghosts
     pub bytes : List ℕ
     pub once : Take ghosts keeping
+    pub decl : KeyDecl T Kind Op Delta
+    pub declared : Node T K Kind Op Delta ghosts keeping
     pub again : Take ghosts keeping
-    pub happen : AllHappen spelling deltas decls (two new_one new_other) (Steps 0 given fate output one ∷ takes bytes once ∷ takes bytes again ∷ Forgets 1 1 other ∷ [])
+    pub happen : AllHappen spelling deltas decls (two new_one new_other) (Steps 0 given fate output one ∷ takes bytes once ∷ Declares 1 decl declared ∷ takes bytes again ∷ Forgets 1 1 other ∷ [])

@@ -12,14 +12,16 @@ use member_keeper::Keeper;
 use model_kinds::Op;
 
 /// Members in processes, each making steps of its contract, and taking of bytes what a transport hands over that guarantees one
-/// thing: as from a member it hands over only bytes that spell what this member posted to that one. Then what happened is one
-/// run of the model, whatever the order was, and whatever was handed over again, late or never: the members stand for those of
-/// the world that the run leads to, but for ends of operations that they were told to forget, what they posted is what lies on
-/// its links, and what each step tells is what its event puts out. So whatever is proved of every run holds of them.
+/// thing: as from a member it hands over only bytes that spell what this member posted to that one. Each member has declared some
+/// keys of a catalogue, and may declare more while it runs. Then what happened is one run of the model, in which all members have
+/// all keys, whatever the order was, and whatever was handed over again, late or never: the members stand for those of the world
+/// that the run leads to, but for keys that they have not declared, of which those hold nothing, and ends of operations that they
+/// were told to forget; what they posted is what lies on its links, and what each step tells is what its event puts out, or that a
+/// key is not declared. So whatever is proved of every run holds of them.
 pub fn processes_are_one_run<T: SpelledDelta<Op = Op>, K: Keeper>()
     ensures { (kinds : Text → T.Kind) (decls : List (KeyDecl T T.Kind operation.Op T.Delta)) (count : ℕ) (first : Processes T.Replica K.Keeper) (happenings : List (Happening T.Replica K.Keeper))
         → AreOfKinds kinds decls → Begin decls count first → AllHappen T.SpelledData.own T.SpelledDelta.own decls first happenings
-        → AreOneRun T.SpelledData.own kinds decls T.SpelledDelta.own count happenings (after_all first happenings) }
+        → AreOneRun T.SpelledData.own kinds decls T.SpelledDelta.own count first happenings (after_all first happenings) }
 {
     one_spelling::<T>();
     stands_as_sent::<T>();

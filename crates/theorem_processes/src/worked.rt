@@ -1,5 +1,10 @@
-ghost use Rattle.std.specs.Prelude.{◌≡◌, map, IfSome};
+ghost use Rattle.std.specs.Prelude.{◌≡◌, List, map, IfSome};
+ghost use Rattle.base_bytes.specs.TextOrder.{IsRising};
+ghost use Rattle.model_kinds.specs.declared.operation.Op as operation;
+ghost use Rattle.member_node.specs.declared.key.KeyDecl.{KeyDecl};
+ghost use Rattle.member_node.specs.Declaring.{Declares};
 ghost use Rattle.member_node.specs.Keys.{AreDistinct};
+ghost use Rattle.theorem_processes.specs.Declaring.{ArePart};
 ghost use Rattle.theorem_processes.specs.Processes.{IsMade, IsSpelledBy};
 ghost use Rattle.theorem_processes.specs.Worked.{IsPosting, IsTaking, AreMet};
 
@@ -8,12 +13,12 @@ use base_vectors::Id;
 use data_delta_codec::SpelledDelta;
 use member_codec::{read_message, spell_message};
 use member_keeper::MemoryKeeper;
-use member_node::{HIGHEST_LIMIT, Input, KeyDecl, Level, Node, Output, Post};
+use member_node::{Declared, HIGHEST_LIMIT, Input, KeyDecl, Level, Node, Output, Post};
 use member_views::{View, ViewList};
 use model_kinds::Op;
 use std::alloc::Global;
 
-/// A new member of a view, with the highest limit of steps, over a keeper that has nothing.
+/// A new member of a view with some keys, with the highest limit of steps, over a keeper that has nothing.
 fn member<T: SpelledDelta<Op = Op>>(
     alloc: Global,
     number: u8,
@@ -21,7 +26,7 @@ fn member<T: SpelledDelta<Op = Op>>(
     keys: &[KeyDecl<T>],
 ) -> Option<Node<T, MemoryKeeper>>
     requires distinct { AreDistinct (map (λ decl. decl.key) keys.now) }
-    ensures made { IfSome result (IsMade keys.now number view.now) }
+    ensures made { (decls : List (KeyDecl T T.Kind operation.Op T.Delta)) → ArePart keys.now decls → IfSome result (IsMade decls number view.now) }
     ensures identity { IfSome result (λ member. member.id ≡ number) }
 {
     let id = Id::new(number)?;
@@ -95,25 +100,43 @@ fn taken<T: SpelledDelta<Op = Op>>(
     }
 }
 
-/// Two members, of which one posts to the other, and this takes the bytes of the post twice, and then forgets its operations below 1, of
-/// which there are none: real calls meet the premises of the theorem. There is no answer where memory was refused.
+/// Tells a member of a key.
+fn declared<T: SpelledDelta<Op = Op>>(
+    member: &mut Node<T, MemoryKeeper>,
+    decl: &KeyDecl<T>,
+) -> Option<Declared>
+    ensures { IfSome result (Declares member.old decl.now member.new) }
+{
+    match member.declare(decl) {
+        Ok(answer) => Some(answer),
+        Err(_) => None,
+    }
+}
+
+/// Two members, of which one posts to the other. This begins with no key, takes the bytes of the post, declares the first key, takes
+/// the bytes again, and then forgets its operations below 1, of which there are none: real calls meet the premises of the theorem.
+/// There is no answer where there is no key, or memory was refused.
 pub fn a_post_is_taken_twice<T: SpelledDelta<Op = Op>>(
     alloc: Global,
     keys: &[KeyDecl<T>],
     key: Text,
     op: Op,
 ) -> Option<(Node<T, MemoryKeeper>, Node<T, MemoryKeeper>)>
-    requires distinct { AreDistinct (map (λ decl. decl.key) keys.now) }
+    requires rising { IsRising (map (λ decl. decl.key) keys.now) }
     ensures { IfSome result (λ both. AreMet T.SpelledData.own T.SpelledDelta.own keys.now both.0 both.1) }
 {
+    if keys.is_empty() {
+        return None;
+    }
     let views = match ViewList::new(alloc, 2) {
         Ok(views) => views,
         Err(_) => return None,
     };
     let mut one = member(alloc, 0, views.last(), keys)?;
-    let mut other = member(alloc, 1, views.last(), keys)?;
+    let mut other = member(alloc, 1, views.last(), &keys[..0])?;
     let bytes = posted(alloc, &mut one, other.id(), key, op)?;
     taken(alloc, &mut other, one.id(), bytes.as_slice())?;
+    declared(&mut other, &keys[0])?;
     taken(alloc, &mut other, one.id(), bytes.as_slice())?;
     other.forget(1);
     Some((one, other))

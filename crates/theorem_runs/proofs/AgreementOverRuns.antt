@@ -12,7 +12,7 @@ use Rattle.model_members.specs.View.{View, place_of, with_joined, with_replaced,
 use Rattle.model_history.specs.History.{Record, History, no_records, at, IsPartOf}
 use Rattle.model_members.specs.Entry.{Entry, Group, seen_by, empty_entry}
 use Rattle.model_members.specs.DataType.{Replication}
-use Rattle.model_members.specs.Message.{Keyed, Message, Post, entries_in, groups_in}
+use Rattle.model_members.specs.Message.{Keyed, Message, Post, entries_in, groups_in, part_of}
 use Rattle.model_members.specs.Node.{KeyDecl, Node, Input, Fate, keyed_entry}
 use Rattle.model_members.specs.Node.Input.{Update, Get, Take, Install, Flush, GossipTo, PruneTick, Timeout}
 use Rattle.model_members.specs.Step.{step, to_store}
@@ -28,6 +28,7 @@ use Rattle.theorem_runs.proofs.Keeping.{if_holds, same_text}
 use Rattle.theorem_runs.proofs.Unpruned.{group_of_grown, unpruned_part, unpruned_row}
 use Rattle.theorem_runs.proofs.Agreement.{grown, quiet_step, own_stored, own_posts, mine_before, IsFair, OwnsAfter, owns_step, logs_after, message_grown, entry_grown, with_posts_all, moved_on_all, AllStored, stored_all, found_stored}
 use Rattle.theorem_runs.proofs.Sending.{all_both, AreFrom, sends_step, stores_own}
+use Rattle.theorem_runs.proofs.Parts.{part_entries, part_groups}
 
 pub with_at_holds : {X : Type 0} (Q : X → Type 0) (table : ℕ → X) (i : ℕ) (x : X) → ((j : ℕ) → Q (table j)) → Q x → (j : ℕ) → Q (with_at table i x j)
 with_at_holds Q table i x all q j = if_holds Q (j == i) x (table j) q (all j)
@@ -39,6 +40,9 @@ module _ {Op : Type 0} where
     where
       none : (k : ℕ) (r : Record Op) → slice_get {X = Record Op} [] k ≡ Some r → ⊥
       none k r e = cc e
+
+  pub part_of_logs : (logs : Text → History Op) (knows : Text → Bool) (whole message : Message Op) → message ≡ part_of knows whole → IsMessageOf logs whole → IsMessageOf logs message
+  part_of_logs logs knows whole message is of_logs = record { entries = part_entries _ knows whole message is of_logs.entries; groups = part_groups _ knows whole message is of_logs.groups }
 
 module _ {Kind Op Shown : Type 0} (D : Replication Kind Op Shown) where
   -- some logs fit the world, which go on from those before, without a prune where there was none and no tick came
@@ -123,16 +127,16 @@ module _ {Kind Op Shown : Type 0} (D : Replication Kind Op Shown) where
       subst (λ o. IsLogged logs (IsCalm input) (stepped_at D world i o input fate)) (sym at_step.runs)
       (step_logged logs world has i at_step.node at_step.runs (let a = has.given i at_step.node at_step.runs in let b = has.few in omega arith) input fate fair)
 
-  -- an input that is no delivery brings nothing
-  given_fair : (logs : Text → History Op) (world : World Kind Op Shown) (input : Input Op) → IsGiven D world input → IsFair logs input
-  given_fair logs world (Update key op level) g = tt
-  given_fair logs world (Get key level) g = tt
-  given_fair logs world (Take from message) g = absurd g
-  given_fair logs world (Install view) g = tt
-  given_fair logs world Flush g = tt
-  given_fair logs world (GossipTo j) g = tt
-  given_fair logs world PruneTick g = tt
-  given_fair logs world (Timeout op) g = tt
+  -- a given input brings nothing, or a part of what was sent
+  given_fair : (logs : Text → History Op) (world : World Kind Op Shown) → HasLogs logs world → (i : ℕ) (input : Input Op) → IsGiven D world i input → IsFair logs input
+  given_fair logs world has i (Update key op level) g = tt
+  given_fair logs world has i (Get key level) g = tt
+  given_fair logs world has i (Take from message) g = part_of_logs logs g.2 g.1 message g.4 (has.sent from i g.0 g.1 g.3)
+  given_fair logs world has i (Install view) g = tt
+  given_fair logs world has i Flush g = tt
+  given_fair logs world has i (GossipTo j) g = tt
+  given_fair logs world has i PruneTick g = tt
+  given_fair logs world has i (Timeout op) g = tt
 
   -- A NEW MEMBER
 
@@ -232,7 +236,7 @@ module _ {Kind Op Shown : Type 0} (D : Replication Kind Op Shown) where
       }
 
   pub happens_logged : (logs : Text → History Op) (world : World Kind Op Shown) → HasLogs logs world → (event : Event Op) → IsLawful D world event → IsLogged logs (IsNoTick event) (happens D world event)
-  happens_logged logs world has (InputAt i input fate) lawful = calm_input logs i input fate _ (stepped_logged logs world has i input fate lawful.1 (given_fair logs world input lawful.0))
+  happens_logged logs world has (InputAt i input fate) lawful = calm_input logs i input fate _ (stepped_logged logs world has i input fate lawful.1 (given_fair logs world has i input lawful.0))
   happens_logged logs world has (Delivery from to index fate) lawful =
       delivered_logged logs world has from to index lawful.0 (message_at world from to index) lawful.1 (has.sent from to index lawful.0 lawful.1) fate lawful.2
   happens_logged logs world has (Loss from to) lawful = same_logs logs ⊤ _ (moved_logged logs world has from to (world.links from to).next)

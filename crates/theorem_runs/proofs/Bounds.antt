@@ -15,12 +15,12 @@ use Rattle.model_members.specs.Message.{Keyed, Message, entries_in, groups_in}
 use Rattle.model_members.specs.Node.{Node, Input, Fate}
 use Rattle.model_members.specs.Node.Input.{Update, Get, Take, Install, Flush, GossipTo, PruneTick, Timeout}
 use Rattle.model_members.specs.Step.{step}
-use Rattle.model_members.specs.World.{World, message_at, views_of}
+use Rattle.model_members.specs.World.{World, message_at, views_of, IsGiven}
 use Rattle.theorem_runs.specs.Pruning.{HistoryVariables, Standing, noted, HasUnprunedMarks}
 use Rattle.theorem_runs.proofs.Keeping.{AreKept, AnyTick}
 use Rattle.theorem_runs.proofs.Stepping.{Brings, BringsInput, keeps_any}
-use Rattle.theorem_runs.proofs.Happening.{Comes, NodeAfter, MessageAfter, Follows, of_all, all_of}
-use Rattle.theorem_runs.proofs.Happening.Comes.{Given, Brought}
+use Rattle.theorem_runs.proofs.Parts.{brings_part}
+use Rattle.theorem_runs.proofs.Happening.{NodeAfter, MessageAfter, Follows, of_all, all_of}
 use Rattle.theorem_runs.proofs.Happening.NodeAfter.{Same, Stepped, Started}
 use Rattle.theorem_runs.proofs.Happening.MessageAfter.{OldMessage, NewMessage}
 use Rattle.theorem_runs.proofs.RunViews.{HasViews, views_follow}
@@ -119,12 +119,8 @@ module _ {Kind Op Shown : Type 0} (D : Replication Kind Op Shown) (variables : H
                 (λ g h is. both_ways (is_member old.view r) (ap (is_member old.view) (is ∙ (parts.groups from t index message sent g h).0) ∙ member) (not_later D variables world has view r past old.view (has.running t old was).viewed late));
           }
 
-      brings : (input : Input Op) → Comes D world t input → BringsInput D (AreWithin B r) (AreWithin B r) (IsForeign B r) AnyTick old input
-      brings (Take from message) (Given g) = absurd g
-      brings (Take from message) (Brought f index m sent is) = λ member.
-          let same : message ≡ m = cc is in
-          let sender : from ≡ f = cc is in
-          subst (λ (x : Message Op). Brings (AreWithin B r) (IsForeign B r) x) (sym same) (message_within f index m sent (ap (is_member old.view) (sym sender) ∙ member))
+      brings : (input : Input Op) → IsGiven D world t input → BringsInput D (AreWithin B r) (AreWithin B r) (IsForeign B r) AnyTick old input
+      brings (Take from message) comes = λ member. brings_part (AreWithin B r) (IsForeign B r) comes.2 comes.1 message comes.4 (message_within from comes.0 comes.1 comes.3 member)
       brings (Update key op level) comes = tt
       brings (Get key level) comes = tt
       brings (Install v) comes = λ later key entry p. record { within = p.within }
@@ -133,7 +129,7 @@ module _ {Kind Op Shown : Type 0} (D : Replication Kind Op Shown) (variables : H
       brings PruneTick comes = λ key q. tt
       brings (Timeout op) comes = tt
 
-      late_step : (input : Input Op) → Comes D world t input → (key : Text) → AreWithin B r key ((step D old input fate).node.entries key)
+      late_step : (input : Input Op) → IsGiven D world t input → (key : Text) → AreWithin B r key ((step D old input fate).node.entries key)
       late_step input comes key =
           keeps_any D (AreWithin B r) (AreWithin B r) (IsForeign B r) AnyTick old (within_kept B r old.identity old.view other) input fate (brings input comes)
           (λ k. record { within = λ n below. bounds.held k r n t view old past was below }) key
@@ -143,7 +139,7 @@ module _ {Kind Op Shown : Type 0} (D : Replication Kind Op Shown) (variables : H
 
     -- WHAT A MEMBER HOLDS THEN
 
-    stepped_bound : (key : Text) (r k t : ℕ) (view : View) (old new : Node Kind Op Shown) (input : Input Op) (fate : Fate) → IsPast (views_of world) view r → world.nodes t ≡ Some old → next.nodes t ≡ Some new → Comes D world t input → new ≡ (step D old input fate).node
+    stepped_bound : (key : Text) (r k t : ℕ) (view : View) (old new : Node Kind Op Shown) (input : Input Op) (fate : Fate) → IsPast (views_of world) view r → world.nodes t ≡ Some old → next.nodes t ≡ Some new → IsGiven D world t input → new ≡ (step D old input fate).node
         → k < at (new.entries key).history r → IsPastView variables key r view t old.view.number → IsBounded variables' next key r view k
     stepped_bound key r k t view old new input fate past was runs comes is h (LateMember late) =
         still_bounded key r k view past.listed ((late_step view r past t old was late fate input comes key).within k (subst (λ (n : Node Kind Op Shown). k < at (n.entries key).history r) is h))

@@ -17,15 +17,15 @@ use Rattle.model_members.specs.Message.{Keyed, Message, entries_in, groups_in}
 use Rattle.model_members.specs.Node.{Node, Input, Fate}
 use Rattle.model_members.specs.Node.Input.{Update, Get, Take, Install, Flush, GossipTo, PruneTick, Timeout}
 use Rattle.model_members.specs.Step.{step}
-use Rattle.model_members.specs.World.{World, message_at, views_of}
+use Rattle.model_members.specs.World.{World, message_at, views_of, IsGiven}
 use Rattle.theorem_runs.specs.Logs.{HasLogs}
 use Rattle.theorem_runs.specs.Pruning.{HistoryVariables, noted, HasUnprunedMarks}
 use Rattle.theorem_runs.proofs.Keeping.{AreKept, AnyTick}
 use Rattle.theorem_runs.proofs.Stepping.{Brings, BringsInput, keeps_any}
+use Rattle.theorem_runs.proofs.Parts.{brings_part}
 use Rattle.theorem_runs.proofs.UnprunedMarks.{plain}
 use Rattle.theorem_runs.proofs.Growth.{part_of_union, part_with_group, has_union, has_with_group}
-use Rattle.theorem_runs.proofs.Happening.{Comes, NodeAfter, MessageAfter, Follows, of_all, all_of}
-use Rattle.theorem_runs.proofs.Happening.Comes.{Given, Brought}
+use Rattle.theorem_runs.proofs.Happening.{NodeAfter, MessageAfter, Follows, of_all, all_of}
 use Rattle.theorem_runs.proofs.Happening.NodeAfter.{Same, Stepped, Started}
 use Rattle.theorem_runs.proofs.Happening.MessageAfter.{OldMessage, NewMessage}
 use Rattle.theorem_runs.proofs.RunViews.{HasViews, views_follow}
@@ -190,12 +190,9 @@ module _ {Kind Op Shown : Type 0} (D : Replication Kind Op Shown) (variables : H
             groups = all_of (λ (g : Keyed (Group Op)). list_any (λ (x : Record Op). is_prune x.action) g.item.group_records ≡ false) (groups_in message) (λ g h. (parts.groups from t index message sent g h).1);
           }
 
-      brings : (i : Input Op) → Comes D world t i → BringsInput D (AreBarredNow variables' B r view.number t base now) (AreBarred variables' B r view.number t base now) (IsPlain variables' B r view.number t base now) AnyTick old i
-      brings (Take from message) (Given g) = absurd g
-      brings (Take from message) (Brought f index m sent is) = λ member.
-          let same : message ≡ m = cc is in
-          let sender : from ≡ f = cc is in
-          subst (λ (x : Message Op). Brings (AreBarred variables' B r view.number t base now) (IsPlain variables' B r view.number t base now) x) (sym same) (message_barred f index m sent (ap (is_member old.view) (sym sender) ∙ member))
+      brings : (i : Input Op) → IsGiven D world t i → BringsInput D (AreBarredNow variables' B r view.number t base now) (AreBarred variables' B r view.number t base now) (IsPlain variables' B r view.number t base now) AnyTick old i
+      brings (Take from message) comes = λ member.
+          brings_part (AreBarred variables' B r view.number t base now) (IsPlain variables' B r view.number t base now) comes.2 comes.1 message comes.4 (message_barred from comes.0 comes.1 comes.3 member)
       brings (Update key op level) comes = tt
       brings (Get key level) comes = tt
       brings (Install v) comes = λ later key entry p. record { bars = p.bars; grown = p.grown }
@@ -204,7 +201,7 @@ module _ {Kind Op Shown : Type 0} (D : Replication Kind Op Shown) (variables : H
       brings PruneTick comes = λ key q. tt
       brings (Timeout op) comes = tt
 
-      late_step : Comes D world t input → (key : Text) → AreBarredNow variables' B r view.number t base now key ((step D old input fate).node.entries key)
+      late_step : IsGiven D world t input → (key : Text) → AreBarredNow variables' B r view.number t base now key ((step D old input fate).node.entries key)
       late_step comes key =
           keeps_any D (AreBarredNow variables' B r view.number t base now) (AreBarred variables' B r view.number t base now) (IsPlain variables' B r view.number t base now) AnyTick old
           (subst (λ j. AreKept (AreBarredNow variables' B r view.number t base now) (AreBarred variables' B r view.number t base now) (IsPlain variables' B r view.number t base now) AnyTick j old.view) (sym (has.running t old was).identity) (bars_kept variables' B r view.number t base now old.view))
@@ -216,7 +213,7 @@ module _ {Kind Op Shown : Type 0} (D : Replication Kind Op Shown) (variables : H
 
     -- WHAT A MEMBER HOLDS THEN
 
-    stepped_bar : (key : Text) (r t : ℕ) (view : View) (old new : Node Kind Op Shown) (input : Input Op) (fate : Fate) → slice_get (views_of world) view.number ≡ Some view → world.nodes t ≡ Some old → next.nodes t ≡ Some new → Comes D world t input → new ≡ (step D old input fate).node
+    stepped_bar : (key : Text) (r t : ℕ) (view : View) (old new : Node Kind Op Shown) (input : Input Op) (fate : Fate) → slice_get (views_of world) view.number ≡ Some view → world.nodes t ≡ Some old → next.nodes t ≡ Some new → IsGiven D world t input → new ≡ (step D old input fate).node
         → HasEarlyPrune variables' key r view.number (new.entries key).history → IsPastView variables key r view t old.view.number → IsBarred variables' next key r view
     stepped_bar key r t view old new input fate listed was runs comes is early (LateMember late) =
         still_barred key r view listed ((late_step view r listed t old new was runs late input fate is comes key).bars (subst (λ (n : Node Kind Op Shown). HasEarlyPrune variables' key r view.number (n.entries key).history) is early))

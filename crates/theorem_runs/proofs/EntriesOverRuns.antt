@@ -7,7 +7,7 @@ use Rattle.model_members.specs.View.{View, place_of, first_view}
 use Rattle.model_history.specs.History.{Record}
 use Rattle.model_members.specs.Entry.{Entry, Group, seen_by, empty_entry, is_prune}
 use Rattle.model_members.specs.DataType.{Replication}
-use Rattle.model_members.specs.Message.{Keyed, Message, entries_in, groups_in}
+use Rattle.model_members.specs.Message.{Keyed, Message, entries_in, groups_in, part_of}
 use Rattle.model_members.specs.Message.Message.{Deltas, Nack, Status, Gossip, Write, WriteAck, WriteNack, Read, ReadAnswer}
 use Rattle.model_members.specs.Node.{KeyDecl, Node, Input, Fate}
 use Rattle.model_members.specs.Node.Reply.{OldView, NotStored, Installed}
@@ -17,8 +17,8 @@ use Rattle.model_members.specs.World.{World, Store, no_entries, start, message_a
 use Rattle.theorem_runs.proofs.Keeping.{AnyTick, AreKept, IsKnown, IsKnownInput, keeps_step, if_holds}
 use Rattle.theorem_runs.proofs.Sending.{IsOwnGroup, IsFrom, all_both}
 use Rattle.theorem_runs.proofs.Agreement.{AllStored, found_stored}
-use Rattle.theorem_runs.proofs.Happening.{Comes, IsStoreFor, NodeAfter, MessageAfter, StoredAfter, Follows}
-use Rattle.theorem_runs.proofs.Happening.Comes.{Given, Brought}
+use Rattle.theorem_runs.proofs.Parts.{part_entries, part_groups}
+use Rattle.theorem_runs.proofs.Happening.{IsStoreFor, NodeAfter, MessageAfter, StoredAfter, Follows}
 use Rattle.theorem_runs.proofs.Happening.IsStoreFor.{Emptied, Reloaded}
 use Rattle.theorem_runs.proofs.Happening.NodeAfter.{Same, Stepped, Started}
 use Rattle.theorem_runs.proofs.Happening.MessageAfter.{OldMessage, NewMessage}
@@ -100,20 +100,19 @@ module _ {Kind Op Shown : Type 0} (D : Replication Kind Op Shown) (E : Entry Op 
 
   -- AN EVENT
 
-  given_fair : (world : World Kind Op Shown) (input : Input Op) → IsGiven D world input → IsFair input
-  given_fair world (Update key op level) g = tt
-  given_fair world (Get key level) g = tt
-  given_fair world (Take from message) g = absurd g
-  given_fair world (Install view) g = tt
-  given_fair world Flush g = tt
-  given_fair world (GossipTo j) g = tt
-  given_fair world PruneTick g = tt
-  given_fair world (Timeout op) g = tt
+  part_good : (knows : Text → Bool) (whole message : Message Op) → message ≡ part_of knows whole → IsGood whole → IsGood message
+  part_good knows whole message is good = record { entries = part_entries _ knows whole message is good.entries; groups = part_groups _ knows whole message is good.groups }
 
   module _ (world next : World Kind Op Shown) (follows : Follows D world next) (good : AllGood world) where
-    brings_good : (t : ℕ) (input : Input Op) → Comes D world t input → IsFair input
-    brings_good t input (Given given) = given_fair world input given
-    brings_good t input (Brought from index message sent is) = subst IsFair (sym is) (good.sent from t index message sent)
+    brings_good : (t : ℕ) (input : Input Op) → IsGiven D world t input → IsFair input
+    brings_good t (Update key op level) comes = tt
+    brings_good t (Get key level) comes = tt
+    brings_good t (Take from message) comes = part_good comes.2 comes.1 message comes.4 (good.sent from t comes.0 comes.1 comes.3)
+    brings_good t (Install view) comes = tt
+    brings_good t Flush comes = tt
+    brings_good t (GossipTo j) comes = tt
+    brings_good t PruneTick comes = tt
+    brings_good t (Timeout op) comes = tt
 
     store_good : (t : ℕ) (store : Store Op) → IsStoreFor D world next t store → AllStored (λ key. E) store
     store_good t store (Emptied nothing empty) = subst (AllStored (λ key. E)) (sym nothing) (λ key entry e. absurd (cc e))

@@ -20,6 +20,7 @@ use Rattle.model_members.proofs.Cases.{stepped_at, delivered}
 use Rattle.theorem_runs.proofs.ViewLaws.IsMemberAfter.{OldMember, NewMember}
 use Rattle.theorem_runs.proofs.Agreement.{with_posts_all, moved_on_all, AllStored, stored_all}
 use Rattle.theorem_runs.proofs.Sending.{IsFrom, sends_step, stores_own, all_both}
+use Rattle.theorem_runs.proofs.Parts.{all_known}
 use Rattle.theorem_runs.proofs.ViewLaws.{IsRising, IsNextView, IsMemberAfter, member_without, replaced_member, next_without, next_joined, next_replaced, stays_without, stays_joined, stays_replaced, joins, joins_at, replaces, replaces_at}
 
 -- ELEMENTS
@@ -36,11 +37,6 @@ all_of P (y ∷ xs) h = (h y (zero, refl), all_of P xs (λ x m. h x (in_tail y x
 -- WHAT AN EVENT LEAVES
 
 module _ {Kind Op Shown : Type 0} (D : Replication Kind Op Shown) where
-  -- an input comes to a member: it is given, or a message that was sent to it
-  pub data Comes (world : World Kind Op Shown) (to : ℕ) (input : Input Op) : Type 0 where
-    Given : IsGiven D world input → Comes world to input
-    Brought : (from index : ℕ) (message : Message Op) → message_at world from to index ≡ Some message → input ≡ Take from message → Comes world to input
-
   -- what a new member loads: nothing, or what the store of a member's place holds
   pub data IsStoreFor (world next : World Kind Op Shown) (t : ℕ) (store : Store Op) : Type 0 where
     Emptied : store ≡ no_entries → next.stores (place_of next.view t) ≡ no_entries → IsStoreFor world next t store
@@ -49,7 +45,7 @@ module _ {Kind Op Shown : Type 0} (D : Replication Kind Op Shown) where
   -- a running member: it was so before, it made a step, or it is new
   pub data NodeAfter (world next : World Kind Op Shown) (t : ℕ) (new : Node Kind Op Shown) : Type 0 where
     Same : world.nodes t ≡ Some new → (is_member world.view t ≡ true → is_member next.view t ≡ true) → NodeAfter world next t new
-    Stepped : (old : Node Kind Op Shown) (input : Input Op) (fate : Fate) → world.nodes t ≡ Some old → Comes world t input → new ≡ (step D old input fate).node → next.view ≡ world.view → NodeAfter world next t new
+    Stepped : (old : Node Kind Op Shown) (input : Input Op) (fate : Fate) → world.nodes t ≡ Some old → IsGiven D world t input → new ≡ (step D old input fate).node → next.view ≡ world.view → NodeAfter world next t new
     Started : (store : Store Op) → t ≡ world.view.given → next.view.given ≡ world.view.given + 1 → is_member next.view t ≡ true → new ≡ loaded_node world.keys t next.view store → IsStoreFor world next t store → NodeAfter world next t new
 
   -- a message: it was sent before, or brings what its sender now holds
@@ -100,7 +96,7 @@ module _ {Kind Op Shown : Type 0} (D : Replication Kind Op Shown) where
 
   -- A MEMBER'S STEP
 
-  module _ (world : World Kind Op Shown) (i : ℕ) (old : Node Kind Op Shown) (runs : world.nodes i ≡ Some old) (input : Input Op) (fate : Fate) (comes : Comes world i input) (links : ℕ → ℕ → Link Op)
+  module _ (world : World Kind Op Shown) (i : ℕ) (old : Node Kind Op Shown) (runs : world.nodes i ≡ Some old) (input : Input Op) (fate : Fate) (comes : IsGiven D world i input) (links : ℕ → ℕ → Link Op)
       (sent : (from to index : ℕ) (message : Message Op) → slice_get (links from to).messages index ≡ Some message → (k : ℕ) × (message_at world from to k ≡ Some message)) where
     abbrev new : Node Kind Op Shown
     new = (step D old input fate).node
@@ -117,7 +113,7 @@ module _ {Kind Op Shown : Type 0} (D : Replication Kind Op Shown) where
           keys = refl;
           views = SameViews refl refl;
           nodes = λ t n e. elim (changed world.nodes i (Some new) t n e) [
-            | inl h ↦ let same : new ≡ n = (let f = h.1 in cc f) in Stepped old input fate (ap world.nodes h.0 ∙ runs) (subst (λ j. Comes world j input) (sym h.0) comes) (sym same) refl
+            | inl h ↦ let same : new ≡ n = (let f = h.1 in cc f) in Stepped old input fate (ap world.nodes h.0 ∙ runs) (subst (λ j. IsGiven D world j input) (sym h.0) comes) (sym same) refl
             | inr h ↦ Same h.1 (λ m. m)
           ];
           messages = with_posts_all (MessageAfter world after) (step D old input fate).output.posts links i (λ from to index message e. let h = sent from to index message e in OldMessage h.0 h.1)
@@ -236,16 +232,16 @@ module _ {Kind Op Shown : Type 0} (D : Replication Kind Op Shown) where
         running = λ all. record { runs = all.runs };
       }
 
-  input_follows : (world : World Kind Op Shown) (i : ℕ) (input : Input Op) (fate : Fate) → IsGiven D world input → StepsAt D world i input fate → Follows world (happens D world (InputAt i input fate))
+  input_follows : (world : World Kind Op Shown) (i : ℕ) (input : Input Op) (fate : Fate) → IsGiven D world i input → StepsAt D world i input fate → Follows world (happens D world (InputAt i input fate))
   input_follows world i input fate given at_step =
       subst (λ o. Follows world (stepped_at D world i o input fate)) (sym at_step.runs)
-      (step_follows world i at_step.node at_step.runs input fate (Given given) world.links (λ from to index message e. (index, e)))
+      (step_follows world i at_step.node at_step.runs input fate given world.links (λ from to index message e. (index, e)))
 
   delivery_follows : (world : World Kind Op Shown) (from to index : ℕ) (fate : Fate) (message : Message Op) → message_at world from to index ≡ Some message → StepsAt D world to (Take from message) fate → Follows world (happens D world (Delivery from to index fate))
   delivery_follows world from to index fate message is at_step =
       subst (λ m. Follows world (delivered D world from to index m fate)) (sym is)
       (subst (λ o. Follows world (stepped_at D (record world { links = moved_on world.links from to index }) to o (Take from message) fate)) (sym at_step.runs)
-      (step_follows world to at_step.node at_step.runs (Take from message) fate (Brought from index message is refl) (moved_on world.links from to index) (moved_messages world from to index)))
+      (step_follows world to at_step.node at_step.runs (Take from message) fate (index, message, λ key. true, is, sym (all_known message)) (moved_on world.links from to index) (moved_messages world from to index)))
 
   -- each lawful event
   pub event_follows : (world : World Kind Op Shown) → ((t : ℕ) → is_member world.view t ≡ true → t < world.view.given) → IsRising 0 world.view.given world.view.members → (event : Event Op) → IsLawful D world event → Follows world (happens D world event)

@@ -6,6 +6,7 @@ pub mod MarksOverRuns
 pub mod Mine
 pub mod Unpruned
 pub mod Sending
+pub mod Parts
 pub mod Agreement
 pub mod AgreementOverRuns
 pub mod Happening

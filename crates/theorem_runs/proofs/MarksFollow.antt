@@ -14,11 +14,11 @@ use Rattle.model_members.specs.Message.{Keyed, Message, entries_in}
 use Rattle.model_members.specs.Node.{Node, Input, Fate}
 use Rattle.model_members.specs.Node.Input.{Update, Get, Take, Install, Flush, GossipTo, PruneTick, Timeout}
 use Rattle.model_members.specs.Step.{step}
-use Rattle.model_members.specs.World.{World, message_at, views_of}
+use Rattle.model_members.specs.World.{World, message_at, views_of, IsGiven}
 use Rattle.theorem_runs.specs.Pruning.{HistoryVariables, Standing, noted, joining, joined_by, first_of, view_number, HasUnprunedMarks}
 use Rattle.theorem_runs.proofs.Growth.{step_no_fewer}
-use Rattle.theorem_runs.proofs.Happening.{Comes, NodeAfter, MessageAfter, StoredAfter, Follows, of_all, all_of}
-use Rattle.theorem_runs.proofs.Happening.Comes.{Given, Brought}
+use Rattle.theorem_runs.proofs.Parts.{part_entries}
+use Rattle.theorem_runs.proofs.Happening.{NodeAfter, MessageAfter, StoredAfter, Follows, of_all, all_of}
 use Rattle.theorem_runs.proofs.Happening.NodeAfter.{Same, Stepped, Started}
 use Rattle.theorem_runs.proofs.Happening.MessageAfter.{OldMessage, NewMessage}
 use Rattle.theorem_runs.proofs.Happening.StoredAfter.{OldStored, NewStored}
@@ -153,12 +153,10 @@ module _ {Kind Op Shown : Type 0} (D : Replication Kind Op Shown) (variables : H
           ];
         }
 
-    brings_known : (node : Node Kind Op Shown) (fate : Fate) (t : ℕ) (input : Input Op) → Comes D world t input → BringsMarks D (views_of world) variables node fate input
-    brings_known node fate t (Take from message) (Given g) = absurd g
-    brings_known node fate t (Take from message) (Brought f index m sent is) =
-        let same : message ≡ m = cc is in
-        all_of (λ (e : Keyed (Entry Op)). MarksKnown (views_of world) variables e.key e.item) (entries_in message)
-        (λ e h. marks.sent f t index m sent e (subst (λ (x : Message Op). IsIn (entries_in x) e) same h))
+    brings_known : (node : Node Kind Op Shown) (fate : Fate) (t : ℕ) (input : Input Op) → IsGiven D world t input → BringsMarks D (views_of world) variables node fate input
+    brings_known node fate t (Take from message) comes =
+        let Known : Keyed (Entry Op) → Type 0 = λ e. MarksKnown (views_of world) variables e.key e.item in
+        part_entries Known comes.2 comes.1 message comes.4 (all_of Known (entries_in comes.1) (λ e h. marks.sent from t comes.0 comes.1 comes.3 e h))
     brings_known node fate t (Update key op level) comes = tt
     brings_known node fate t (Get key level) comes = tt
     brings_known node fate t (Install view) comes = tt
@@ -167,7 +165,7 @@ module _ {Kind Op Shown : Type 0} (D : Replication Kind Op Shown) (variables : H
     brings_known node fate t PruneTick comes = tt
     brings_known node fate t (Timeout op) comes = tt
 
-    stepped_known : (t : ℕ) (old new : Node Kind Op Shown) (input : Input Op) (fate : Fate) (key : Text) → next.nodes t ≡ Some new → world.nodes t ≡ Some old → Comes D world t input → new ≡ (step D old input fate).node → MarksKnown (views_of world) variables' key (new.entries key)
+    stepped_known : (t : ℕ) (old new : Node Kind Op Shown) (input : Input Op) (fate : Fate) (key : Text) → next.nodes t ≡ Some new → world.nodes t ≡ Some old → IsGiven D world t input → new ≡ (step D old input fate).node → MarksKnown (views_of world) variables' key (new.entries key)
     stepped_known t old new input fate key runs was comes is =
         let well = has.running t old was in
         let after = step_marks D (views_of world) variables old fate input well.viewed (brings_known old fate t input comes) (λ k. marks.held t old k was) key in

@@ -7,11 +7,11 @@ use Rattle.model_history.specs.Texts.{Text}
 use Rattle.model_history.specs.History.{Record, at, is_pruned, IsPartOf}
 use Rattle.model_history.proofs.CutLaws.{both_ways}
 use Rattle.model_history.proofs.PartLaws.{part-le, part_trans}
-use Rattle.model_history.proofs.PruneLaws.{IsIn, pruned_has, unpruned-with_record}
+use Rattle.model_history.proofs.PruneLaws.{pruned_has, unpruned-with_record}
 use Rattle.model_members.specs.View.{View, is_member}
 use Rattle.model_members.specs.Entry.{Entry, Group, is_prune}
 use Rattle.model_members.specs.DataType.{Replication}
-use Rattle.model_members.specs.Message.{Keyed, Message, entries_in, groups_in}
+use Rattle.model_members.specs.Message.{Keyed, Message, entries_in, groups_in, part_of}
 use Rattle.model_members.specs.Node.{Node}
 use Rattle.model_members.specs.Step.{is_entry_passed_over, is_group_passed_over, after_groups, after_entries}
 use Rattle.model_members.specs.World.{World, message_at}
@@ -20,8 +20,10 @@ use Rattle.theorem_runs.specs.Pruning.HasEntry.{Sent}
 use Rattle.theorem_runs.specs.PassedOver.{IsTakenWhole, NothingIsPassedOver}
 use Rattle.theorem_runs.proofs.Keeping.{AreKept, NoTick, keeps_groups}
 use Rattle.theorem_runs.proofs.UnprunedMarks.{unpruned-with_group}
+use Rattle.theorem_runs.proofs.Sending.{all_both}
+use Rattle.theorem_runs.proofs.Parts.{part_entries, part_groups}
 use Rattle.theorem_runs.proofs.Midway.{groups_grow, entries_grow}
-use Rattle.theorem_runs.proofs.Happening.{all_of}
+use Rattle.theorem_runs.proofs.Happening.{of_all, all_of}
 use Rattle.theorem_runs.proofs.Removed.{not_running}
 use Rattle.theorem_runs.proofs.Safety.{IsSafe}
 use Rattle.theorem_runs.proofs.PruningSafety.{entry_taken, prune_of_entry, pruners_have_installed}
@@ -87,10 +89,12 @@ module _ {Kind Op Shown : Type 0} (D : Replication Kind Op Shown) (variables : H
 
   module _ (from index : ℕ) (message : Message Op) (member : is_member node.view from ≡ true) (sent : message_at world from to index ≡ Some message) where
     -- groups are their sender's, and go to others
-    group_is_taken : (mine : Entry Op) (key : Text) (group : Group Op) → IsIn (groups_in message) (record { key = key; item = group }) → is_pruned mine.history from ≡ false → is_group_passed_over to mine group ≡ false
-    group_is_taken mine key group there kept =
-        let g = safe.parts.groups from to index message sent (record { key = key; item = group }) there in
-        ap (λ b. b || is_pruned mine.history group.origin) (ne_eqb group.origin to (λ e. g.2 (sym e ∙ g.0))) ∙ ap (is_pruned mine.history) g.0 ∙ kept
+    abbrev IsOfSender : Keyed (Group Op) → Type 0
+    IsOfSender g = (g.item.origin ≡ from) × PlainGroup from g.key g.item × (to ≢ from)
+
+    group_is_taken : (mine : Entry Op) (x : Keyed (Group Op)) → IsOfSender x → is_pruned mine.history from ≡ false → is_group_passed_over to mine x.item ≡ false
+    group_is_taken mine x g kept =
+        ap (λ b. b || is_pruned mine.history x.item.origin) (ne_eqb x.item.origin to (λ e. g.2 (sym e ∙ g.0))) ∙ ap (is_pruned mine.history) g.0 ∙ kept
 
     -- no member has a prune of a member of its view
     sender_unpruned : (key : Text) → is_pruned (node.entries key).history from ≡ false
@@ -102,18 +106,37 @@ module _ {Kind Op Shown : Type 0} (D : Replication Kind Op Shown) (variables : H
         (keeps_groups D (Unpruned from) (NoEntry from) (PlainGroup from) NoTick node.identity node.view (groups_keep from node.identity node.view) node.keys node groups
         (record { same_identity = refl; same_view = refl; same_keys = refl; entries = sender_unpruned }) plain).entries
 
-    is_taken_whole : IsTakenWhole to node message
-    is_taken_whole =
+    -- its entries stand in the world
+    abbrev Stands : Keyed (Entry Op) → Type 0
+    Stands e = HasEntry world e.key e.item
+
+    of_sender : AllByRecursion IsOfSender (groups_in message)
+    of_sender = all_of IsOfSender (groups_in message) (λ g there. safe.parts.groups from to index message sent g there)
+
+    all_stand : AllByRecursion Stands (entries_in message)
+    all_stand = all_of Stands (entries_in message) (λ e there. Sent from to index node message runs member sent there)
+
+    -- nothing of such groups and entries is passed over
+    taken_whole : (taken : Message Op) → AllByRecursion IsOfSender (groups_in taken) → AllByRecursion Stands (entries_in taken) → IsTakenWhole to node taken
+    taken_whole taken sender stand =
         record {
           groups = λ before rest key group e.
-              let plain = all_of (λ (g : Keyed (Group Op)). PlainGroup from g.key g.item) (groups_in message) (λ g there. (safe.parts.groups from to index message sent g there).1) in
-              group_is_taken ((after_groups node before).node.entries key) key group (length before, stands_at (groups_in message) before rest _ e)
-              (still_unpruned before (all_before _ before (record { key = key; item = group } ∷ rest) (subst (λ gs. AllByRecursion (λ (g : Keyed (Group Op)). PlainGroup from g.key g.item) gs) e plain)) key);
+              let g : Keyed (Group Op) = record { key = key; item = group } in
+              let plain = all_both IsOfSender IsOfSender (λ (x : Keyed (Group Op)). PlainGroup from x.key x.item) (λ x p q. p.1) (groups_in taken) sender sender in
+              group_is_taken ((after_groups node before).node.entries key) g (of_all IsOfSender (groups_in taken) g sender (length before, stands_at (groups_in taken) before rest g e))
+              (still_unpruned before (all_before _ before (g ∷ rest) (subst (λ gs. AllByRecursion (λ (x : Keyed (Group Op)). PlainGroup from x.key x.item) gs) e plain)) key);
           entries = λ before rest key entry e.
-              let grouped = (after_groups node (groups_in message)).node in
-              entry_is_taken key entry ((after_entries grouped before).entries key) (Sent from to index node message runs member sent (length before, stands_at (entries_in message) before rest _ e))
-              (part_trans (node.entries key).history (grouped.entries key).history ((after_entries grouped before).entries key).history (groups_grow D node key (groups_in message)) (entries_grow D grouped key before));
+              let grouped = (after_groups node (groups_in taken)).node in
+              let x : Keyed (Entry Op) = record { key = key; item = entry } in
+              entry_is_taken key entry ((after_entries grouped before).entries key) (of_all Stands (entries_in taken) x stand (length before, stands_at (entries_in taken) before rest x e))
+              (part_trans (node.entries key).history (grouped.entries key).history ((after_entries grouped before).entries key).history (groups_grow D node key (groups_in taken)) (entries_grow D grouped key before));
         }
+
+    is_taken_whole : IsTakenWhole to node message × ((knows : Text → Bool) → IsTakenWhole to node (part_of knows message))
+    is_taken_whole = (
+      taken_whole message of_sender all_stand,
+      λ knows. taken_whole (part_of knows message) (part_groups IsOfSender knows message (part_of knows message) refl of_sender) (part_entries Stands knows message (part_of knows message) refl all_stand),
+    )
 
 module _ {Kind Op Shown : Type 0} (D : Replication Kind Op Shown) (variables : HistoryVariables Op) (world : World Kind Op Shown) (safe : IsSafe D variables world) where
   pub nothing_is_passed_over : NothingIsPassedOver world

@@ -97,7 +97,7 @@ module _ {Kind Op Shown : Type 0} (D : Replication Kind Op Shown) where
         by_turn None e = plays
         by_turn (Some turn) e = if_tells (λ q. Q q.events q.world) (is_full D turn.before) (told p head HistoryFull) (take_turn D p head event turn) (λ full. plays) (λ room. turn_plays p head event turn allowed (lawful turn e room) plays)
 
-    input_plays : (p : Playing Kind Op Shown) (head : Head Op) (i : ℕ) (input : Input Op) → ((fate : Fate) → Allowed (InputAt i input fate)) → IsGiven D p.world input → Plays p → Plays (given D p head (InputAt i input))
+    input_plays : (p : Playing Kind Op Shown) (head : Head Op) (i : ℕ) (input : Input Op) → ((fate : Fate) → Allowed (InputAt i input fate)) → IsGiven D p.world i input → Plays p → Plays (given D p head (InputAt i input))
     input_plays p head i input allowed is_given plays =
         given_plays p head (InputAt i input) allowed (λ turn e room fate fits. let t = turn_at_is p.world i input NoStore turn e in (is_given, steps_at p.world i input fate turn t room fits)) plays
 

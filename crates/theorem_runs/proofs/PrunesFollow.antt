@@ -11,18 +11,16 @@ use Rattle.model_history.proofs.PartLaws.{part-le}
 use Rattle.model_members.specs.View.{View, is_member, leader}
 use Rattle.model_members.specs.Entry.{Entry}
 use Rattle.model_members.specs.DataType.{Replication}
-use Rattle.model_members.specs.Message.{Message}
 use Rattle.model_members.specs.Node.{Node, Input, Fate}
 use Rattle.model_members.specs.Node.Input.{Update, Get, Take, Install, Flush, GossipTo, PruneTick, Timeout}
 use Rattle.model_members.specs.Step.{step}
-use Rattle.model_members.specs.World.{World, Event, happens, views_of, IsLawful}
-use Rattle.theorem_runs.specs.Logs.{HasLogs, IsNoTick, IsMessageOf}
+use Rattle.model_members.specs.World.{World, Event, happens, views_of, IsGiven, IsLawful}
+use Rattle.theorem_runs.specs.Logs.{HasLogs, IsNoTick}
 use Rattle.theorem_runs.specs.Pruning.{HistoryVariables, noted, own_records, view_number}
 use Rattle.theorem_runs.proofs.Mine.{IsMine}
 use Rattle.theorem_runs.proofs.Agreement.{mine_before}
-use Rattle.theorem_runs.proofs.AgreementOverRuns.{IsLogged, happens_logged}
-use Rattle.theorem_runs.proofs.Happening.{Comes, NodeAfter, Follows}
-use Rattle.theorem_runs.proofs.Happening.Comes.{Given, Brought}
+use Rattle.theorem_runs.proofs.AgreementOverRuns.{IsLogged, part_of_logs, happens_logged}
+use Rattle.theorem_runs.proofs.Happening.{NodeAfter, Follows}
 use Rattle.theorem_runs.proofs.Happening.NodeAfter.{Same, Stepped, Started}
 use Rattle.theorem_runs.proofs.RunViews.{HasViews, still_listed}
 use Rattle.theorem_runs.proofs.StoredParts.{HasParts, LoadedFrom, loaded_from}
@@ -89,9 +87,8 @@ module _ {Kind Op Shown : Type 0} (D : Replication Kind Op Shown) (variables : H
         all = λ t member. stands_later D variables world next has follows parts key r p.view.number t (x.past r) (p.all t member);
       }
 
-  brings_logs : (node : Node Kind Op Shown) (small : node.identity < identity_limit) (fate : Fate) (t : ℕ) (input : Input Op) → Comes D world t input → BringsLogs D variables node small fate input
-  brings_logs node small fate t (Take from message) (Given g) = absurd g
-  brings_logs node small fate t (Take from message) (Brought f index m sent is) = let same : message ≡ m = cc is in subst (λ (x : Message Op). IsMessageOf variables.made x) (sym same) (logs.sent f t index m sent)
+  brings_logs : (node : Node Kind Op Shown) (small : node.identity < identity_limit) (fate : Fate) (t : ℕ) (input : Input Op) → IsGiven D world t input → BringsLogs D variables node small fate input
+  brings_logs node small fate t (Take from message) comes = part_of_logs variables.made comes.2 comes.1 message comes.4 (logs.sent from t comes.0 comes.1 comes.3)
   brings_logs node small fate t (Update key op level) comes = tt
   brings_logs node small fate t (Get key level) comes = tt
   brings_logs node small fate t (Install view) comes = tt
@@ -105,7 +102,7 @@ module _ {Kind Op Shown : Type 0} (D : Replication Kind Op Shown) (variables : H
 
   module _ (prunes : HasPrunes variables world) where
     -- the prunes among a stepping member's own records
-    stepped_prunes : (t : ℕ) (old : Node Kind Op Shown) (input : Input Op) (fate : Fate) (key : Text) → (was : world.nodes t ≡ Some old) → Comes D world t input
+    stepped_prunes : (t : ℕ) (old : Node Kind Op Shown) (input : Input Op) (fate : Fate) (key : Text) → (was : world.nodes t ≡ Some old) → IsGiven D world t input
         → StepPrunes variables t (small_of t old was) old.view ((step D old input fate).node.view ≡ old.view) old.entries key ((step D old input fate).node.entries key)
     stepped_prunes t old input fate key was comes =
         subst (λ j. (s : j < identity_limit) → StepPrunes variables j s old.view ((step D old input fate).node.view ≡ old.view) old.entries key ((step D old input fate).node.entries key)) ident

@@ -7,7 +7,7 @@ use Rattle.model_history.proofs.HistoryLaws.{slice_get-push, slice_get-below}
 use Rattle.model_members.specs.View.{View, is_member}
 use Rattle.model_members.specs.DataType.{Replication}
 use Rattle.model_members.specs.Node.{Node, Input, Fate}
-use Rattle.model_members.specs.Node.Input.{Take, Install}
+use Rattle.model_members.specs.Node.Input.{Install}
 use Rattle.model_members.specs.Step.{step}
 use Rattle.model_members.specs.World.{World, IsGiven, views_of}
 use Rattle.theorem_runs.specs.Pruning.{HistoryVariables, noted, view_number}
@@ -16,8 +16,7 @@ use Rattle.theorem_runs.proofs.Stepping.HasView.{SameView, NewView}
 use Rattle.theorem_runs.specs.Views.{HasSoundViews}
 use Rattle.theorem_runs.proofs.ViewLaws.{IsRising, HasPlaces, IsNextView, IsMemberAfter, some_members, sound}
 use Rattle.theorem_runs.proofs.ViewLaws.IsMemberAfter.{OldMember, NewMember}
-use Rattle.theorem_runs.proofs.Happening.{Comes, NodeAfter, ViewsAfter, AllRun, Follows}
-use Rattle.theorem_runs.proofs.Happening.Comes.{Given, Brought}
+use Rattle.theorem_runs.proofs.Happening.{NodeAfter, ViewsAfter, AllRun, Follows}
 use Rattle.theorem_runs.proofs.Happening.NodeAfter.{Same, Stepped, Started}
 use Rattle.theorem_runs.proofs.Happening.ViewsAfter.{SameViews, NextViews}
 
@@ -202,18 +201,17 @@ module _ {Kind Op Shown : Type 0} (D : Replication Kind Op Shown) where
       pub last : is_member next.view t ≡ true
 
     -- an installed view is one of the list, and the member is in it
-    installs : (t : ℕ) (old : Node Kind Op Shown) (input : Input Op) → world.nodes t ≡ Some old → (view : View) → input ≡ Install view → old.view.number < view.number → Comes D world t input → (slice_get (views_of world) view.number ≡ Some view) × (is_member view t ≡ true)
-    installs t old input runs view is later (Given given) =
-        let g : (k : ℕ) × (slice_get (views_of world) k ≡ Some view) = subst (λ (x : Input Op). IsGiven D world x) is given in
+    installs : (t : ℕ) (old : Node Kind Op Shown) (input : Input Op) → world.nodes t ≡ Some old → (view : View) → input ≡ Install view → old.view.number < view.number → IsGiven D world t input → (slice_get (views_of world) view.number ≡ Some view) × (is_member view t ≡ true)
+    installs t old input runs view is later given =
+        let g : (k : ℕ) × (slice_get (views_of world) k ≡ Some view) = subst (λ (x : Input Op). IsGiven D world t x) is given in
         let listed : slice_get (views_of world) view.number ≡ Some view = ap (slice_get (views_of world)) (has.views.numbered g.0 view g.1) ∙ g.1 in
         let well = has.running t old runs in (
           listed,
           between (views_of world) world.view has.views old.view.number view.number world.view.number old.view view world.view t (omega arith) (at_most_last (views_of world) world.view has.views view.number view listed)
               well.viewed listed has.views.listed well.member well.last,
         )
-    installs t old input runs view is later (Brought from index message sent was) = absurd (let f : Install view ≡ Take from message = sym is ∙ was in cc f)
 
-    stepped_well : (t : ℕ) (old new : Node Kind Op Shown) (input : Input Op) (fate : Fate) → world.nodes t ≡ Some old → Comes D world t input → new ≡ (step D old input fate).node → next.view ≡ world.view → StaysWell t new
+    stepped_well : (t : ℕ) (old new : Node Kind Op Shown) (input : Input Op) (fate : Fate) → world.nodes t ≡ Some old → IsGiven D world t input → new ≡ (step D old input fate).node → next.view ≡ world.view → StaysWell t new
     stepped_well t old new input fate runs comes is same =
         let well = has.running t old runs in
         let m = moves D old input fate in

@@ -39,9 +39,9 @@ pub fn sound_views<Kind, Operation, Shown>()
     ensures { InEveryRun Kind Operation Shown (λ variables world. HasSoundViews world) }
 {}
 
-/// In every run, nothing of a message to a running member from a member of its view is passed over: no entry counts more
-/// of the receiver's records than it made, or has a prune of it, and no group has records of the receiver, or of an identity
-/// that it has a prune of.
+/// In every run, nothing of a message to a running member from a member of its view is passed over, whether it is taken
+/// whole or in part: no entry counts more of the receiver's records than it made, or has a prune of it, and no group has
+/// records of the receiver, or of an identity that it has a prune of.
 pub fn nothing_is_passed_over<Kind, Operation, Shown>()
     ensures { InEveryRun Kind Operation Shown (λ variables world. NothingIsPassedOver world) }
 {}

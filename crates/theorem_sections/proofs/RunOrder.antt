@@ -406,7 +406,7 @@ module _ {Kind Op Shown : Type 0} (D : Replication Kind Op Shown) (view : View) 
   module _ (world : World Kind Op Shown) (due : ℕ → ℕ → ℕ) (x : Placed Op Shown) (rest : List (Placed Op Shown)) (going : Going world due (x ∷ rest))
       (later : (w : World Kind Op Shown) (due' : ℕ → ℕ → ℕ) → Going w due' rest → Good w rest (events_of due' rest)) where
     -- an input of a client
-    input_good : (input : Input Op) → x.entry.input ≡ input → ((i : ℕ) → taken_by i x.entry.stamp input ≡ []) → IsGiven D world input → Good world (x ∷ rest) (InputAt x.at input x.entry.fate ∷ events_of due rest)
+    input_good : (input : Input Op) → x.entry.input ≡ input → ((i : ℕ) → taken_by i x.entry.stamp input ≡ []) → IsGiven D world x.at input → Good world (x ∷ rest) (InputAt x.at input x.entry.fate ∷ events_of due rest)
     input_good input is none given =
         let n = (its_steps world due x rest going).0 in
         let runs = (its_steps world due x rest going).1 in

@@ -106,7 +106,7 @@ module _ {Kind Op Shown : Type 0} (D : Replication Kind Op Shown) (members : ℕ
       → output_lines D head (output_of D world event) ≡ record { head = head; answer = Replied (step D node input fate).output.reply; posts = (step D node input fate).output.posts; ended = (step D node input fate).output.ended } ∷ []
   its_lines world head event i input node fate e = ap (λ (o : Option (Turn Kind Op Shown)). output_lines D head (option_map (λ (turn : Turn Kind Op Shown). (step_in D turn).output) o)) e
 
-  pub given_steps : (p : Playing Kind Op Shown) (head : Head Op) (i : ℕ) (input : Input Op) (node : Node Kind Op Shown) → IsGiven D p.world input → p.world.nodes i ≡ Some node → has_met_full (given D p head (InputAt i input)) ≡ false → Steps p (given D p head (InputAt i input)) i input node
+  pub given_steps : (p : Playing Kind Op Shown) (head : Head Op) (i : ℕ) (input : Input Op) (node : Node Kind Op Shown) → IsGiven D p.world i input → p.world.nodes i ≡ Some node → has_met_full (given D p head (InputAt i input)) ≡ false → Steps p (given D p head (InputAt i input)) i input node
   given_steps p head i input node is_given runs =
       given_by D (λ (q : Playing Kind Op Shown). has_met_full q ≡ false → Steps p q i input node) p head (InputAt i input) (turn_by i node input NoStore) (input_turn p.world i node input NoStore runs)
       (λ full e. absurd (let f = sym (told_full p head) ∙ e in cc f))

@@ -78,7 +78,7 @@ module _ {Kind Op Shown : Type 0} (D : Replication Kind Op Shown) (Q : List (Eve
       by_turn None e = plays
       by_turn (Some turn) e = if_tells Plays (is_full D turn.before) (told p head HistoryFull) (take_turn D p head event turn) (λ full. plays) (λ room. turn_plays p head event turn quiet (lawful turn e room) plays)
 
-  input_plays : (p : Playing Kind Op Shown) (head : Head Op) (i : ℕ) (input : Input Op) → IsQuietInput input → IsGiven D p.world input → Plays p → Plays (given D p head (InputAt i input))
+  input_plays : (p : Playing Kind Op Shown) (head : Head Op) (i : ℕ) (input : Input Op) → IsQuietInput input → IsGiven D p.world i input → Plays p → Plays (given D p head (InputAt i input))
   input_plays p head i input quiet is_given plays =
       given_plays p head (InputAt i input) (λ fate. quiet) (λ turn e room fate fits. let t = turn_at_is D p.world i input NoStore turn e in (is_given, steps_at D p.world i input fate turn t room fits)) plays
 

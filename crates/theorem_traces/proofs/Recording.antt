@@ -50,7 +50,7 @@ module _ {Kind Op Shown : Type 0} (D : Replication Kind Op Shown) where
     pub events : q.events ≡ p.events ++ InputAt i input fate ∷ []
     pub lines : q.lines ≡ p.lines ++ told_line head (step D node input fate).output ∷ []
 
-  pub input_case : (P : Playing Kind Op Shown → Type 0) (p : Playing Kind Op Shown) (head : Head Op) (i : ℕ) (input : Input Op) → IsGiven D p.world input
+  pub input_case : (P : Playing Kind Op Shown → Type 0) (p : Playing Kind Op Shown) (head : Head Op) (i : ℕ) (input : Input Op) → IsGiven D p.world i input
       → ((answer : Answer Shown) → IsPlainAnswer answer → P (told p head answer)) → ((q : Playing Kind Op Shown) → IsInput p q head i input → P q) → P (given D p head (InputAt i input))
   input_case P p head i input is_given plain takes = by_turn (turn_of p.world (InputAt i input NoStore)) refl
     where

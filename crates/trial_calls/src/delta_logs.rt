@@ -47,7 +47,7 @@ fn filled(
     for number in 0..last {
         let seq = number + 1;
         let before = before(alloc, origin, other, seq)?;
-        let next = log.prepare(before, delta(origin, seq, prune))?;
+        let next = log.prepare(alloc, &before, delta(origin, seq, prune))?;
         log.add(next);
     }
     Ok(log)

@@ -80,6 +80,7 @@ impl<T: Replica<Kind = Kind, Op = Op>> Member<T> {
     /// Logs a record that the member made, and adds it to the records of all.
     fn note(
         &mut self,
+        alloc: Global,
         records: &mut Records,
         action: Action,
         before: VersionVector,
@@ -89,7 +90,7 @@ impl<T: Replica<Kind = Kind, Op = Op>> Member<T> {
         requires fits { IsDeltaFor T.IsOfOrigin T.delta_fits_kind self.old.log.kind self.old.log.origin delta }
     {
         let number = self.made + 1;
-        let next = self.log.prepare(before, delta)?;
+        let next = self.log.prepare(alloc, &before, delta)?;
         self.log.add(next);
         self.made = number;
         records.add(self.id, &mut self.taken, action)
@@ -110,7 +111,7 @@ impl<T: Replica<Kind = Kind, Op = Op>> Member<T> {
         }
         let before = self.entry.known(alloc)?;
         match self.entry.update(&op, self.id) {
-            Ok(delta) => self.note(records, Action::Operation(op), before, Some(delta)),
+            Ok(delta) => self.note(alloc, records, Action::Operation(op), before, Some(delta)),
             Err(ApplyError::Memory) => Err("memory".into()),
             Err(_) => Ok(()),
         }
@@ -138,7 +139,7 @@ impl<T: Replica<Kind = Kind, Op = Op>> Member<T> {
         let before = self.entry.known(alloc)?;
         match self.entry.perform(removed, self.id, view, members)? {
             Perform::Performed => {
-                self.note(records, Action::Prune(removed), before, None)?;
+                self.note(alloc, records, Action::Prune(removed), before, None)?;
                 Ok(true)
             }
             _ => Err("the prune was not performed".into()),

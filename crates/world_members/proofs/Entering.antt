@@ -18,8 +18,7 @@ use Rattle.model_members.specs.Node as nodes
 use Rattle.model_members.specs.Node.{KeyDecl, Input, Fate}
 use Rattle.model_members.specs.Node.Fate.{NoStore, Stored, StoreFailed}
 use Rattle.model_members.specs.Step.{step, is_full}
-use Rattle.model_members.specs.World as worlds
-use Rattle.model_members.specs.World.{Links, Event, views_of, message_at, moved_on, with_posts, after_step, happens, FitsFate, IsRun}
+use Rattle.model_members.specs.World.{Links, Event, message_at, moved_on, with_posts, after_step, happens, FitsFate, IsRun}
 use Rattle.model_members.specs.World.Event.{InputAt, Delivery}
 use Rattle.model_members.specs.Script as script
 use Rattle.model_members.specs.Script.{Playing, ScriptStep, IsStep, given, played}
@@ -37,7 +36,7 @@ use Rattle.member_node.specs.declared.input.Input as given_input
 use Rattle.member_node.specs.declared.input.Input.TheVariants as form
 use Rattle.member_node.specs.declared.reply.Fate as done
 use Rattle.member_node.specs.declared.reply.Output.{Output}
-use Rattle.member_node.specs.Inputs.{StandsForInput}
+use Rattle.member_node.specs.Inputs.{StandsForInput, IsOfKnownKey}
 use Rattle.member_node.specs.Members.{StandsForPosts, StandsForMessage}
 use Rattle.member_node.specs.Operations.{finished_meant}
 use Rattle.member_node.specs.Replies.{meant, meant_fate}
@@ -60,7 +59,7 @@ use Rattle.world_members.specs.Sending.{messages_to, told_of, AreFew}
 use Rattle.world_members.specs.Standing.{StandsForLink, StandsForWorld}
 use Rattle.world_members.specs.Steps.{Foretells, Reaches}
 use Rattle.world_members.specs.Ways.{IsPrefix, Throughout, Means}
-use Rattle.world_members.proofs.Answering.{means_refused, given_at, has_room, image, next_is, reaches_made, answers_of, taken_with, world_taken}
+use Rattle.world_members.proofs.Answering.{means_refused, given_at, has_room, image, known, next_is, reaches_made, answers_of, taken_with, world_taken, events_taken}
 use Rattle.world_members.proofs.Asking.{StandsAlways, asked_some, asks_so}
 use Rattle.world_members.proofs.Seats.{seated_set}
 use Rattle.world_members.proofs.Steps.{sent, stands_in, is_head, at_delivery, run_handing, more_handing}
@@ -149,18 +148,13 @@ module _ {T K Kind Delta : Type 0} {ghosts : Ghosts T Kind Op Delta} {keeping : 
     pub node : nodes.Node Kind Op Shown
     pub runs : p.world.nodes i ≡ Some node
     pub has_room : is_full (replication ghosts spelling) node ≡ false
+    pub known : IsOfKnownKey node sent
     pub fits : FitsFate (replication ghosts spelling) node sent (meant_fate fate)
     pub reply : (step (replication ghosts spelling) node sent (meant_fate fate)).output.reply ≡ meant output.reply
     pub posts : map told_of output.posts ≡ map sketched_post (step (replication ghosts spelling) node sent (meant_fate fate)).output.posts
     pub ended : (step (replication ghosts spelling) node sent (meant_fate fate)).output.ended ≡ option_map finished_meant output.finished
     pub happened : happens (replication ghosts spelling) p.world event ≡ after_step (record p.world { links = links }) i node (meant_fate fate) (step (replication ghosts spelling) node sent (meant_fate fate))
     pub means : (q : Playing Kind Op Shown) → q.events ≡ p.events ++ event ∷ [] → q.world ≡ happens (replication ghosts spelling) p.world event → Means spelling kinds members decls q new
-
-events_taken : {Kind Op Shown : Type 0} (D : Replication Kind Op Shown) (p : Playing Kind Op Shown) (head : script.Head Op) (event : Fate → Event Op) (i : ℕ) (taken : Input Op) (node : nodes.Node Kind Op Shown) (turns : (fate : Fate) → worlds.turn_of p.world (event fate) ≡ Some (record { at = i; before = node; input = taken; fate = fate })) (fate : Fate)
-    → (taken_with D p head event i taken node turns fate).events ≡ p.events ++ event fate ∷ []
-events_taken D p head event i taken node turns NoStore = refl
-events_taken D p head event i taken node turns Stored = refl
-events_taken D p head event i taken node turns StoreFailed = refl
 
 module _ {T K Kind Delta : Type 0} {ghosts : Ghosts T Kind Op Delta} {keeping : Keeping K} (spelling : Spelling T Kind Op Delta) (alike : (a b : K) → is_some (keeping.table a) ≡ is_some (keeping.table b)) (kinds : Text → Kind) (members : ℕ) (decls : List (KeyDecl Kind)) (old new : World T K Kind Op Delta ghosts keeping) (p : Playing Kind Op Shown) (m : Means spelling kinds members decls p old)
     (i place : ℕ) (before after : Node T K Kind Op Delta ghosts keeping) (changes : ChangesAt i place before after old new) (input : given_input.Input T Kind Op Delta ghosts) (fate : done.Fate) (output : Output T Kind Op Delta ghosts) (makes : IsStepOf spelling before input fate output after) where
@@ -206,6 +200,7 @@ module _ {T K Kind Delta : Type 0} {ghosts : Ghosts T Kind Op Delta} {keeping : 
           node = work.node;
           runs = work.runs;
           has_room = has_room spelling alike kinds members decls old new so means_so heading event is_run more i taken links at place before after changes input fate output makes logged.0 now;
+          known = known spelling alike kinds members decls old new so means_so heading event is_run more i taken links at place before after changes input fate output makes logged.0 now;
           fits = its_image.fate_fits;
           reply = sym its_image.answers.reply;
           posts = same_told kinds logged.0 output.posts (step D work.node taken (meant_fate fate)).output.posts its_image.answers.posts;

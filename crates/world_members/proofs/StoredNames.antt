@@ -22,18 +22,18 @@ use Rattle.model_members.specs.Node.{KeyDecl, KeyState, Node, Input, Fate, key_s
 use Rattle.model_members.specs.Node.Input.{Take, Install, PruneTick}
 use Rattle.model_members.specs.Step.{step, changed_keys, to_store}
 use Rattle.model_members.specs.View.{place_of, first_view, View}
-use Rattle.model_members.specs.World.{World, Event, Link, Store, start, happens, run, loaded_node, moved_on, no_entries, AreLawful, IsLawful, IsRun, message_at, loaded_entry}
+use Rattle.model_members.specs.World.{World, Event, Link, Store, start, happens, run, loaded_node, moved_on, no_entries, AreLawful, IsGiven, IsLawful, IsRun, message_at, loaded_entry}
 use Rattle.model_members.specs.World.Event.{InputAt, Delivery, Loss, Removal, Joining, Restart}
 use Rattle.model_members.proofs.Cases.{stepped_at, delivered}
 use Rattle.theorem_runs.specs.Logs.{HasLogs}
 use Rattle.theorem_runs.specs.Pruning.{HistoryVariables, nothing_noted, noted, variables_of}
 use Rattle.theorem_runs.proofs.Agreement.{AllStored, stored_all, found_stored}
-use Rattle.theorem_runs.proofs.Happening.{all_of, Comes, IsStoreFor, NodeAfter, MessageAfter, StoredAfter, ViewsAfter, Follows, event_follows}
+use Rattle.theorem_runs.proofs.Happening.{all_of, IsStoreFor, NodeAfter, MessageAfter, StoredAfter, ViewsAfter, Follows, event_follows}
 use Rattle.theorem_runs.proofs.Sending.{all_filtered, all_mapped_by, all_both}
 use Rattle.theorem_runs.proofs.Stepping.{moves, BringsInput, all_trivial, keeps_any}
 use Rattle.theorem_runs.proofs.Keeping.{AnyTick, AreKept, if_holds}
+use Rattle.theorem_runs.proofs.Parts.{part_entries}
 use Rattle.theorem_runs.proofs.MarkLaws.{kept_mark}
-use Rattle.theorem_runs.proofs.Happening.Comes.{Given, Brought}
 use Rattle.theorem_runs.proofs.Happening.IsStoreFor.{Emptied, Reloaded}
 use Rattle.theorem_runs.proofs.Happening.NodeAfter.{Same, Stepped, Started}
 use Rattle.theorem_runs.proofs.Happening.MessageAfter.{OldMessage, NewMessage}
@@ -308,10 +308,9 @@ module _ {Kind Op Shown : Type 0} (D : Replication Kind Op Shown) where
         go (SameViews e v) = let a : after ≡ before = ap (λ (x : View). x.given) v in omega arith
         go (NextViews e n) = n.given
 
-    brought : (t : ℕ) (input : Input Op) → Comes D world t input → InputGiven D before input
-    brought t (Take from message) (Given given) = absurd given
-    brought t (Take from message) (Brought from' index message' sent is) =
-        subst (InputGiven D before) (sym is) (names.sent from' t index message' sent)
+    brought : (t : ℕ) (input : Input Op) → IsGiven D world t input → InputGiven D before input
+    brought t (Take from message) comes =
+        part_entries (λ (e : Keyed (Entry Op)). MarksGiven before e.item) comes.2 comes.1 message comes.4 (names.sent from t comes.0 comes.1 comes.3)
     brought t _ comes = tt
 
     -- a running member was given, and its view is no later than the last

@@ -10,8 +10,8 @@ is_none : {A : Type 0} (o : Option A) → ((x : A) → o ≡ Some x → ⊥) →
 is_none None never = refl
 is_none (Some x) never = absurd (never x refl)
 
-pub take_envelope-requires : goal.take_envelope-requires
-take_envelope-requires g c = ap length c.unchanged-changes.ensures ∙ length-map c.args.keys.now _
+pub take_envelope-requires-clause-counted : goal.take_envelope-requires-clause-counted
+take_envelope-requires-clause-counted g c = ap length c.unchanged-changes.ensures ∙ length-map c.args.keys.now _
 
 pub returns-in_default-clause-kept : goal.returns-in_default-clause-kept
 returns-in_default-clause-kept g c = kept_first g.T.Replica.kind_of c.args.id c.args.keys.now c.unchanged-changes.result c.unchanged-changes.ensures

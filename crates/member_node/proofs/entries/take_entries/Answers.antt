@@ -9,7 +9,7 @@ use Rattle.member_node.proofs.entries.take_entries.Goals as goal
 
 pub loop-keyed-init : goal.loop-keyed-init
 loop-keyed-init g c = record {
-  counted = c.requires;
+  counted = c.requires.counted;
   kept = λ kept. kept;
   image = λ kinds logs before node sent rest exact of_kinds held kept tells work.
       let R = g.T.Replica in
@@ -17,8 +17,8 @@ loop-keyed-init g c = record {
       (sym (tells_none (StandsForKeyed R.kind_of R.IsDataOf kinds logs) (IsEntryPassedOver R c.args.keys.now) sent tells)) work;
 }
 
-pub take_envelope-requires : goal.take_envelope-requires
-take_envelope-requires g c = c.loop-keyed.invariant.counted
+pub take_envelope-requires-clause-counted : goal.take_envelope-requires-clause-counted
+take_envelope-requires-clause-counted g c = c.loop-keyed.invariant.counted
 
 pub loop-keyed-preserved : goal.loop-keyed-preserved
 loop-keyed-preserved g c =

@@ -21,9 +21,9 @@ returns g c =
     let at = c.index-keys-index.result in
     let change = slice_index_or c.args.changes.now c.in-Some.index None in
     let found = position-found (λ state. bytes_eq state.name c.args.key.now) c.args.keys.now c.in-Some.index c.in-Some.ensures in
-    let is : change ≡ slice_index_or c.args.changes.now c.in-Some.index change = get_or_default c.args.changes.now c.in-Some.index None change (let inside = found.within in let counted = c.requires in omega arith) in
+    let is : change ≡ slice_index_or c.args.changes.now c.in-Some.index change = get_or_default c.args.changes.now c.in-Some.index None change (let inside = found.within in let counted = c.requires.counted in omega arith) in
     record {
-      counted = on_ok_weaker c.put.result (λ put. ap length put ∙ length-put_at c.args.changes.now c.in-Some.index c.in_ok-taken.taken ∙ c.requires) c.put.ensures;
+      counted = on_ok_weaker c.put.result (λ put. ap length put ∙ length-put_at c.args.changes.now c.in-Some.index c.in_ok-taken.taken ∙ c.requires.counted) c.put.ensures;
       kept = λ kept. on_ok_weaker c.put.result (λ put.
           subst (AreMade (IsKept R.kind_of c.args.id) c.args.keys.now) (sym put)
           (kept_put R.kind_of c.args.id c.args.keys.now c.args.changes.now c.in-Some.index at change found.within c.index-keys-index.is is c.current-now.result.now c.current-now.ensures c.in_ok-taken.taken c.in_ok-taken.ensures.kept kept)) c.put.ensures;
@@ -48,4 +48,10 @@ pub put-requires : goal.put-requires
 put-requires g c =
     let found = position-found (λ state. bytes_eq state.name c.args.key.now) c.args.keys.now c.in-Some.index c.in-Some.ensures in
     let inside = found.within in
-    omega (arith, inside, c.requires)
+    omega (arith, inside, c.requires.counted)
+
+pub current-now-requires : goal.current-now-requires
+current-now-requires g c =
+    let found = position-found (λ state. bytes_eq state.name c.args.key.now) c.args.keys.now c.in-Some.index c.in-Some.ensures in
+    let inside = found.within in
+    omega (arith, inside, c.requires.counted)

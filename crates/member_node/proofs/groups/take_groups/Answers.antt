@@ -9,7 +9,7 @@ use Rattle.member_node.proofs.groups.take_groups.Goals as goal
 
 pub loop-keyed-init : goal.loop-keyed-init
 loop-keyed-init g c = record {
-  counted = c.requires;
+  counted = c.requires.counted;
   kept = λ kept. kept;
   image = λ kinds logs view entries node sent of_kinds held kept tells work.
       let R = g.T.Replica in
@@ -17,8 +17,8 @@ loop-keyed-init g c = record {
       (subst (λ s. IsAtWork R.kind_of R.IsDataOf kinds logs c.args.id c.args.keys.now view entries c.args.changes.now (after_groups node s).node) (sym none) work, c.new-gaps.ensures ∙ sym (ap (λ s. map gap_told (after_groups node s).gaps) none));
 }
 
-pub take_group_at-requires : goal.take_group_at-requires
-take_group_at-requires g c = c.loop-keyed.invariant.counted
+pub take_group_at-requires-clause-counted : goal.take_group_at-requires-clause-counted
+take_group_at-requires-clause-counted g c = c.loop-keyed.invariant.counted
 
 pub loop-keyed-preserved : goal.loop-keyed-preserved
 loop-keyed-preserved g c =

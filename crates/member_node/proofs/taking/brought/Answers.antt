@@ -66,11 +66,11 @@ any_changed-changed-requires g c =
     let kept = kept_first g.T.Replica.kind_of c.args.id c.args.keys.now c.unchanged-changes.result c.unchanged-changes.ensures in
     (c.in_ok-take_entries.ensures.kept (c.in_ok-gaps.ensures.kept kept)).one_each
 
-pub take_groups-requires : goal.take_groups-requires
-take_groups-requires g c = ap length c.unchanged-changes.ensures ∙ length-map c.args.keys.now _
+pub take_groups-requires-clause-counted : goal.take_groups-requires-clause-counted
+take_groups-requires-clause-counted g c = ap length c.unchanged-changes.ensures ∙ length-map c.args.keys.now _
 
-pub take_entries-requires : goal.take_entries-requires
-take_entries-requires g c = (c.in_ok-gaps.ensures.kept (kept_first g.T.Replica.kind_of c.args.id c.args.keys.now c.unchanged-changes.result c.unchanged-changes.ensures)).one_each
+pub take_entries-requires-clause-counted : goal.take_entries-requires-clause-counted
+take_entries-requires-clause-counted g c = (c.in_ok-gaps.ensures.kept (kept_first g.T.Replica.kind_of c.args.id c.args.keys.now c.unchanged-changes.result c.unchanged-changes.ensures)).one_each
 
 pub named-requires : goal.named-requires
 named-requires g c =

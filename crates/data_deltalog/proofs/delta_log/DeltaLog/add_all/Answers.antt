@@ -34,11 +34,11 @@ add-requires-clause-fits g c =
     let added = c.loop-next.yielded in
     let log = c.args.self.now in
     let split = ap (λ l. added ++ l) (sym c.in-Some.ensures.steps.0) ∙ c.loop-next.invariant.split in
-    let fits = All-middle (λ (next : NextRecord g.row.T-Delta.Denot). IsDeltaFor R.IsOfOrigin R.delta_fits_kind log.kind log.origin next.record.delta) added (into_iter_items c.next.new.self) c.args.records.items c.in-Some.next split c.requires.fit in
+    let fits = All-middle (λ (next : NextRecord g.row.T-Delta.Denot). IsDeltaFor R.IsOfOrigin R.delta_fits_kind log.kind log.origin next.delta) added (into_iter_items c.next.new.self) c.args.records.items c.in-Some.next split c.requires.fit in
     let kind = ap (λ (parts : LogParts g.row.T-Kind.Denot g.row.T-Delta.Denot). parts.kind) c.loop-next.invariant.log ∙ kind_later log added in
     let origin = ap (λ (parts : LogParts g.row.T-Kind.Denot g.row.T-Delta.Denot). parts.origin) c.loop-next.invariant.log ∙ origin_later log added in
-    subst (λ o. IsDeltaFor R.IsOfOrigin R.delta_fits_kind c.loop-next.self.kind o c.in-Some.next.record.delta) (sym origin)
-    (subst (λ k. IsDeltaFor R.IsOfOrigin R.delta_fits_kind k log.origin c.in-Some.next.record.delta) (sym kind) fits)
+    subst (λ o. IsDeltaFor R.IsOfOrigin R.delta_fits_kind c.loop-next.self.kind o c.in-Some.next.delta) (sym origin)
+    (subst (λ k. IsDeltaFor R.IsOfOrigin R.delta_fits_kind k log.origin c.in-Some.next.delta) (sym kind) fits)
 
 pub add-requires-clause-room : goal.add-requires-clause-room
 add-requires-clause-room g c =
@@ -53,8 +53,8 @@ loop-next-preserved g c =
     let next = c.in-Some.next in
     record {
       split = one_next c.loop-next.yielded (into_iter_items c.loop-next.next-iterator) (into_iter_items c.next.new.self) c.args.records.items next c.in-Some.ensures.steps.0 c.loop-next.invariant.split;
-      log = c.add.ensures.value ∙ ap (λ (parts : LogParts g.row.T-Kind.Denot g.row.T-Delta.Denot). appended parts next.record.before next.record.delta) c.loop-next.invariant.log
-          ∙ sym (fold-append (λ (parts : LogParts g.row.T-Kind.Denot g.row.T-Delta.Denot) (r : NextRecord g.row.T-Delta.Denot). appended parts r.record.before r.record.delta) c.args.self.now c.loop-next.yielded (next ∷ []));
+      log = c.add.ensures.value ∙ ap (λ (parts : LogParts g.row.T-Kind.Denot g.row.T-Delta.Denot). appended parts next.before next.delta) c.loop-next.invariant.log
+          ∙ sym (fold-append (λ (parts : LogParts g.row.T-Kind.Denot g.row.T-Delta.Denot) (r : NextRecord g.row.T-Delta.Denot). appended parts r.before r.delta) c.args.self.now c.loop-next.yielded (next ∷ []));
     }
 
 pub returns : goal.returns

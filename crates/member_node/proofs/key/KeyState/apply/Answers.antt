@@ -32,7 +32,7 @@ returns-in-Ok-clause-applied g c =
       owned = own_record R id op state entry next c.requires.logged c.requires.room (subst (λ (old : Envelope g.row.T.Denot g.row.T-Kind.Denot g.row.T-Op.Denot g.row.T-Delta.Denot). IsRecorded R id state.log old entry next) c.change.ensures.value c.in-Ok.ensures.recorded);
       means = means_record R id op state entry next c.requires.logged
           (subst (λ (old : Envelope g.row.T.Denot g.row.T-Kind.Denot g.row.T-Op.Denot g.row.T-Delta.Denot). (log : History g.row.T-Op.Denot) (held : Entry g.row.T-Op.Denot) → StandsFor R.IsDataOf (parts_of old) log held → R.data_type.refusal (R.kind_of old.value) id op held.history ≡ None) c.change.ensures.value c.in-Ok.ensures.unrefused)
-          (subst (λ (old : Envelope g.row.T.Denot g.row.T-Kind.Denot g.row.T-Op.Denot g.row.T-Delta.Denot). (log : History g.row.T-Op.Denot) (held : Entry g.row.T-Op.Denot) → StandsFor R.IsDataOf (parts_of old) log held → IsTakenFrom log (with_action held id (Operation op)).history → StandsForRecorded R log id op held entry next) c.change.ensures.value c.in-Ok.ensures.image);
+          (subst (λ (old : Envelope g.row.T.Denot g.row.T-Kind.Denot g.row.T-Op.Denot g.row.T-Delta.Denot). (log : History g.row.T-Op.Denot) (held : Entry g.row.T-Op.Denot) → StandsFor R.IsDataOf (parts_of old) log held → IsTakenFrom log (with_action held id (Operation op)).history → StandsForRecorded R state.log log id op held entry next) c.change.ensures.value c.in-Ok.ensures.image);
       becomes = (ap (λ log. record state { entry = entry; log = log }) c.add.ensures.value, refl);
     }
 

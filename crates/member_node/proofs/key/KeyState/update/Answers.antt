@@ -28,7 +28,7 @@ returns-in-Ok g c =
           (subst (λ (old : Envelope g.row.T.Denot g.row.T-Kind.Denot g.row.T-Op.Denot g.row.T-Delta.Denot). (log : History g.row.T-Op.Denot) (held : Entry g.row.T-Op.Denot) → StandsFor R.IsDataOf (parts_of old) log held
           → R.data_type.refusal (R.kind_of old.value) id op held.history ≡ None) (c.in_ok-entry.ensures ∙ c.envelope.ensures) c.in-Ok.ensures.unrefused)
           (subst (λ (old : Envelope g.row.T.Denot g.row.T-Kind.Denot g.row.T-Op.Denot g.row.T-Delta.Denot). (log : History g.row.T-Op.Denot) (held : Entry g.row.T-Op.Denot) → StandsFor R.IsDataOf (parts_of old) log held
-          → IsTakenFrom log (with_action held id (Operation op)).history → StandsForRecorded R log id op held entry next) (c.in_ok-entry.ensures ∙ c.envelope.ensures) c.in-Ok.ensures.image);
+          → IsTakenFrom log (with_action held id (Operation op)).history → StandsForRecorded R state.log log id op held entry next) (c.in_ok-entry.ensures ∙ c.envelope.ensures) c.in-Ok.ensures.image);
       refuses = tt;
     }
 

@@ -1,6 +1,6 @@
 use Rattle.std.proofs.Common.{[], None, not, length, get_or, refl, sym, ap, ◌∙◌, subst, subst₂, true, false, ◌&&◌, option_copied, bytes_eq}
 use Rattle.std.specs.List.{list_any}
-use Rattle.member_node.proofs.Common.{known, is_unchanged, OpenOperation, one_step_later, NoStore, step_of_take, after_entries, counted, is_answered_by, entry_digest, StandsForPosts, Each, Prepared, AreMade, TellsEntries, IsPrepared, replication, IsKept, LeadsTo, AreExactAt}
+use Rattle.member_node.proofs.Common.{AreDistinctKeys, known, is_unchanged, OpenOperation, one_step_later, NoStore, step_of_take, after_entries, counted, is_answered_by, entry_digest, StandsForPosts, Each, Prepared, AreMade, TellsEntries, IsPrepared, replication, IsKept, LeadsTo, AreExactAt}
 use Rattle.model_history.specs.Vector.{alone}
 use Rattle.model_members.specs.Step.{took}
 use Rattle.model_members.proofs.Taking.{after_entries-only}
@@ -13,6 +13,9 @@ use Rattle.member_node.specs.declared.input.Input.TheVariants as inputs
 use Rattle.member_messages.specs.declared.message.Message.TheVariants as messages
 use Rattle.member_node.proofs.Answerings.{taken_reply, take_fails, replies_stored}
 use Rattle.member_node.proofs.node.Node.answer_taken.Goals as goal
+
+pub merged-requires : goal.merged-requires
+merged-requires g c = record { distinct = subst AreDistinctKeys (sym c.deref.ensures.value) c.args.self.now.distinct }
 
 pub any_changed-requires : goal.any_changed-requires
 any_changed-requires g c =
@@ -32,7 +35,7 @@ returns g c =
             operations = counts_can code.operations c.args.from c.args.op test (λ end. Unit {0}) c.in_ok-counted.counted c.in_ok-counted.ensures.counts;
             pending = not_opened c.of_take-reply.result false c.any_changed.result [] c.of_take-reply.ensures ∙ sym (counts_opens_none (known code.operations) c.args.from c.args.op test (λ end. Unit {0}) c.in_ok-counted.counted c.in_ok-counted.ensures.counts);
           };
-      image = λ kinds logs node sent s i safe.
+      image = λ kinds logs node sent s i of_known safe.
           let S = g.T.SpelledData in
           let D = replication R S in
           let from = c.args.from in

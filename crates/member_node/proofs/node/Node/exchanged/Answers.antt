@@ -1,5 +1,5 @@
 use Rattle.std.proofs.Common.{None, get_or, refl, sym, ap, ◌∙◌, subst, map, option_map, if◌then◌else◌}
-use Rattle.member_node.proofs.Common.{known, Text, VersionVector, one_step_later, NoStore, step, step_of_take, answered, Each, Prepared, declared_by, AreOfTheirKinds, StandsForTaken, changed, AreMade, StandsForKey, IsPrepared, replication, IsKept, LeadsTo, AreHeld, AreExactAt}
+use Rattle.member_node.proofs.Common.{AreDistinctKeys, known, Text, VersionVector, one_step_later, NoStore, step, step_of_take, answered, Each, Prepared, declared_by, AreOfTheirKinds, StandsForTaken, changed, AreMade, StandsForKey, IsPrepared, replication, IsKept, LeadsTo, AreHeld, AreExactAt}
 use Rattle.model_members.specs.Node.Reply.{NotFromMember}
 use Rattle.member_node.specs.declared.operations.OperationChange.TheVariants.{Same as Unchanged}
 use Rattle.member_node.specs.Operations.{finished_meant}
@@ -10,6 +10,9 @@ use Rattle.member_node.specs.declared.input.Input.TheVariants as inputs
 use Rattle.member_node.proofs.Answerings.{take_fails, replies_stored}
 use Rattle.member_node.proofs.node.Node.exchanged.Goals as goal
 
+pub taken-requires : goal.taken-requires
+taken-requires g c = record { distinct = subst AreDistinctKeys (sym c.deref.ensures.value) c.args.self.now.distinct }
+
 pub returns : goal.returns
 returns g c =
     let R = g.T.Replica in
@@ -18,7 +21,7 @@ returns g c =
       sound =
           let made = subst (λ keys. AreMade (IsKept R.kind_of code.id) keys c.in_ok-taken.taken.changes) c.deref.ensures.value c.in_ok-taken.ensures.kept in
           sound_as code _ (sound_each R code.id code.steps code.keys.items (owned code) (IsKept R.kind_of code.id) (kept_changed R.kind_of code.id) c.in_ok-taken.taken.changes made) refl c.in_ok-taken.ensures.opens_none;
-      image = λ kinds logs node sent s i safe.
+      image = λ kinds logs node sent s i of_known safe.
           let D = replication R g.T.SpelledData in
           let changes = c.in_ok-taken.taken.changes in
           let keys_are = c.deref.ensures.value in

@@ -18,7 +18,7 @@ told o loaded table gives e = (subst (λ (o : Option Table). Gives o loaded) e g
 
 pub restored-requires-clause-distinct : goal.restored-requires-clause-distinct
 restored-requires-clause-distinct g c =
-    subst AreDistinctKeys (sym c.deref.ensures.value)
+    subst AreDistinctKeys (sym c.deref-2.ensures.value)
     (subst AreDistinct (sym (names_fresh c.in-Ok.states.items c.args.keys.now c.in-Ok.ensures.declared)) c.requires.distinct)
 
 pub invariant_of-result : goal.invariant_of-result
@@ -29,7 +29,7 @@ invariant_of-result g c =
       unpruned = unpruned_loaded g.T.Replica g.T.SpelledData c.args.id c.args.view c.in-Ok-load.loaded.items c.in-Ok-restored.keys.items c.in-Ok-restored.ensures.holds;
       logged = logged_loaded g.T.Replica g.T.SpelledData c.args.id c.args.view c.in-Ok-load.loaded.items c.in-Ok-restored.keys.items c.in-Ok-restored.ensures.holds;
       of_kinds = kinds_loaded g.T.Replica g.T.SpelledData c.args.id c.args.view c.in-Ok-load.loaded.items c.in-Ok-restored.keys.items c.in-Ok-restored.ensures.holds;
-      distinct = names_loaded c.in-Ok-restored.keys.items c.in-Ok.states.items (c.in-Ok-restored.ensures.declared ∙ ap (map declared_by) c.deref.ensures.value) distinct;
+      distinct = names_loaded c.in-Ok-restored.keys.items c.in-Ok.states.items (c.in-Ok-restored.ensures.declared ∙ ap (map declared_by) c.deref-2.ensures.value) distinct;
       few_steps = search rules;
       few_limit = omega arith;
       few_operations = search rules;
@@ -44,7 +44,7 @@ returns-in-Ok-restored-clause-stands g c = λ kinds logs table store e of_kinds 
     let fresh = c.in-Ok.states.items in
     let states = c.in-Ok-restored.keys.items in
     let distinct : AreDistinctKeys fresh = subst AreDistinct (sym (names_fresh fresh c.args.keys.now c.in-Ok.ensures.declared)) c.requires.distinct in
-    let same = c.in-Ok-restored.ensures.declared ∙ ap (map declared_by) c.deref.ensures.value in
+    let same = c.in-Ok-restored.ensures.declared ∙ ap (map declared_by) c.deref-2.ensures.value in
     let loaded = told (g.K.Keeper.table c.args.keeper) c.in-Ok-load.loaded.items table c.in-Ok-load.ensures.loaded e in
     let holds : All (HoldsKept R S c.args.id c.args.view table) states = subst (λ (kept : List Stored). All (HoldsKept R S c.args.id c.args.view kept) states) loaded c.in-Ok-restored.ensures.holds in
     declared_keys R.kind_of R.IsDataOf kinds logs _ c.args.id c.args.view store fresh c.args.keys.now c.in-Ok.ensures.declared
@@ -56,8 +56,8 @@ returns-in-Ok-restored-clause-sound g c = λ table e.
     let R = g.T.Replica in
     let S = g.T.SpelledData in
     let loaded = told (g.K.Keeper.table c.args.keeper) c.in-Ok-load.loaded.items table c.in-Ok-load.ensures.loaded e in
-    let sound : AreSound R S c.deref.result.now c.args.id c.args.view.given table = subst (AreSound R S c.deref.result.now c.args.id c.args.view.given) loaded c.in-Ok-restored.ensures.sound in
-    sound_alike R S c.deref.result.now c.in-Ok-restored.keys.items (sym c.in-Ok-restored.ensures.declared) c.args.id c.args.view.given table sound
+    let sound : AreSound R S c.deref-2.result.now c.args.id c.args.view.given table = subst (AreSound R S c.deref-2.result.now c.args.id c.args.view.given) loaded c.in-Ok-restored.ensures.sound in
+    sound_alike R S c.deref-2.result.now c.in-Ok-restored.keys.items (sym c.in-Ok-restored.ensures.declared) c.args.id c.args.view.given table sound
 
 pub returns-in-Err-Damaged-clause-undamaged : goal.returns-in-Err-Damaged-clause-undamaged
 returns-in-Err-Damaged-clause-undamaged g c = λ kinds logs table store e of_kinds spells fit.
@@ -65,10 +65,10 @@ returns-in-Err-Damaged-clause-undamaged g c = λ kinds logs table store e of_kin
     let S = g.T.SpelledData in
     let fresh = c.in-Ok.states.items in
     let loaded = told (g.K.Keeper.table c.args.keeper) c.in-Ok-load.loaded.items table c.in-Ok-load.ensures.loaded e in
-    let first : IsFirstUnsound R S c.deref.result.now c.args.id c.args.view.given c.in-Ok-load.loaded.items c.in-Err-Damaged.key =
-    subst (λ (unfit : Unfit). IfDamaged unfit (IsFirstUnsound R S c.deref.result.now c.args.id c.args.view.given c.in-Ok-load.loaded.items)) c.in-Err-Damaged.field-0-is c.in-Err-Damaged.ensures.unfit in
+    let first : IsFirstUnsound R S c.deref-2.result.now c.args.id c.args.view.given c.in-Ok-load.loaded.items c.in-Err-Damaged.key =
+    subst (λ (unfit : Unfit). IfDamaged unfit (IsFirstUnsound R S c.deref-2.result.now c.args.id c.args.view.given c.in-Ok-load.loaded.items)) c.in-Err-Damaged.field-0-is c.in-Err-Damaged.ensures.unfit in
     let here : IsFirstUnsound R S fresh c.args.id c.args.view.given table c.in-Err-Damaged.key =
-    subst (λ keys. IsFirstUnsound R S keys c.args.id c.args.view.given table c.in-Err-Damaged.key) c.deref.ensures.value
-    (subst (λ (items : List Stored). IsFirstUnsound R S c.deref.result.now c.args.id c.args.view.given items c.in-Err-Damaged.key) loaded first) in
+    subst (λ keys. IsFirstUnsound R S keys c.args.id c.args.view.given table c.in-Err-Damaged.key) c.deref-2.ensures.value
+    (subst (λ (items : List Stored). IsFirstUnsound R S c.deref-2.result.now c.args.id c.args.view.given items c.in-Err-Damaged.key) loaded first) in
     never_unsound R S g.met.T.SpelledData.byte_means g.met.T.SpelledData.spelling_means g.met.T.Replica.data_unmentioned c.args.id c.args.view.given fresh kinds logs store
     (have_kinds kinds fresh c.args.keys.now c.in-Ok.ensures.declared of_kinds) (fit fresh c.in-Ok.ensures.declared) table c.in-Err-Damaged.key spells here

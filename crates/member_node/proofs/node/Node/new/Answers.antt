@@ -15,6 +15,6 @@ invariant_of-result g c = record {
   few_operations = search rules;
 }
 
-pub returns-in-Ok-clause-stands : goal.returns-in-Ok-clause-stands
-returns-in-Ok-clause-stands g c = λ kinds logs histories of_kinds.
+pub returns-in-Ok-of-clause-stands : goal.returns-in-Ok-of-clause-stands
+returns-in-Ok-of-clause-stands g c = λ kinds logs histories of_kinds.
     stands_first g.T.Replica.kind_of g.T.Replica.IsDataOf kinds logs _ c.args.keys.now c.args.view c.in-Ok.ensures.declared c.in-Ok.ensures.fresh c.requires.distinct histories of_kinds refl c.new.ensures refl

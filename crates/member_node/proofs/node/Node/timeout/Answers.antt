@@ -1,8 +1,8 @@
-use Rattle.std.proofs.Common.{refl}
+use Rattle.std.proofs.Common.{sym, subst}
 use Rattle.member_node.specs.declared.input.Input.TheVariants as input
-use Rattle.member_node.proofs.Answerings.{step_told}
+use Rattle.member_node.specs.Steps.{MakesStep}
 use Rattle.member_node.proofs.node.Node.timeout.Goals as goal
 
 pub returns-clause-step : goal.returns-clause-step
 returns-clause-step g c =
-    step_told g.T.SpelledData c.args.self.now c.step.new.self (input.Timeout c.args.op) c.in_ok-reply.field-0 _ c.of-answer.ensures refl refl c.in_ok-reply.ensures.step
+    subst (λ output. MakesStep g.T.SpelledData c.args.self.now (input.Timeout c.args.op) output c.step.new.self) (sym c.of.ensures) c.in_ok-output.ensures.step

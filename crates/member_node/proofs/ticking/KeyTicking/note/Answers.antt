@@ -1,4 +1,4 @@
-use Rattle.std.proofs.Common.{ap, ◌∙◌}
+use Rattle.std.proofs.Common.{ap, ◌∙◌, Some}
 use Rattle.std.proofs.lemmas.Result.{on_ok_weaker}
 use Rattle.member_node.proofs.Common.{number_at}
 use Rattle.base_vectors.specs.Vectors.{raised}
@@ -12,8 +12,8 @@ returns-clause-noted g c =
     on_ok_weaker c.push.result (λ pushed. noted_once c.args.log.now id c.args.pruned c.args.self.now _ c.if-not-pruned.false (record {
       next = c.in_ok-next.next;
       prunes = pushed;
-      before = ap (λ r. r.before) c.in_ok-next.ensures.record ∙ c.in_ok-before.ensures.same;
-      placeholder = ap (λ r. r.delta) c.in_ok-next.ensures.record;
+      before = c.in_ok-next.ensures.before ∙ ap Some c.in_ok-before.ensures.same;
+      placeholder = c.in_ok-next.ensures.delta;
       room = c.in_ok-next.ensures.room;
       known = c.in_ok-raise.ensures.ok ∙ ap (raised c.args.self.now.known id) own;
     })) c.push.ensures.ok

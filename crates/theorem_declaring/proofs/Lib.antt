@@ -1,0 +1,10 @@
+pub mod Lists
+pub mod Keys
+pub mod Untouched
+pub mod Taking
+pub mod Telling
+pub mod Counting
+pub mod Steps
+pub mod Stores
+pub mod Growing
+pub mod Loading
