@@ -1,7 +1,7 @@
 -- What a step has in common whatever the store does.
 --     entries_same        the entries after the step are the same
 --     same_stored, same_failed        the step is, but for what a failed store makes of it: the reply, an operation that was to be opened, and the acknowledgement of a write
-use Rattle.std.proofs.Common.{◌≡◌, ◌≢◌, ℕ, List, [], ◌∷◌, ◌++◌, refl, sym, ap, ◌∙◌, Bool, true, false, not, Option, Some, None, length, map, filter, find, if◌then◌else◌, nat_le, ◌==◌, ◌||◌, ◌&&◌, bytes_eq}
+use Rattle.std.proofs.Common.{◌≡◌, ◌≢◌, ℕ, List, [], ◌∷◌, ◌++◌, refl, sym, ap, ◌∙◌, Bool, true, false, not, Option, Some, None, is_some, length, map, filter, find, if◌then◌else◌, nat_le, ◌==◌, ◌||◌, ◌&&◌, bytes_eq}
 use Rattle.std.specs.List.{list_any}
 use Rattle.member_node.proofs.Common.{Text, View, is_member, is_unchanged, seen_by, with_action, Replication, OpenOperation, Stepped, state_of, key_state, one_step_later, needed, NoStore, step, step_of_take, answered, opened, gossip_to, answer_to, after_groups, after_entries, named_entries, is_answered_by, result_of, is_unchanged-same}
 use Rattle.model_history.specs.Vector.{members_of}
@@ -14,7 +14,7 @@ use Rattle.model_members.specs.Message.Message.{Deltas, Nack, Status, Gossip, Wr
 use Rattle.model_members.specs.Node.{KeyDecl, KeyState, Node, Finished, Input, Fate, Level, Reply, with_entry}
 use Rattle.model_members.specs.Node.Fate.{Stored, StoreFailed}
 use Rattle.model_members.specs.Node.Reply.{Done, Pending, Deleted, WrongKind, NotStored, Taken, NotFromMember, OldView, Installed, NotAPeer, Ticked, TickedNotStored, NotLeader, TimedOut, NoSuchOp}
-use Rattle.model_members.specs.Step.{KeyGap, take_reply, took, to_store, sent, nack_to, status_of, member_count, outcomes_of, entry_after_tick, keyed_option, is_changed, with_answer, value_reply, meaning_of}
+use Rattle.model_members.specs.Step.{KeyGap, take_reply, took, to_store, sent, nack_to, status_of, member_count, outcomes_of, entry_after_tick, keyed_option, write_answer, is_changed, with_answer, value_reply, meaning_of}
 use Rattle.model_members.proofs.Cases.{updated, updated_undeleted, updated_needing, updated_unless, got, got_needing, counted_for}
 
 -- WHAT A FAILED STORE MAKES OF A STEP
@@ -58,6 +58,11 @@ refused_gossip D i (e ∷ entries) wants = refl
 refused_nack : {Op : Type 0} {Kind Shown : Type 0} (D : Replication Kind Op Shown) (i : ℕ) (gaps : List KeyGap) → map refused_post (nack_to D i gaps) ≡ nack_to D i gaps
 refused_nack D i [] = refl
 refused_nack D i (gap ∷ gaps) = refl
+
+-- a write that is answered, or not
+refused_write : {Op : Type 0} {Kind Shown : Type 0} (D : Replication Kind Op Shown) (i op : ℕ) (b : Bool) → map refused_post (if b then answer_to D i (WriteAck op) else []) ≡ (if b then answer_to D i (WriteNack op) else [])
+refused_write D i op true = refl
+refused_write D i op false = refl
 
 -- a take that stores something, where the store fails
 failing_take : {Kind Op Shown : Type 0} (D : Replication Kind Op Shown) (before : Node Kind Op Shown) (gaps : List KeyGap) (unchanged : Bool) (next : Node Kind Op Shown) (posts : List (Post Op)) (ended : Option (Finished Shown))
@@ -194,7 +199,8 @@ module _ {Kind Op Shown : Type 0} (D : Replication Kind Op Shown) (node : Node K
   take_fails from (Gossip entries wants) =
       let after = after_entries later entries in
       took_fails after [] (gossip_to D from (named_entries D after wants) []) (gossip_to D from (named_entries D after wants) []) (refused_gossip D from (named_entries D after wants) [])
-  take_fails from (Write op key entry) = took_fails (after_entries later (record { key = key; item = entry } ∷ [])) [] (answer_to D from (WriteAck op)) (answer_to D from (WriteNack op)) refl
+  take_fails from (Write op key entry) =
+      took_fails (after_entries later (record { key = key; item = entry } ∷ [])) [] (write_answer D later from NoStore op key) (write_answer D later from StoreFailed op key) (refused_write D from op (is_some (key_state later key)))
   take_fails from (WriteAck op) =
       quiet (step_of_take D later from NoStore (WriteAck op)) (λ key. ap (λ (f : Text → Entry Op). f key) (acknowledged from (find (is_answered_by false op) node.open_operations)))
   take_fails from (WriteNack op) = quiet (step_of_take D later from NoStore (WriteNack op)) (λ key. refl)

@@ -17,4 +17,5 @@ pub mod Updates
 pub mod Restorings
 pub mod FromKeepers
 pub mod Ticks
+pub mod ToldInOrder
 pub mod Answerings

@@ -2,7 +2,7 @@
 -- What a step has to store, key by key.
 -- Replies that open an operation, and those of failed stores.
 -- A step that was prepared and carried out is one of the model.
-use Rattle.std.proofs.Common.{◌≡◌, ℕ, zero, suc, ◌+◌, ◌-◌, ◌<◌, ◌≤◌, take, take_all, Option, None, List, [], ◌∷◌, ◌++◌, length, get_or, refl, sym, ap, ◌∙◌, subst, arith, append_assoc, Bool, true, false, not, append-nil, map, filter, All, ◌&&◌, if◌then◌else◌, ◌≢◌, Some, unwrap_or, IsFalse}
+use Rattle.std.proofs.Common.{◌≡◌, ℕ, zero, suc, ◌+◌, ◌-◌, ◌<◌, ◌≤◌, take, take_all, Option, None, List, [], ◌∷◌, ◌++◌, length, get_or, refl, sym, ap, ◌∙◌, subst, arith, append_assoc, Bool, true, false, not, append-nil, map, filter, All, ◌&&◌, if◌then◌else◌, ◌≢◌, Some, unwrap_or}
 use Rattle.std.proofs.lemmas.List.{map-append, take_more}
 use Rattle.std.proofs.lemmas.List.Elements.{All-append}
 use Rattle.member_node.proofs.Common.{known, Text, History, VersionVector, IsTakenFrom, is_unchanged, is_unchanged-same, Envelope, StandsAfter, state_of, Stepped, step, Shown, Ghosts, Keeping, StandsForMessage, StandsForPosts, KeyState, declared_by, AreSpelled, Reply, meant, is_pending, Node, Prepared, Put, StandsForKey, StandsForNode, replication, StandsForOutput, IsStepOf, IsPrepared, IsSoundFor, Prepares, changed_operations, StandForOperations}
@@ -10,7 +10,7 @@ use Rattle.model_history.specs.History.{IsExactlyPruned}
 use Rattle.model_members.specs.Entry as model
 use Rattle.model_members.specs.Entry.{Entry}
 use Rattle.model_members.specs.Node as nodes
-use Rattle.model_members.specs.Step.{to_store, is_full}
+use Rattle.model_members.specs.Step.{to_store}
 use Rattle.model_members.specs.Message as sending
 use Rattle.model_members.specs.Message.{Message as Sent}
 use Rattle.model_members.specs.World.{FitsFate}
@@ -355,9 +355,9 @@ module _ {T K Kind Op Delta : Type 0} {ghosts : Ghosts T Kind Op Delta} {keeping
   -- THE STEP
   pub makes_step : (input : Input T Kind Op Delta ghosts) → Prepares spelling old input prepared → IsStepOf spelling old input fate (after_fate fate prepared.output) new
   makes_step input prepares = record {
-    image = λ kinds logs node sent s i of_known safe.
+    image = λ kinds logs node sent s i safe.
         let safe_before = safe_with logs (entries_same (replication ghosts spelling) node sent (meant_fate fate)) safe in
-        by_fate kinds logs node s sent (prepares kinds logs node sent s i of_known safe_before) fate refl c.kept;
+        by_fate kinds logs node s sent (prepares kinds logs node sent s i safe_before) fate refl c.kept;
     called = called_by fate c.kept;
     had_room = few;
     limit = c.limit;

@@ -2,8 +2,8 @@
 -- What a member stands for after it took a message.
 -- What a write and an answer bring: an entry that is told, or one that is passed over.
 -- Steps of gossip, in the model and at a member.
-use Rattle.std.proofs.Common.{◌≡◌, ℕ, List, get_or, refl, sym, ap, ◌∙◌, subst, true, false, Option, None, unwrap_or, if◌then◌else◌, ◌≢◌, [], ◌∷◌, length, cond, arith, suc, Bool, Some, map, find, option_map, nat_le, All, bytes_eq, not, ◌&&◌, ◌||◌, ◌==◌}
-use Rattle.member_node.proofs.Common.{known, uncleaned, Text, VersionVector, IdentitySet, History, at, versions, IsTakenFrom, is_member, Replication, one_step_later, OpenOperation, state_of, step, step_of_take, answered, after_entries, counted, answer_to, performed_in, Shown, Ghosts, Keeping, Envelope, StandsFor, parts_of, LogParts, StandsForLog, Message, StandsForKeyed, Keyed, Node, KeyState, Change, Flushed, Each, Prepared, changed, AreMade, StandsForKey, StandsForNode, changed_operations, StandForOperations, IsSoundPlan, LeadsOn, IsPrepared, StandsForOutput, IsKept, LeadsTo, AreHeld, declared_by, IsEntryPassedOver, HoldsKey, HasKey, is_unchanged, is_unchanged-same}
+use Rattle.std.proofs.Common.{◌≡◌, ℕ, List, get_or, refl, sym, ap, ◌∙◌, subst, true, false, Option, None, unwrap_or, if◌then◌else◌, [], ◌∷◌, length, cond, arith, suc, Bool, Some, map, find, option_map, is_some, nat_le, All, bytes_eq, not, ◌&&◌, ◌||◌, ◌==◌}
+use Rattle.member_node.proofs.Common.{known, uncleaned, Text, VersionVector, IdentitySet, History, at, versions, IsTakenFrom, is_member, Replication, one_step_later, OpenOperation, state_of, key_state, step, step_of_take, answered, after_entries, counted, answer_to, performed_in, Shown, Ghosts, Keeping, Envelope, StandsFor, parts_of, LogParts, StandsForLog, Message, StandsForKeyed, Keyed, Node, KeyState, Change, Flushed, Each, Prepared, changed, AreMade, StandsForKey, StandsForNode, changed_operations, StandForOperations, IsSoundPlan, LeadsOn, IsPrepared, StandsForOutput, IsKept, LeadsTo, AreHeld, declared_by, IsEntryPassedOver, HoldsKey, is_unchanged, is_unchanged-same}
 use Rattle.model_history.specs.Vector.{members_of}
 use Rattle.model_members.specs.Entry as model
 use Rattle.model_members.specs.Message as sending
@@ -12,7 +12,7 @@ use Rattle.model_members.specs.Node as nodes
 use Rattle.model_members.specs.Node.{Fate, Input}
 use Rattle.model_members.specs.Node.Reply.{NotFromMember, Done, NotAPeer, Already, Taken}
 use Rattle.model_members.specs.Step.{keyed_option, with_answer, sent, status_of, took}
-use Rattle.model_members.proofs.Cases.{counted_for}
+use Rattle.model_members.proofs.Cases.{counted_for, with_taken_entry}
 use Rattle.model_members.proofs.Taking.{is_changed-any}
 use Rattle.std.proofs.lemmas.List.Folds.{list_any_none}
 use Rattle.member_messages.specs.declared.message.Message.TheVariants.{Write, WriteAck, WriteNack, Read, ReadAnswer, Status}
@@ -22,10 +22,11 @@ use Rattle.member_node.specs.Keys.{HaveKinds}
 use Rattle.member_node.specs.Own.{IsLogged}
 use Rattle.member_node.specs.Planning.{new_entry}
 use Rattle.member_node.specs.Taking.{KeepsOwn, AreHeldBy}
-use Rattle.member_node.specs.Inputs.{TellsWrite, IsOfKnownKey, write_told, keyed_entry_of}
+use Rattle.member_node.specs.Inputs.{TellsWrite, write_told, keyed_entry_of}
 use Rattle.member_node.proofs.Takings.{kept_changed, undeclared_in, tells_one}
 use Rattle.member_node.proofs.Planned.{sound_each, leads_each, owned}
-use Rattle.member_node.proofs.Standing.{apart}
+use Rattle.member_node.proofs.Standing.{apart, find-map, slice_get-map}
+use Rattle.member_node.proofs.Declarings.{undeclared_names}
 use Rattle.member_node.proofs.Takings.TellsOne.{one_told, one_passed}
 
 -- A MEMBER AFTER IT TOOK A MESSAGE
@@ -137,10 +138,28 @@ module _ {T K Kind Op Delta : Type 0} {ghosts : Ghosts T Kind Op Delta} {keeping
 -- A WRITE AND AN ANSWER
 
 -- nothing that is brought changes nothing
-pub nothing_brought : {Kind Op : Type 0} (D : Replication Kind Op Shown) (node : nodes.Node Kind Op Shown) (from : ℕ) → step_of_take D node from Fate.NoStore (Sent.Deltas [] []) ≡ answered node Already
+nothing_brought : {Kind Op : Type 0} (D : Replication Kind Op Shown) (node : nodes.Node Kind Op Shown) (from : ℕ) → step_of_take D node from Fate.NoStore (Sent.Deltas [] []) ≡ answered node Already
 nothing_brought {Kind} D node from =
     ap (λ b. answered node (if not b then Already else Taken)) (is_changed-any node node ∙ list_any_none (λ (decl : nodes.KeyDecl Kind). not (is_unchanged (node.entries decl.name) (node.entries decl.name))) node.keys
     (λ k d within. ap not (is_unchanged-same (node.entries (get_or node.keys k d).name))))
+
+-- whether there is one, however it is told
+is_some-map : {X Y Z : Type 0} (f : X → Y) (g : Y → Z) (o : Option X) → is_some (option_map g (option_map f o)) ≡ is_some o
+is_some-map f g None = refl
+is_some-map f g (Some x) = refl
+
+-- an entry of a key that isn't declared is passed over
+module _ {T Kind Op Delta : Type 0} (ghosts : Ghosts T Kind Op Delta) (keys : List (KeyState T Kind Op Delta)) (keyed : Keyed (Envelope T Kind Op Delta)) where
+  pub passed_none : find (λ (state : KeyState T Kind Op Delta). bytes_eq state.name keyed.key) keys ≡ None → IsEntryPassedOver ghosts keys keyed
+  passed_none none k d within same = absurd (undeclared_names keyed.key keys none k (slice_get-map (λ (state : KeyState T Kind Op Delta). state.name) keys k d within ∙ ap Some same))
+
+  -- so the key of one that isn't is declared
+  known_found : (IsEntryPassedOver ghosts keys keyed → ⊥) → is_some (find (λ (state : KeyState T Kind Op Delta). bytes_eq state.name keyed.key) keys) ≡ true
+  known_found known = go (find (λ (state : KeyState T Kind Op Delta). bytes_eq state.name keyed.key) keys) (λ none. known (passed_none none))
+    where
+      go : (o : Option (KeyState T Kind Op Delta)) → (o ≡ None → ⊥) → is_some o ≡ true
+      go None some = absurd (some refl)
+      go (Some state) some = refl
 
 module _ {T Kind Op Delta : Type 0} (ghosts : Ghosts T Kind Op Delta) (kinds : Text → Kind) where
   -- an entry of the key's kind is passed over where no such key is declared
@@ -152,9 +171,16 @@ module _ {T Kind Op Delta : Type 0} (ghosts : Ghosts T Kind Op Delta) (kinds : T
       (apart state.name keyed.key (λ same. passed 0 state (omega arith) same (sym (of_kinds 0 state (omega arith)) ∙ ap kinds same ∙ sym kind)))
       ∙ none_named keys keyed kind (λ k d within. of_kinds (suc k) d (omega arith)) (λ k d within. passed (suc k) d (omega arith))
 
-  module _ (logs : Text → History Op) (keys : List (KeyState T Kind Op Delta)) (node : nodes.Node Kind Op Shown) (from op : ℕ) (key : Text) (envelope : Envelope T Kind Op Delta) (message : Sent Op) (w : TellsWrite ghosts kinds logs keys op key envelope message) where
+  module _ (logs : Text → History Op) (keys : List (KeyState T Kind Op Delta)) (node : nodes.Node Kind Op Shown) (declares : node.keys ≡ map declared_by keys) (from op : ℕ) (key : Text) (envelope : Envelope T Kind Op Delta) (message : Sent Op)
+      (w : TellsWrite ghosts kinds logs keys op key envelope message) where
     abbrev keyed : Keyed (Envelope T Kind Op Delta)
     keyed = record { key = key; item = envelope }
+
+    -- a write of an entry that isn't passed over is of a key that the model's member has
+    has_state : (IsEntryPassedOver ghosts keys keyed → ⊥) → is_some (key_state node key) ≡ true
+    has_state known =
+        ap (λ o. is_some (option_map (state_of node) o)) (ap (find (λ (decl : nodes.KeyDecl Kind). bytes_eq decl.name key)) declares ∙ find-map (λ (decl : nodes.KeyDecl Kind). bytes_eq decl.name key) declared_by keys)
+        ∙ is_some-map declared_by (state_of node) (find (λ (state : KeyState T Kind Op Delta). bytes_eq state.name key) keys) ∙ known_found ghosts keys keyed known
 
     -- the entry that a write brings is taken as it is told, unless it is passed over
     pub written_taken : (D : Replication Kind Op Shown) → (IsEntryPassedOver ghosts keys keyed → ⊥)
@@ -162,19 +188,22 @@ module _ {T Kind Op Delta : Type 0} (ghosts : Ghosts T Kind Op Delta) (kinds : T
     written_taken D known =
         elim (tells_one (StandsForKeyed ghosts.kind_of ghosts.IsDataOf kinds logs) (IsEntryPassedOver ghosts keys) keyed w.told_entries w.entries_stand) [
           | one_told y is s ↦
-              ap (step_of_take D node from Fate.NoStore) (w.is ∙ ap (write_told op) is) ∙ sym (ap (λ es. took D node (after_entries node es) Fate.NoStore [] (answer_to D from (Sent.WriteAck op))) is)
+              ap (step_of_take D node from Fate.NoStore) (w.is ∙ ap (write_told op) is)
+              ∙ ap (λ b. took D node (after_entries node (y ∷ [])) Fate.NoStore [] (if b then answer_to D from (Sent.WriteAck op) else [])) (ap (λ name. is_some (key_state node name)) s.same ∙ has_state known)
+              ∙ sym (ap (λ es. took D node (after_entries node es) Fate.NoStore [] (answer_to D from (Sent.WriteAck op))) is)
           | one_passed is passed ↦ absurd (known passed)
         ]
 
-    -- where it is passed over, nothing is brought
-    pub written_none : node.keys ≡ map declared_by keys → HaveKinds kinds keys → IsEntryPassedOver ghosts keys keyed → IsOfKnownKey node (Input.Take from message) → message ≡ Sent.Deltas [] []
-    written_none declares of_kinds passed of_known =
+    -- where it is passed over, nothing is brought, or an entry of a key that the model's member doesn't have either: it takes nothing, and answers nobody
+    pub written_none : (D : Replication Kind Op Shown) → HaveKinds kinds keys → IsEntryPassedOver ghosts keys keyed → step_of_take D node from Fate.NoStore message ≡ answered node Already
+    written_none D of_kinds passed =
         elim (tells_one (StandsForKeyed ghosts.kind_of ghosts.IsDataOf kinds logs) (IsEntryPassedOver ghosts keys) keyed w.told_entries w.entries_stand) [
           | one_told y is s ↦
-              let has : (kind : Kind) × HasKey node y.key kind = subst (λ m. IsOfKnownKey node (Input.Take from m)) (w.is ∙ ap (write_told op) is) of_known in
               let none = undeclared_in node keys y.key declares (ap (λ name. find (λ (state : KeyState T Kind Op Delta). bytes_eq state.name name) keys) s.same ∙ none_named keys keyed s.held.kind of_kinds passed) in
-              absurd (cc (none, has.1.1))
-          | one_passed is passed ↦ w.is ∙ ap (write_told op) is
+              ap (step_of_take D node from Fate.NoStore) (w.is ∙ ap (write_told op) is)
+              ∙ ap (λ o. took D node (with_taken_entry node (option_map (state_of node) o) y.item) Fate.NoStore [] (if is_some (option_map (state_of node) o) then answer_to D from (Sent.WriteAck op) else [])) none
+              ∙ nothing_brought D node from
+          | one_passed is passed ↦ ap (step_of_take D node from Fate.NoStore) (w.is ∙ ap (write_told op) is) ∙ nothing_brought D node from
         ]
 
 -- an entry under its key, by the words of both

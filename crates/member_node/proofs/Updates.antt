@@ -293,7 +293,7 @@ module _ {T K Kind Op Delta : Type 0} {ghosts : Ghosts T Kind Op Delta} {keeping
   -- a refusal
   pub prepares_refused : (told : Reply) → MeansUpdate ghosts code.id op at (Refused told) → prepared.plan ≡ Nothing → prepared.operations ≡ Same → prepared.output ≡ record { reply = told; posts = []; finished = None }
       → Prepares spelling code (input.Update key op level) prepared
-  prepares_refused told means nothing same output = λ kinds logs node sent s sent_is of_known safe.
+  prepares_refused told means nothing same output = λ kinds logs node sent s sent_is safe.
       let digest = entry_digest spelling.history_byte spelling.history_spelled in
       let count = ap (λ (v : View). needed (level_meant level) (length v.members)) s.view ∙ number in
       let held = held_at ghosts.kind_of ghosts.IsDataOf kinds logs code node s index at found.within is in
@@ -303,7 +303,7 @@ module _ {T K Kind Op Delta : Type 0} {ghosts : Ghosts T Kind Op Delta} {keeping
   module _ (entry : Envelope T Kind Op Delta) (next : NextRecord Delta) (own : IsOwnRecord ghosts code.id at entry next) (means : MeansUpdate ghosts code.id op at (Recorded entry next)) (plan : prepared.plan ≡ At index entry next) where
     -- a record that this member alone has to have
     pub prepares_done : n ≤ 1 → prepared.operations ≡ Same → prepared.output ≡ record { reply = reply.Done; posts = []; finished = None } → Prepares spelling code (input.Update key op level) prepared
-    prepares_done few same output = λ kinds logs node sent s sent_is of_known safe.
+    prepares_done few same output = λ kinds logs node sent s sent_is safe.
         let digest = entry_digest spelling.history_byte spelling.history_spelled in
         let count = ap (λ (v : View). needed (level_meant level) (length v.members)) s.view ∙ number in
         let held = held_at ghosts.kind_of ghosts.IsDataOf kinds logs code node s index at found.within is in
@@ -312,7 +312,7 @@ module _ {T K Kind Op Delta : Type 0} {ghosts : Ghosts T Kind Op Delta} {keeping
 
     -- one that others have to have
     pub prepares_pending : 1 < n → IsOpened code at.name false n (Write (length (known code.operations)) at.name entry) prepared → Prepares spelling code (input.Update key op level) prepared
-    prepares_pending more o = λ kinds logs node sent s sent_is of_known safe.
+    prepares_pending more o = λ kinds logs node sent s sent_is safe.
         let digest = entry_digest spelling.history_byte spelling.history_spelled in
         let count = ap (λ (v : View). needed (level_meant level) (length v.members)) s.view ∙ number in
         let held = held_at ghosts.kind_of ghosts.IsDataOf kinds logs code node s index at found.within is in

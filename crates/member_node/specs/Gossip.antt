@@ -4,9 +4,10 @@
 --     is_news, is_wanted        an entry that the other doesn't have alike, and one that the member doesn't
 --     news_of, wants_of, digests_of        what the model answers, and tells, of these keys
 --     TellsAlike, MeansComparison        of one key, in all logs
+--     after_told        digests without the first, where it is of a key
 --     ForHolders        what is so of all members of the model that hold the keys
 --     MeansNews, MeansWants, GossipsIfOk, AnswersDigestsIfOk, MeansDigests, MeansStatus        what is answered, and told
-use Rattle.std.specs.Prelude.{◌≡◌, ℕ, List, Bool, false, ◌&&◌, ◌||◌, not, Option, Some, None, is_some, map, filter, All, Result, IfOk}
+use Rattle.std.specs.Prelude.{◌≡◌, ℕ, List, [], ◌∷◌, Bool, false, if◌then◌else◌, ◌&&◌, ◌||◌, not, Option, Some, None, is_some, map, filter, All, Result, IfOk}
 use Rattle.std.specs.List.{AllZip}
 use Rattle.std.specs.Str.{bytes_eq}
 use Rattle.model_history.specs.Texts.{Text}
@@ -107,6 +108,11 @@ module _ {T Kind Op Delta : Type 0} (ghosts : Ghosts T Kind Op Delta) (spelling 
 
   abbrev pub MeansStatus : (to : ℕ) → List (KeyState T Kind Op Delta) → List (Post T Kind Op Delta ghosts) → Type 0
   MeansStatus to keys posts = ForHolders keys (λ D kinds logs node. StandsForPosts ghosts.kind_of ghosts.IsDataOf kinds logs posts (answer_to D to (status_of D node)))
+
+-- digests without the first, where it is of this key
+abbrev pub after_told : Text → List (Keyed (List ℕ)) → List (Keyed (List ℕ))
+after_told key [] = []
+after_told key (told ∷ digests) = if bytes_eq told.key key then digests else told ∷ digests
 
 -- entries and wants as a message, if there are any
 abbrev pub GossipsIfOk : {T Kind Op Delta E : Type 0} → (ghosts : Ghosts T Kind Op Delta) → (to : ℕ) → List (Keyed (Envelope T Kind Op Delta)) → List Text → Result (List (Post T Kind Op Delta ghosts)) E → Type 0

@@ -2,16 +2,13 @@
 --     Tells        items that stand for those of the model, but for some that are passed over
 --     StandsForTaken        a message, without what is of no declared key, or of another kind
 --     StandsForInput        an input
---     IsOfKnownKey        an input of the model that writes no key but a declared one
 use Rattle.std.specs.Prelude.{◌≡◌, ◌≢◌, ℕ, List, [], ◌∷◌, Option, Some, None, false, map, All}
 use Rattle.model_history.specs.Texts.{Text}
 use Rattle.model_members.specs.Entry as model
 use Rattle.model_members.specs.Message as sending
 use Rattle.model_members.specs.Message.{Message as Sent}
 use Rattle.model_members.specs.Node as nodes
-use Rattle.model_members.specs.Node.{HasKey}
 use Rattle.model_history.specs.History.{History}
-use Rattle.model_kinds.specs.declared.shown.Shown.{Shown}
 use Rattle.data_lattice.specs.declared.replica.Replica.{Ghosts}
 use Rattle.data_envelope.specs.declared.envelope.Envelope.{Envelope}
 use Rattle.data_envelope.specs.declared.group.Group.{Group}
@@ -114,8 +111,3 @@ module _ {T Kind Op Delta : Type 0} {ghosts : Ghosts T Kind Op Delta} (kinds : T
   StandsForInput (input.GossipTo id) sent = sent ≡ nodes.Input.GossipTo id
   StandsForInput input.PruneTick sent = sent ≡ nodes.Input.PruneTick
   StandsForInput (input.Timeout op) sent = sent ≡ nodes.Input.Timeout op
-
--- a write that is taken is of a key that the member of the model declares
-abbrev pub IsOfKnownKey : {Kind Op : Type 0} → nodes.Node Kind Op Shown → nodes.Input Op → Type 0
-IsOfKnownKey {Kind} node (nodes.Input.Take from (Sent.Write op key entry)) = (kind : Kind) × HasKey node key kind
-IsOfKnownKey node sent = Unit {0}

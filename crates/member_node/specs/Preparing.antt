@@ -11,7 +11,7 @@ use Rattle.member_node.specs.declared.node.Node.{Node}
 use Rattle.member_node.specs.declared.input.Input.{Input}
 use Rattle.member_node.specs.declared.plan.Prepared.{Prepared}
 use Rattle.member_node.specs.Members.{IsSafe, StandsForNode}
-use Rattle.member_node.specs.Inputs.{StandsForInput, IsOfKnownKey}
+use Rattle.member_node.specs.Inputs.{StandsForInput}
 use Rattle.member_node.specs.declared.reply.Output.{Output}
 use Rattle.member_node.specs.Steps.{replication, MakesStep}
 use Rattle.member_node.specs.Planning.{IsSoundPlan, IsPrepared}
@@ -30,7 +30,7 @@ module _ {T K Kind Op Delta : Type 0} {ghosts : Ghosts T Kind Op Delta} {keeping
   abbrev pub Prepares : Spelling T Kind Op Delta → Node T K Kind Op Delta ghosts keeping → Input T Kind Op Delta ghosts → Prepared T Kind Op Delta ghosts → Type 0
   Prepares spelling code input prepared =
       (kinds : Text → Kind) (logs : Text → History Op) (node : nodes.Node Kind Op Shown) (sent : nodes.Input Op) → StandsForNode ghosts.kind_of ghosts.IsDataOf kinds logs code node → StandsForInput kinds logs code.keys.items input sent
-      → IsOfKnownKey node sent → IsSafe logs (step (replication ghosts spelling) node sent nodes.Fate.NoStore).node → IsPrepared kinds logs code.keys.items (known code.operations) node (step (replication ghosts spelling) node sent nodes.Fate.NoStore) prepared
+      → IsSafe logs (step (replication ghosts spelling) node sent nodes.Fate.NoStore).node → IsPrepared kinds logs code.keys.items (known code.operations) node (step (replication ghosts spelling) node sent nodes.Fate.NoStore) prepared
 
   -- a step is made, for each input for which it was prepared
   abbrev pub MakesPrepared : Spelling T Kind Op Delta → Node T K Kind Op Delta ghosts keeping → Prepared T Kind Op Delta ghosts → Output T Kind Op Delta ghosts → Node T K Kind Op Delta ghosts keeping → Type 0

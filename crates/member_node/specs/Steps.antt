@@ -3,13 +3,13 @@
 --     KeepsTable        what the keeper's table is after the step
 --     IsImage        the step is that of a member of the model for which the member stands
 --     IsStepOf        it is so for all of them, in all logs
-use Rattle.std.specs.Prelude.{◌≡◌, ◌≢◌, ◌+◌, ◌<◌, ◌≤◌, List, ◌∷◌, [], ◌++◌, Bool, true, false, option_map, map, IsFalse, All, ◌⊎◌}
+use Rattle.std.specs.Prelude.{◌≡◌, ◌≢◌, ◌+◌, ◌<◌, ◌≤◌, List, ◌∷◌, [], ◌++◌, Bool, true, false, option_map, map, All, ◌⊎◌}
 use Rattle.model_history.specs.Texts.{Text}
 use Rattle.model_history.specs.History.{History}
 use Rattle.base_outside.specs.Causes.{Rose}
 use Rattle.model_members.specs.DataType.{Replication}
 use Rattle.model_members.specs.Node as nodes
-use Rattle.model_members.specs.Step.{step, is_full, to_store}
+use Rattle.model_members.specs.Step.{step, to_store}
 use Rattle.model_members.specs.World.{FitsFate}
 use Rattle.model_kinds.specs.declared.shown.Shown.{Shown}
 use Rattle.data_lattice.specs.declared.replica.Replica.{Ghosts}
@@ -28,7 +28,7 @@ use Rattle.member_node.specs.declared.reply.StepError.TheVariants.{HistoryFull, 
 use Rattle.member_node.specs.Keys.{declared_by}
 use Rattle.member_node.specs.Replies.{spelled_groups, meant, meant_fate}
 use Rattle.member_node.specs.Members.{IsSafe, StandsForNode, StandsForPosts}
-use Rattle.member_node.specs.Inputs.{StandsForInput, IsOfKnownKey}
+use Rattle.member_node.specs.Inputs.{StandsForInput}
 use Rattle.member_node.specs.Stores.{spelled_entry, IsKept}
 use Rattle.member_node.specs.Operations.{finished_meant}
 
@@ -95,11 +95,11 @@ module _ {T Kind Op Delta K : Type 0} {ghosts : Ghosts T Kind Op Delta} {keeping
       pub table : KeepsTable spelling keeping fate (to_store node (step (replication ghosts spelling) node sent (meant_fate fate)).node) old.keeper new.keeper
       pub kept : All (λ k. IsKept ghosts spelling k.kind (logs k.name) k.entry) (to_store node (step (replication ghosts spelling) node sent (meant_fate fate)).node)
 
-  -- WHAT A STEP DOES, in all logs and for all members of the model and inputs for which the member and the input stand, but a write of a key that the model's member doesn't declare
+  -- WHAT A STEP DOES, in all logs and for all members of the model and inputs for which the member and the input stand
   pub record IsStepOf (old : Node T K Kind Op Delta ghosts keeping) (input : Input T Kind Op Delta ghosts) (fate : Fate) (output : Output T Kind Op Delta ghosts) (new : Node T K Kind Op Delta ghosts keeping) : Type 0 where
     pub image : (kinds : Text → Kind) (logs : Text → History Op) (node : nodes.Node Kind Op Shown) (sent : nodes.Input Op)
         → StandsForNode ghosts.kind_of ghosts.IsDataOf kinds logs old node → StandsForInput kinds logs old.keys.items input sent
-        → IsOfKnownKey node sent → IsSafe logs (step (replication ghosts spelling) node sent (meant_fate fate)).node → IsImage kinds logs old fate output new node sent
+        → IsSafe logs (step (replication ghosts spelling) node sent (meant_fate fate)).node → IsImage kinds logs old fate output new node sent
     pub called : IsCalled keeping fate old.keeper new.keeper
     pub had_room : old.steps < old.limit
     pub counted : new.steps ≡ old.steps + 1

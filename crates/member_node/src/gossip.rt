@@ -1,6 +1,7 @@
 ghost use Rattle.std.specs.Prelude.{◌≡◌, ◌≤◌, ◌&&◌, ◌||◌, not, nat_eq, length, find, option_map, IfOk};
 ghost use Rattle.std.specs.Str.{bytes_eq};
-ghost use Rattle.member_node.specs.Gossip.{TellsAlike, MeansComparison, MeansNews, MeansWants, GossipsIfOk, AnswersDigestsIfOk, MeansDigests, MeansStatus};
+ghost use Rattle.member_node.specs.Keys.{AreDistinctKeys};
+ghost use Rattle.member_node.specs.Gossip.{TellsAlike, MeansComparison, after_told, MeansNews, MeansWants, GossipsIfOk, AnswersDigestsIfOk, MeansDigests, MeansStatus};
 
 use crate::key::KeyState;
 use base_bytes::{Items, Memory, Text};
@@ -65,6 +66,17 @@ fn compare<T: SpelledData>(
     Ok(compared(has_records, told.is_some(), is_alike))
 }
 
+/// The digests without the first, where it is of this key. Members tell their keys in one order, so that of the next key then
+/// comes first.
+fn after<'a>(digests: &'a [Keyed<Digest>], key: &Text) -> &'a [Keyed<Digest>]
+    ensures { result.now ≡ after_told key.now digests.now }
+{
+    match digests.split_first() {
+        Some((told, rest)) if told.key.as_str() == key.as_str() => rest,
+        _ => digests,
+    }
+}
+
 /// What a member answers to digests: entries, and keys that it wants.
 #[derive(Drop)]
 struct Differences<T: Replica> {
@@ -78,13 +90,16 @@ fn news<T: SpelledData>(
     keys: &[KeyState<T>],
     digests: &[Keyed<Digest>],
 ) -> Result<Differences<T>, Memory>
+    requires distinct { AreDistinctKeys keys.now }
     ensures entries { IfOk result (λ news. MeansNews T.Replica T.SpelledData.own keys.now digests.now news.entries) }
     ensures wants { IfOk result (λ news. MeansWants T.Replica T.SpelledData.own keys.now digests.now news.wants) }
 {
     let mut entries = Items::new(alloc);
     let mut wants = Items::new(alloc);
+    let mut rest = digests;
     for state in keys {
-        let comparison = compare(state, digests)?;
+        let comparison = compare(state, rest)?;
+        rest = after(rest, &state.name);
         if comparison.is_news {
             let key = state.name.copied();
             let item = state.entry.envelope().copy(alloc)?;
@@ -131,6 +146,7 @@ pub(crate) fn answer<T: SpelledData>(
     from: Id,
     digests: &[Keyed<Digest>],
 ) -> Result<Posts<T>, Memory>
+    requires distinct { AreDistinctKeys keys.now }
     ensures image { AnswersDigestsIfOk T.Replica T.SpelledData.own from keys.now digests.now result }
     ensures few { IfOk result (λ posts. length posts ≤ 1) }
 {

@@ -5,15 +5,15 @@
 //!
 //! - One step for each input (update and get at a level, take of a message, install of a view,
 //!   flush, gossip, tick, timeout of an operation). For every member of the model that the member
-//!   stands for, and every input of the model that the input stands for and that is no write of a
-//!   key that is not declared, in every log that holds the next entries' records and in which their
-//!   histories are exactly pruned: the member after the step stands for the model's next one after
-//!   the same input and what became of the store, the reply, the messages and the operation that
-//!   ended by it are the model's, and where the keeper tells its table, it tells it with the durable
-//!   entries that changed put in format 2, or as it was if the store failed. Nothing of another kind
-//!   than its key's, and nothing of an undeclared key, has any effect: a write of it stands for a
-//!   message that brings nothing, and is not acknowledged (`Node::step`, clause `step` (`IsStepOf`,
-//!   `TellsWrite`)).
+//!   stands for, and every input of the model that the input stands for, in every log that holds the
+//!   next entries' records and in which their histories are exactly pruned: the member after the step
+//!   stands for the model's next one after the same input and what became of the store, the reply,
+//!   the messages and the operation that ended by it are the model's, and where the keeper tells its
+//!   table, it tells it with the durable entries that changed put in format 2, or as it was if the
+//!   store failed. Nothing of another kind than its key's, and nothing of an undeclared key, has any
+//!   effect, and a write of it is not answered: it stands for a message that brings nothing, or for a
+//!   write of a key that the model's member doesn't declare and so doesn't answer (`Node::step`,
+//!   clause `step` (`IsStepOf`, `TellsWrite`)).
 //! - Each input has its own list of replies, and none but those is ever given; nothing but a message
 //!   that is taken ends an operation (`Node::step`, clauses `reply` (`CanReply`), `ends` (`CanEnd`)).
 //! - For each input there is a call with an answer of its own, `Node::update` and others. It makes the

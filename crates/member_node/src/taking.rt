@@ -35,6 +35,7 @@ fn compared<T: SpelledData>(
     from: Id,
     digests: &[Keyed<Digest>],
 ) -> Result<MessageTaken<T>, Memory>
+    requires distinct { AreDistinctKeys keys.now }
     ensures counted { IfOk result (λ taken. length taken.changes ≡ length keys.now) }
     ensures few { IfOk result (λ taken. length taken.output.posts ≤ 2) }
     ensures opens_none { IfOk result (λ taken. is_pending taken.output.reply ≡ false) }

@@ -234,6 +234,10 @@ module _ {Kind Op Shown : Type 0} (D : Replication Kind Op Shown) where
   abbrev pub took_deltas : Node Kind Op Shown → ℕ → Fate → AfterGroups Kind Op Shown → List (Keyed (Entry Op)) → Stepped Kind Op Shown
   took_deltas node from fate groups_in entries = took node (after_entries groups_in.node entries) fate groups_in.gaps (nack_to from groups_in.gaps)
 
+  -- a write is answered by whether it was stored; one of a key that isn't declared, of which nothing is kept, is not answered
+  abbrev pub write_answer : Node Kind Op Shown → ℕ → Fate → ℕ → Text → List (Post Op)
+  write_answer node from fate op key = if is_some (key_state node key) then answer_to from (if has_failed fate then WriteNack op else WriteAck op) else []
+
   -- a message from a member of the view
   abbrev pub step_of_take : Node Kind Op Shown → ℕ → Fate → Message Op → Stepped Kind Op Shown
   step_of_take node from fate (Deltas groups entries) = took_deltas node from fate (after_groups node groups) entries
@@ -243,7 +247,7 @@ module _ {Kind Op Shown : Type 0} (D : Replication Kind Op Shown) where
       let after = after_entries node entries in
       took node after fate [] (gossip_to from (named_entries after wants) [])
   step_of_take node from fate (Write op key entry) =
-      took node (after_entries node (record { key = key; item = entry } ∷ [])) fate [] (answer_to from (if has_failed fate then WriteNack op else WriteAck op))
+      took node (after_entries node (record { key = key; item = entry } ∷ [])) fate [] (write_answer node from fate op key)
   step_of_take node from fate (WriteAck op) = counted (answered node Taken) from (is_answered_by false op)
   step_of_take node from fate (WriteNack op) = answered node Taken
   step_of_take node from fate (Read op key) = sent node Taken (answer_to from (ReadAnswer op key (answered_entry (key_state node key))))

@@ -1,6 +1,6 @@
 -- A member with a part of the keys makes the step of one with all, and still uses only these.
 --     steps_alike        it is so for each input that speaks of these keys only, whatever the store does
-use Rattle.std.proofs.Common.{◌≡◌, ℕ, List, [], ◌∷◌, refl, sym, ap, ◌∙◌, subst, Bool, true, false, not, ◌&&◌, ◌||◌, Option, Some, None, inl, inr, map, filter, find, if◌then◌else◌, nat_lt, nat_le, length, ◌==◌, option_and_then}
+use Rattle.std.proofs.Common.{◌≡◌, ℕ, List, [], ◌∷◌, refl, sym, ap, ◌∙◌, subst, Bool, true, false, not, ◌&&◌, ◌||◌, Option, Some, None, inl, inr, map, filter, find, if◌then◌else◌, nat_lt, nat_le, length, ◌==◌, is_some, option_and_then}
 use Rattle.std.specs.List.{list_any}
 use Rattle.std.specs.Str.{bytes_eq}
 use Rattle.std.proofs.lemmas.Bool.{and_parts, not-true, cases_Bool}
@@ -15,7 +15,7 @@ use Rattle.model_members.specs.Message.Message.{Deltas, Nack, Status, Gossip, Wr
 use Rattle.model_members.specs.Node.{KeyDecl, KeyState, Node, Input, Fate, Level, OpenOperation, Stepped, key_state, needed, one_step_later, with_entry}
 use Rattle.model_members.specs.Node.Result.{Wrote}
 use Rattle.model_members.specs.Node.Reply.{Done, Deleted, WrongKind, NotStored, Taken, NotFromMember, OldView, Installed, NotAPeer, Ticked, TickedNotStored, NotLeader, TimedOut, NoSuchOp}
-use Rattle.model_members.specs.Step.{AfterGroups, KeyGap, step, step_of, step_of_take, counted, step_of_flush, after_groups, after_entries, named_entries, answered, opened, gossip_to, answer_to, is_answered_by, news_for, wanted_from, result_of, read_result, take_reply, took, took_deltas, sent, nack_to, status_of, member_count, outcomes_of, entry_after_tick, keyed_option, value_reply, meaning_of, has_failed}
+use Rattle.model_members.specs.Step.{AfterGroups, KeyGap, step, step_of, step_of_take, counted, step_of_flush, after_groups, after_entries, named_entries, answered, opened, gossip_to, answer_to, write_answer, is_answered_by, news_for, wanted_from, result_of, read_result, take_reply, took, took_deltas, sent, nack_to, status_of, member_count, outcomes_of, entry_after_tick, keyed_option, value_reply, meaning_of, has_failed}
 use Rattle.model_members.proofs.Cases.{updated, updated_undeleted, updated_needing, updated_unless, got, got_needing}
 use Rattle.model_members.proofs.FailedStores.{if_holds}
 use Rattle.base_bytes.proofs.TextLaws.{eq_texts}
@@ -152,6 +152,15 @@ module _ {Kind Op Shown : Type 0} (D : Replication Kind Op Shown) (part : List (
   option_items key None known = refl
   option_items key (Some entry) known = one_item key entry known
 
+  -- both answer a write of a known key
+  written : (from : ℕ) (fate : Fate) (op : ℕ) (key : Text) (entry : Entry Op) → knows part key ≡ true → Alike (step_of_take D node from fate (Write op key entry)) (step_of_take D other from fate (Write op key entry))
+  written from fate op key entry known =
+      let items : List (Keyed (Entry Op)) = record { key = key; item = entry } ∷ [] in
+      let answer = if has_failed fate then WriteNack op else WriteAck op in
+      subst (λ (posts : List (Post Op)). Alike (step_of_take D node from fate (Write op key entry)) (took D other (after_entries other items) fate [] posts))
+      (ap (λ (state : Option (KeyState Kind Op)). if is_some state then answer_to D from answer else []) (sym (state_known part node uses.is_part key known)))
+      (took_entries items fate (write_answer D node from fate op key) (one_item key entry known))
+
   take_alike : (from : ℕ) (fate : Fate) (m : Message Op) → m ≡ part_of (knows part) m → Alike (step_of_take D node from fate m) (step_of_take D other from fate m)
   take_alike from fate (Deltas groups entries) same = deltas_taken from fate groups entries (known_items part groups (cc same)) (known_items part entries (cc same))
   take_alike from fate (Nack keys) same = quiet (ap (λ (named : List (Keyed (Entry Op))). sent other Taken (gossip_to D from named [])) (named_alike D part node uses keys)) uses
@@ -160,7 +169,7 @@ module _ {Kind Op Shown : Type 0} (D : Replication Kind Op Shown) (part : List (
       (ap (λ (news : List (Keyed (Entry Op))). sent other Taken (gossip_to D from news (wanted_from D other digests))) (news_alike D part node uses digests)
       ∙ ap (λ (wants : List Text). sent other Taken (gossip_to D from (news_for D node digests) wants)) (wanted_alike D part node uses digests (known_items part digests (cc same)))) uses
   take_alike from fate (Gossip entries wants) same = gossip_taken from fate entries wants (known_items part entries (cc same))
-  take_alike from fate (Write op key entry) same = took_entries (record { key = key; item = entry } ∷ []) fate (answer_to D from (if has_failed fate then WriteNack op else WriteAck op)) (one_item key entry (its_key key (Write op key entry) (λ e. cc e) same))
+  take_alike from fate (Write op key entry) same = written from fate op key entry (its_key key (Write op key entry) (λ e. cc e) same)
   take_alike from fate (WriteAck op) same = counts_alike D part (answered node Taken) from (find (is_answered_by false op) node.open_operations) uses (λ o is. write_ends node op node.open_operations o is)
   take_alike from fate (WriteNack op) same = quiet refl uses
   take_alike from fate (Read op key) same = quiet (ap (λ (held : Option (Entry Op)). sent other Taken (answer_to D from (ReadAnswer op key held))) (read_alike D part node uses key)) uses

@@ -22,6 +22,7 @@ use Rattle.theorem_operations.specs.Finishing.{HasNotFailed, ClosesOther, Distur
 use Rattle.theorem_operations.proofs.Moments.{safe_at}
 use Rattle.theorem_operations.proofs.Calm.{IsCalm, calm_next}
 use Rattle.theorem_operations.proofs.Rounds.{link_case, post_grows, posts_grow, Later}
+use Rattle.theorem_operations.proofs.KnownWrites.{message_known}
 use Rattle.theorem_operations.proofs.Waiting.{LinkAfter, link_after, later_after, keeps_members, AllFit, fits_run, NodeFrom, node_from, Waits, IsQuestion, IsReplyTo, IsOverAt, GoesOn, goes_on, Answers, replied, answers_question, over_stays}
 use Rattle.theorem_operations.proofs.Waiting.LinkAfter.{Rests, MovesOn}
 use Rattle.theorem_operations.proofs.Waiting.NodeFrom.{Unmoved, Moved}
@@ -144,7 +145,7 @@ module _ {Kind Op Shown : Type 0} (D : Replication Kind Op Shown) where
           takes_question k message fate in_B e sent question =
               let r = (safe_at D members keys world calm.stands).views.all_run.runs t (ap (λ (v : View). is_member v t) calm.view ∙ member) in
               let old = r.0 in
-              let a = answers_question D i op reads key n old message fate (not_failed i t k fate e) (ap (λ (v : View). is_member v i) (calm.installed t old r.1) ∙ i_member) question in
+              let a = answers_question D i op reads key n old message fate (not_failed i t k fate e) (ap (λ (v : View). is_member v i) (calm.installed t old r.1) ∙ i_member) (message_known D members keys world calm.stands i t k message sent t old r.1) question in
               let links : next.links ≡ with_posts (moved_on world.links i t k) t (record { to = i; message = a.0 } ∷ []) =
               ap (λ (ev : Event Op). (happens D world ev).links) e ∙ delivery_links world i t k fate message old sent r.1 ∙ ap (with_posts (moved_on world.links i t k) t) a.1 in
               let same : moved_on world.links i t k t i ≡ world.links t i = moved_other world.links i t k t i other in

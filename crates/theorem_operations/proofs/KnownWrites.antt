@@ -1,23 +1,22 @@
--- A write that stands on a link is of a key that every member declares; so is one that a member takes.
-use Rattle.std.proofs.Common.{◌≡◌, ℕ, ◌<◌, List, ◌∷◌, [], ◌++◌, refl, sym, ap, subst, ◌∙◌, arith, Option, Some, None}
-use Rattle.std.specs.Prelude.{find, option_map}
+-- A write that stands on a link is of a key that every member declares, so each of them answers it.
+use Rattle.std.proofs.Common.{◌≡◌, ℕ, ◌<◌, List, ◌∷◌, [], refl, sym, ap, subst, ◌∙◌, arith, Option, Some, None}
+use Rattle.std.specs.Prelude.{true, find, is_some, option_map}
 use Rattle.std.specs.Str.{bytes_eq}
 use Rattle.model_history.specs.Texts.{Text}
 use Rattle.model_history.proofs.PruneLaws.{found}
 use Rattle.model_members.specs.Entry.{Entry}
 use Rattle.model_members.specs.DataType.{Replication}
-use Rattle.model_members.specs.Message.Message.{Write}
-use Rattle.model_members.specs.Node.{KeyDecl, Node, Level, Input, Fate, HasKey, state_of, one_step_later}
-use Rattle.model_members.specs.Node.Input.{Update, Take}
+use Rattle.model_members.specs.Message.{Message}
+use Rattle.model_members.specs.Message.Message.{Deltas, Nack, Status, Gossip, Write, WriteAck, WriteNack, Read, ReadAnswer}
+use Rattle.model_members.specs.Node.{KeyDecl, Node, Level, Input, Fate, HasKey, key_state, state_of, one_step_later}
+use Rattle.model_members.specs.Node.Input.{Update}
 use Rattle.model_members.specs.Step.{step}
-use Rattle.model_members.specs.World.{World, Event, Turn, start, run, happens, message_at, turn_of, IsLawful, AreLawful, IsRun}
+use Rattle.model_members.specs.World.{World, Event, start, run, happens, message_at, IsLawful, AreLawful, IsRun}
 use Rattle.model_members.proofs.Cases.{updated}
 use Rattle.theorem_runs.proofs.Keeping.{same_text}
 use Rattle.theorem_runs.proofs.Safety.{runs_are_safe}
 use Rattle.theorem_operations.proofs.Operations.{Tells}
-use Rattle.theorem_operations.proofs.Turns.{MakesStep, turn_makes}
-use Rattle.theorem_operations.proofs.Turns.MakesStep.{ByInput, ByDelivery}
-use Rattle.theorem_operations.proofs.Moments.{MessageFrom, Stands, brought, follows_at, lawful_rest, messages_follow, safe_at, stands_next, stands_start}
+use Rattle.theorem_operations.proofs.Moments.{MessageFrom, Stands, follows_at, messages_follow, safe_at, stands_next, stands_start}
 use Rattle.theorem_operations.proofs.Moments.MessageFrom.{OldOne, NewOne}
 
 module _ {Kind : Type 0} where
@@ -30,6 +29,11 @@ module _ {Kind : Type 0} where
   has_declared node key d =
       let name : d.0.name ≡ key = same_text d.0.name key (found (λ (x : KeyDecl Kind). bytes_eq x.name key) node.keys d.0 d.1) in
       (d.0.kind, (d.0.durable, d.1 ∙ (λ j. Some (record { name = name j; kind = d.0.kind; durable = d.0.durable }))))
+
+-- a write is of a key that the member declares
+abbrev pub IsOfKnown : {Kind Op Shown : Type 0} → Node Kind Op Shown → Message Op → Type 0
+IsOfKnown node (Write op key entry) = is_some (key_state node key) ≡ true
+IsOfKnown node message = Unit {0}
 
 module _ {Kind Op Shown : Type 0} (D : Replication Kind Op Shown) where
   -- an update of a key that isn't declared opens no operation
@@ -75,25 +79,21 @@ module _ {Kind Op Shown : Type 0} (D : Replication Kind Op Shown) where
           (known_after (start members keys) (stands_start D members keys is_run.some is_run.few) (λ from to index op key entry e. absurd (cc e)) events is_run.lawful)
 
       -- each running member declares the key of a write that stands on a link
-      pub write_known : (from to index op : ℕ) (key : Text) (entry : Entry Op) → message_at world from to index ≡ Some (Write op key entry) → (t : ℕ) (node : Node Kind Op Shown) → world.nodes t ≡ Some node → (kind : Kind) × HasKey node key kind
+      write_known : (from to index op : ℕ) (key : Text) (entry : Entry Op) → message_at world from to index ≡ Some (Write op key entry) → (t : ℕ) (node : Node Kind Op Shown) → world.nodes t ≡ Some node → (kind : Kind) × HasKey node key kind
       write_known from to index op key entry sent t node runs =
           let same = ((runs_are_safe D members keys events world is_run).views.running t node runs).keys in
           has_declared node key (subst (λ ks. IsDeclaredIn ks key) (sym same) (known_in_run from to index op key entry sent))
 
-      -- a member that takes a write declares its key
-      pub taken_known : (event : Event Op) → AreLawful D (start members keys) (events ++ event ∷ []) → (turn : Turn Kind Op Shown) → turn_of world event ≡ Some turn
-          → (from op : ℕ) (key : Text) (entry : Entry Op) → turn.input ≡ Take from (Write op key entry) → (kind : Kind) × HasKey turn.before key kind
-      taken_known event all turn turns from op key entry is = let there = turn_makes world event turn turns in by_event there.runs there.makes
-        where
-          lawful : IsLawful D world event
-          lawful = subst (λ (w : World Kind Op Shown). IsLawful D w event) (sym is_run.leads) (lawful_rest D (start members keys) events (event ∷ []) all).0
-
-          by_event : world.nodes turn.at ≡ Some turn.before → MakesStep world event turn.at turn.input turn.fate → (kind : Kind) × HasKey turn.before key kind
-          by_event runs (ByInput same) =
-              let given = subst (λ (e : Event Op). IsLawful D world e) same lawful in
-              let sent = brought D world turn.at from (Write op key entry) tt turn.input is given.0 in
-              write_known from turn.at sent.0 op key entry sent.1 turn.at turn.before runs
-          by_event runs (ByDelivery sender index message same sent taken) =
-              let told : ◌≡◌ {A = Input Op} (Take sender message) (Take from (Write op key entry)) = sym taken ∙ is in
-              let write : message ≡ Write op key entry = cc told in
-              write_known sender turn.at index op key entry (sent ∙ ap Some write) turn.at turn.before runs
+    -- a message that stands on a link is no write, or of a key that each running member declares
+    pub message_known : (world : World Kind Op Shown) → Stands D members keys world → (from to index : ℕ) (message : Message Op) → message_at world from to index ≡ Some message → (t : ℕ) (node : Node Kind Op Shown) → world.nodes t ≡ Some node → IsOfKnown node message
+    message_known world stands from to index (Write op key entry) sent t node runs =
+        let known = write_known stands.events world stands.is_run from to index op key entry sent t node runs in
+        ap (λ (found : Option (KeyDecl Kind)). is_some (option_map (state_of node) found)) known.1.1
+    message_known world stands from to index (Deltas groups entries) sent t node runs = tt
+    message_known world stands from to index (Nack names) sent t node runs = tt
+    message_known world stands from to index (Status digests) sent t node runs = tt
+    message_known world stands from to index (Gossip entries wants) sent t node runs = tt
+    message_known world stands from to index (WriteAck op) sent t node runs = tt
+    message_known world stands from to index (WriteNack op) sent t node runs = tt
+    message_known world stands from to index (Read op key) sent t node runs = tt
+    message_known world stands from to index (ReadAnswer op key entry) sent t node runs = tt

@@ -1,6 +1,6 @@
 -- What a step does to a member's operations, and what it posts: one look at each kind of input.
 use Rattle.std.proofs.Common.{◌≡◌, ℕ, zero, suc, ◌+◌, ◌<◌, ◌≤◌, List, [], ◌∷◌, ◌++◌, length, refl, sym, ap, subst, ◌∙◌, arith, Bool, true, false, Option, Some, None, inl, inr}
-use Rattle.std.specs.Prelude.{⊤, if◌then◌else◌, find, filter, map, not, ◌||◌, ◌&&◌, ◌==◌, nat_le, option_map}
+use Rattle.std.specs.Prelude.{⊤, if◌then◌else◌, find, filter, is_some, map, not, ◌||◌, ◌&&◌, ◌==◌, nat_le, option_map}
 use Rattle.std.specs.List.{AllByRecursion, list_any}
 use Rattle.std.specs.Str.{bytes_eq}
 use Rattle.std.proofs.lemmas.Bool.{leb-true, leb-false}
@@ -17,7 +17,7 @@ use Rattle.model_members.specs.Message.Message.{Deltas, Nack, Status, Gossip, Wr
 use Rattle.model_members.specs.Node.{KeyState, Node, OpenOperation, Finished, Level, Input, Fate, Stepped, key_state, needed, one_step_later, with_entry, KeyDecl, Reply, key_states, state_of}
 use Rattle.model_members.specs.Node.Input.{Update, Get, Take, Install, Flush, GossipTo, PruneTick, Timeout}
 use Rattle.model_members.specs.Node.Reply.{Taken}
-use Rattle.model_members.specs.Step.{AfterGroups, KeyGap, has_failed, is_group_passed_over, is_answered_by, with_answer, answered, opened, member_count, take_group, after_groups, after_entries, result_of, meaning_of, value_reply, took, nack_to, gossip_to, answer_to, keyed_option, answered_entry, step_of_take, deltas_for, is_behind, step_of_flush, step_of, step}
+use Rattle.model_members.specs.Step.{AfterGroups, KeyGap, has_failed, is_group_passed_over, is_answered_by, with_answer, answered, opened, member_count, take_group, after_groups, after_entries, result_of, meaning_of, value_reply, took, nack_to, gossip_to, answer_to, write_answer, keyed_option, answered_entry, step_of_take, deltas_for, is_behind, step_of_flush, step_of, step}
 use Rattle.model_members.proofs.Steps.{bytes_eq-same}
 use Rattle.model_members.proofs.Taking.{after_entries-only}
 use Rattle.model_members.proofs.Cases.{with_judged, with_taken_group, counted_for, accepted, updated, updated_needing, updated_unless, got, got_needing}
@@ -281,6 +281,9 @@ module _ {Kind Op Shown : Type 0} (D : Replication Kind Op Shown) where
     ack_posts op key entry after true = one_post (Take from (Write op key entry)) after (WriteNack op) (key, entry, refl)
     ack_posts op key entry after false = one_post (Take from (Write op key entry)) after (WriteAck op) (key, entry, refl)
 
+    answer_posts : (op : ℕ) (key : Text) (entry : Entry Op) (after : Node Kind Op Shown) (fate : Fate) → AllByRecursion (PostTells node after (Take from (Write op key entry))) (write_answer D node from fate op key)
+    answer_posts op key entry after fate = if_holds (AllByRecursion (PostTells node after (Take from (Write op key entry)))) (is_some (key_state node key)) _ _ (ack_posts op key entry after (has_failed fate)) tt
+
     acks : (op : ℕ) (o : OpenOperation) → find (is_answered_by false op) node.open_operations ≡ Some o → Counts node (Take from (WriteAck op)) from o
     acks op o e =
         let test = found (is_answered_by false op) node.open_operations o e in
@@ -307,7 +310,7 @@ module _ {Kind Op Shown : Type 0} (D : Replication Kind Op Shown) where
     tells_taken fate (Status digests) = quiet node (Take from (Status digests)) _ (same_ops node) refl (gossip_posts (Take from (Status digests)) node _ _)
     tells_taken fate (Gossip entries wants) = quiet node (Take from (Gossip entries wants)) _ (entries_same node entries) refl (gossip_posts (Take from (Gossip entries wants)) (after_entries node entries) _ [])
     tells_taken fate (Write op key entry) =
-        quiet node (Take from (Write op key entry)) _ (entries_same node (record { key = key; item = entry } ∷ [])) refl (ack_posts op key entry (after_entries node (record { key = key; item = entry } ∷ [])) (has_failed fate))
+        quiet node (Take from (Write op key entry)) _ (entries_same node (record { key = key; item = entry } ∷ [])) refl (answer_posts op key entry (after_entries node (record { key = key; item = entry } ∷ [])) fate)
     tells_taken fate (WriteAck op) = tells_counted node (Take from (WriteAck op)) from (answered node Taken) (same_ops node) refl refl (find (is_answered_by false op) node.open_operations) (acks op)
     tells_taken fate (WriteNack op) = still node (Take from (WriteNack op)) _
     tells_taken fate (Read op key) = quiet node (Take from (Read op key)) _ (same_ops node) refl (one_post (Take from (Read op key)) node (ReadAnswer op key (answered_entry D (key_state node key))) (refl, refl))

@@ -26,6 +26,7 @@ use Rattle.theorem_runs.proofs.Keeping.{if_tells}
 use Rattle.theorem_operations.specs.Quorum.{KeepsMembers}
 use Rattle.theorem_operations.proofs.Lists.{to_filter, to_map, find_only, in_front, in_end, first_true, both_true, same_number}
 use Rattle.theorem_operations.proofs.Turns.{MakesStep}
+use Rattle.theorem_operations.proofs.KnownWrites.{IsOfKnown}
 use Rattle.theorem_operations.proofs.Turns.MakesStep.{ByInput, ByDelivery}
 use Rattle.theorem_operations.specs.Finishing.{HasNotFailed, DisturbsNothing}
 use Rattle.theorem_operations.proofs.Operations.{Change, entries_same, step_tells}
@@ -304,11 +305,13 @@ module _ {Kind Op Shown : Type 0} (D : Replication Kind Op Shown) where
       replied t (Read m name) fate member r = absurd r
 
     -- a question is answered
-    pub answers_question : (node : Node Kind Op Shown) (message : Message Op) (fate : Fate) → HasNotFailed fate → is_member node.view i ≡ true → IsQuestion message
+    pub answers_question : (node : Node Kind Op Shown) (message : Message Op) (fate : Fate) → HasNotFailed fate → is_member node.view i ≡ true → IsOfKnown node message → IsQuestion message
         → (reply : Message Op) × ((step D node (Take i message) fate).output.posts ≡ record { to = i; message = reply } ∷ []) × IsReplyTo reply
-    answers_question node (Write m name entry) fate ok member q = (
+    answers_question node (Write m name entry) fate ok member known q = (
       WriteAck m,
-      ap (λ b. (if b then step_of_take D (one_step_later node) i fate (Write m name entry) else answered (one_step_later node) NotFromMember).output.posts) member ∙ ap (λ b. answer_to D i (if b then WriteNack m else WriteAck m)) (not_failed fate ok),
+      ap (λ b. (if b then step_of_take D (one_step_later node) i fate (Write m name entry) else answered (one_step_later node) NotFromMember).output.posts) member
+          ∙ ap (λ b. if b then answer_to D i (if has_failed fate then WriteNack m else WriteAck m) else []) known
+          ∙ ap (λ b. answer_to D i (if b then WriteNack m else WriteAck m)) (not_failed fate ok),
       (q.0, q.1),
     )
       where
@@ -316,15 +319,15 @@ module _ {Kind Op Shown : Type 0} (D : Replication Kind Op Shown) where
         not_failed NoStore ok = refl
         not_failed Stored ok = refl
         not_failed StoreFailed ok = absurd ok
-    answers_question node (Read m name) fate ok member q = (
+    answers_question node (Read m name) fate ok member known q = (
       ReadAnswer m name (answered_entry D (key_state (one_step_later node) name)),
       ap (λ b. (if b then step_of_take D (one_step_later node) i fate (Read m name) else answered (one_step_later node) NotFromMember).output.posts) member,
       (q.0, q.1, q.2),
     )
-    answers_question node (Deltas groups entries) fate ok member q = absurd q
-    answers_question node (Nack keys) fate ok member q = absurd q
-    answers_question node (Status digests) fate ok member q = absurd q
-    answers_question node (Gossip entries wants) fate ok member q = absurd q
-    answers_question node (WriteAck m) fate ok member q = absurd q
-    answers_question node (WriteNack m) fate ok member q = absurd q
-    answers_question node (ReadAnswer m name entry) fate ok member q = absurd q
+    answers_question node (Deltas groups entries) fate ok member known q = absurd q
+    answers_question node (Nack keys) fate ok member known q = absurd q
+    answers_question node (Status digests) fate ok member known q = absurd q
+    answers_question node (Gossip entries wants) fate ok member known q = absurd q
+    answers_question node (WriteAck m) fate ok member known q = absurd q
+    answers_question node (WriteNack m) fate ok member known q = absurd q
+    answers_question node (ReadAnswer m name entry) fate ok member known q = absurd q

@@ -29,7 +29,7 @@ use Rattle.member_node.specs.declared.reply.Fate as done
 use Rattle.member_node.specs.declared.reply.Output.{Output}
 use Rattle.member_node.specs.Declaring.{IsDeclared}
 use Rattle.member_node.specs.Forgetting.{StandsForgetting}
-use Rattle.member_node.specs.Inputs.{StandsForInput, IsOfKnownKey}
+use Rattle.member_node.specs.Inputs.{StandsForInput}
 use Rattle.member_node.specs.Keys.{declared}
 use Rattle.member_node.specs.Members.{StandsForNode}
 use Rattle.member_node.specs.Replies.{meant_fate}
@@ -141,7 +141,6 @@ module _ {T K Kind Delta : Type 0} {ghosts : Ghosts T Kind Op Delta} {keeping : 
   pub record Gives : Type 0 where
     pub taken : Input Op
     pub stands : StandsForInput kinds logs old.keys.items given taken
-    pub of_known : (node : nodes.Node Kind Op Shown) → IsOfKnownKey (with_keys (declared_keys old) node) taken
     pub alike : AreAlike (lasting ghosts spelling) (declared_keys old) at taken sent
 
 module _ {T K Kind Delta : Type 0} {ghosts : Ghosts T Kind Op Delta} {keeping : Keeping K} (spelling : Spelling T Kind Op Delta) (kinds : Text → Kind) (logs : Text → History Op) (forgotten : ℕ)

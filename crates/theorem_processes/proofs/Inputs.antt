@@ -33,7 +33,7 @@ use Rattle.member_node.specs.declared.input.Input.TheVariants as form
 use Rattle.member_node.specs.declared.operation.Finished as ended
 use Rattle.member_node.specs.declared.reply.Fate as done
 use Rattle.member_node.specs.declared.reply.Output.{Output}
-use Rattle.member_node.specs.Inputs.{StandsForInput, IsOfKnownKey}
+use Rattle.member_node.specs.Inputs.{StandsForInput}
 use Rattle.member_node.specs.Keys.{declared}
 use Rattle.member_node.specs.Members.{StandsForMessage, StandsForPosts}
 use Rattle.member_node.specs.Operations.{finished_meant}
@@ -69,45 +69,28 @@ module _ {T Kind Delta : Type 0} {ghosts : Ghosts T Kind Op Delta} (views : List
     pub one : given_inputs given ≡ sent ∷ []
     pub stands : (kinds : Text → Kind) (logs : Text → History Op) (keys : List (KeyState T Kind Op Delta)) → StandsForInput kinds logs keys given sent
     pub is_given : (D : Replication Kind Op Shown) (world : worlds.World Kind Op Shown) (at : ℕ) → views_of world ≡ views → IsGiven D world at sent
-    pub of_known : (node : nodes.Node Kind Op Shown) → IsOfKnownKey node sent
     pub speaks : (keys : List (nodes.KeyDecl Kind)) → is_unknown (knows keys) given ≡ false → SpeaksOf keys sent
     pub another : (keys : List (nodes.KeyDecl Kind)) → is_unknown (knows keys) given ≡ true → IsForAnother keys sent
 
   -- one that is no command
   no_command : (given : given_input.Input T Kind Op Delta ghosts) (sent : Input Op) → given_inputs given ≡ sent ∷ [] → ((kinds : Text → Kind) (logs : Text → History Op) (keys : List (KeyState T Kind Op Delta)) → StandsForInput kinds logs keys given sent)
-      → ((D : Replication Kind Op Shown) (world : worlds.World Kind Op Shown) (at : ℕ) → views_of world ≡ views → IsGiven D world at sent) → ((node : nodes.Node Kind Op Shown) → IsOfKnownKey node sent) → ((keys : List (nodes.KeyDecl Kind)) → SpeaksOf keys sent)
+      → ((D : Replication Kind Op Shown) (world : worlds.World Kind Op Shown) (at : ℕ) → views_of world ≡ views → IsGiven D world at sent) → ((keys : List (nodes.KeyDecl Kind)) → SpeaksOf keys sent)
       → ((keys : List (nodes.KeyDecl Kind)) → is_unknown (knows keys) given ≡ false) → IsOneInput given
-  no_command given sent one stands is_given of_known speaks never =
-      record { sent = sent; one = one; stands = stands; is_given = is_given; of_known = of_known; speaks = λ keys e. speaks keys; another = λ keys e. absurd (let both = sym e ∙ never keys in cc both) }
+  no_command given sent one stands is_given speaks never =
+      record { sent = sent; one = one; stands = stands; is_given = is_given; speaks = λ keys e. speaks keys; another = λ keys e. absurd (let both = sym e ∙ never keys in cc both) }
 
   pub one_input : (given : given_input.Input T Kind Op Delta ghosts) → IsGivenFrom views given → IsOneInput given
   one_input (form.Update key op level) ok =
-      record {
-        sent = Input.Update key op (level_meant level);
-        one = refl;
-        stands = λ kinds logs keys. refl;
-        is_given = λ D world at e. tt;
-        of_known = λ node. tt;
-        speaks = λ keys e. known_so (knows keys key) e;
-        another = λ keys e. not_true (knows keys key) e;
-      }
+      record { sent = Input.Update key op (level_meant level); one = refl; stands = λ kinds logs keys. refl; is_given = λ D world at e. tt; speaks = λ keys e. known_so (knows keys key) e; another = λ keys e. not_true (knows keys key) e }
   one_input (form.Get key level) ok =
-      record {
-        sent = Input.Get key (level_meant level);
-        one = refl;
-        stands = λ kinds logs keys. refl;
-        is_given = λ D world at e. tt;
-        of_known = λ node. tt;
-        speaks = λ keys e. known_so (knows keys key) e;
-        another = λ keys e. not_true (knows keys key) e;
-      }
+      record { sent = Input.Get key (level_meant level); one = refl; stands = λ kinds logs keys. refl; is_given = λ D world at e. tt; speaks = λ keys e. known_so (knows keys key) e; another = λ keys e. not_true (knows keys key) e }
   one_input (form.Take from message) ok = absurd ok
   one_input (form.Install view) ok =
-      no_command (form.Install view) (Input.Install view) refl (λ kinds logs keys. refl) (λ D world at e. subst (λ (vs : List View). (k : ℕ) × (slice_get vs k ≡ Some view)) (sym e) ok) (λ node. tt) (λ keys. tt) (λ keys. refl)
-  one_input form.Flush ok = no_command form.Flush Input.Flush refl (λ kinds logs keys. refl) (λ D world at e. tt) (λ node. tt) (λ keys. tt) (λ keys. refl)
-  one_input (form.GossipTo to) ok = no_command (form.GossipTo to) (Input.GossipTo to) refl (λ kinds logs keys. refl) (λ D world at e. tt) (λ node. tt) (λ keys. tt) (λ keys. refl)
-  one_input form.PruneTick ok = no_command form.PruneTick Input.PruneTick refl (λ kinds logs keys. refl) (λ D world at e. tt) (λ node. tt) (λ keys. tt) (λ keys. refl)
-  one_input (form.Timeout op) ok = no_command (form.Timeout op) (Input.Timeout op) refl (λ kinds logs keys. refl) (λ D world at e. tt) (λ node. tt) (λ keys. tt) (λ keys. refl)
+      no_command (form.Install view) (Input.Install view) refl (λ kinds logs keys. refl) (λ D world at e. subst (λ (vs : List View). (k : ℕ) × (slice_get vs k ≡ Some view)) (sym e) ok) (λ keys. tt) (λ keys. refl)
+  one_input form.Flush ok = no_command form.Flush Input.Flush refl (λ kinds logs keys. refl) (λ D world at e. tt) (λ keys. tt) (λ keys. refl)
+  one_input (form.GossipTo to) ok = no_command (form.GossipTo to) (Input.GossipTo to) refl (λ kinds logs keys. refl) (λ D world at e. tt) (λ keys. tt) (λ keys. refl)
+  one_input form.PruneTick ok = no_command form.PruneTick Input.PruneTick refl (λ kinds logs keys. refl) (λ D world at e. tt) (λ keys. tt) (λ keys. refl)
+  one_input (form.Timeout op) ok = no_command (form.Timeout op) (Input.Timeout op) refl (λ kinds logs keys. refl) (λ D world at e. tt) (λ keys. tt) (λ keys. refl)
 
 -- WHAT COMES OF IT
 
@@ -187,7 +170,7 @@ module _ {T K Kind Delta : Type 0} {ghosts : Ghosts T Kind Op Delta} {keeping : 
     -- of a known key
     module _ (known : is_unknown (knows keys) given ≡ false) where
       abbrev gives_itself : (logs : Text → History Op) → Stand logs → Gives spelling kinds logs m.before at given one.sent
-      gives_itself logs s = record { taken = one.sent; stands = one.stands kinds logs m.before.keys.items; of_known = λ n. one.of_known (with_keys keys n); alike = λ n i asks f. record { node = refl; posts = refl } }
+      gives_itself logs s = record { taken = one.sent; stands = one.stands kinds logs m.before.keys.items; alike = λ n i asks f. record { node = refl; posts = refl } }
 
       abbrev may : IsGiven D world at one.sent
       may = one.is_given D world at views_are
@@ -213,7 +196,6 @@ module _ {T K Kind Delta : Type 0} {ghosts : Ghosts T Kind Op Delta} {keeping : 
           record {
             taken = one.sent;
             stands = one.stands kinds logs m.before.keys.items;
-            of_known = λ n. one.of_known (with_keys keys n);
             alike = λ n i asks f. record {
               node = ap (λ (x : Stepped Kind Op Shown). x.node) (refused n f) ∙ sym (ap (λ (x : Stepped Kind Op Shown). x.node) (instead n i f));
               posts = ap (λ (x : Stepped Kind Op Shown). x.output.posts) (refused n f) ∙ sym (ap (λ (x : Stepped Kind Op Shown). x.output.posts) (instead n i f));
@@ -270,7 +252,6 @@ module _ {T K Kind Delta : Type 0} {ghosts : Ghosts T Kind Op Delta} {keeping : 
         record {
           taken = Input.Take from takes.taken;
           stands = record { told = takes.taken; is = refl; message_stands = takes.stands };
-          of_known = λ n. takes.of_known n from;
           alike = λ n i asks f. record { node = ap (λ (x : Stepped Kind Op Shown). x.node) (takes.same D n asks from f); posts = ap (λ (x : Stepped Kind Op Shown). x.output.posts) (takes.same D n asks from f) };
         }
 

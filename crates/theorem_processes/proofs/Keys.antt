@@ -1,16 +1,16 @@
 -- Lists of keys, and parts of them.
 --     whole_is_part        all keys are a part of all
---     known_found, none_found        a known key, and an unknown one
+--     none_found        an unknown key
 --     asks_more        with one more key a member asks for known ones still
 --     rising_distinct        names that rise are distinct
-use Rattle.std.proofs.Common.{◌≡◌, ℕ, zero, suc, List, [], ◌∷◌, refl, sym, ap, subst, ◌∙◌, Bool, true, false, Option, Some, None, filter, find, if◌then◌else◌, bytes_eq}
+use Rattle.std.proofs.Common.{◌≡◌, ℕ, zero, suc, List, [], ◌∷◌, refl, sym, ap, subst, ◌∙◌, Bool, true, false, Some, None, filter, find, if◌then◌else◌, bytes_eq}
 use Rattle.std.specs.Prelude.{◌||◌, IsTrue, IsFalse, slice_get}
 use Rattle.std.specs.List.{list_all}
 use Rattle.base_bytes.specs.TextOrder.{IsBelowAll, IsRising}
 use Rattle.base_bytes.proofs.TextLaws.{lt_never}
 use Rattle.model_history.specs.Texts.{Text, text_lt}
 use Rattle.model_members.specs.Node.{KeyDecl, Node, OpenOperation, with_key}
-use Rattle.model_members.proofs.Steps.{bytes_eq-same, bytes_eq-tells}
+use Rattle.model_members.proofs.Steps.{bytes_eq-same}
 use Rattle.member_node.specs.Keys.{AreDistinct}
 use Rattle.theorem_declaring.specs.Parts.{knows, IsPart}
 use Rattle.theorem_declaring.proofs.Growing.{knows_with_key}
@@ -39,19 +39,6 @@ module _ {Kind : Type 0} where
 
   pub whole_is_part : (keys : List (KeyDecl Kind)) → IsPart keys keys
   whole_is_part keys = sym (filter_all (λ (decl : KeyDecl Kind). knows keys decl.name) keys (all_named keys keys (λ name there. there)))
-
-  -- a known key is declared with some kind
-  abbrev IsDeclared : Text → Option (KeyDecl Kind) → Type 0
-  IsDeclared key found = (kind : Kind) × ((durable : Bool) × (found ≡ Some (record { name = key; kind = kind; durable = durable })))
-
-  pub known_found : (keys : List (KeyDecl Kind)) (key : Text) → IsTrue (knows keys key) → IsDeclared key (find (λ (decl : KeyDecl Kind). bytes_eq decl.name key) keys)
-  known_found [] key there = absurd (cc there)
-  known_found (decl ∷ keys) key there = by (bytes_eq decl.name key) refl there (known_found keys key)
-    where
-      by : (b : Bool) → bytes_eq decl.name key ≡ b → (b || knows keys key) ≡ true → (IsTrue (knows keys key) → IsDeclared key (find (λ (d : KeyDecl Kind). bytes_eq d.name key) keys))
-          → IsDeclared key (if b then Some decl else find (λ (d : KeyDecl Kind). bytes_eq d.name key) keys)
-      by true e here later = (decl.kind, (decl.durable, ap (λ (name : Text). Some (record decl { name = name })) (bytes_eq-tells decl.name key e)))
-      by false e here later = later here
 
   pub none_found : (keys : List (KeyDecl Kind)) (key : Text) → find (λ (decl : KeyDecl Kind). bytes_eq decl.name key) keys ≡ None → IsFalse (knows keys key)
   none_found [] key none = refl

@@ -16,7 +16,7 @@ use Rattle.model_members.specs.Message.{Keyed, Message}
 use Rattle.model_members.specs.Message.Message.{Deltas, Nack, Status, Gossip, Write, WriteAck, WriteNack, Read, ReadAnswer}
 use Rattle.model_members.specs.Node.{KeyState, Node, Finished, Input, Fate, Level, OpenOperation, Stepped, key_state, needed, one_step_later, with_entry}
 use Rattle.model_members.specs.Node.Reply.{Done, Deleted, WrongKind, NotStored, Taken, NotFromMember, OldView, Installed, NotAPeer, Ticked, TickedNotStored, NotLeader, TimedOut, NoSuchOp}
-use Rattle.model_members.specs.Step.{AfterGroups, step, step_of_take, take_entry, take_group, after_groups, after_entries, named_entries, answered, opened, gossip_to, answer_to, is_answered_by, result_of, took, took_deltas, sent, nack_to, status_of, member_count, outcomes_of, entry_after_tick, keyed_option, with_answer, value_reply, meaning_of, has_failed, is_entry_passed_over, is_group_passed_over}
+use Rattle.model_members.specs.Step.{AfterGroups, step, step_of_take, take_entry, take_group, after_groups, after_entries, named_entries, answered, opened, gossip_to, answer_to, write_answer, is_answered_by, result_of, took, took_deltas, sent, nack_to, status_of, member_count, outcomes_of, entry_after_tick, keyed_option, with_answer, value_reply, meaning_of, has_failed, is_entry_passed_over, is_group_passed_over}
 use Rattle.model_members.proofs.Cases.{updated, updated_undeleted, updated_needing, updated_unless, got, got_needing, counted_for, with_taken_entry, with_taken_group, with_judged}
 
 module _ {Kind Op Shown : Type 0} where
@@ -178,7 +178,7 @@ module _ {Kind Op Shown : Type 0} (D : Replication Kind Op Shown) (node : Node K
       quiet (entries_end entries later) (ap (λ (n : Node Kind Op Shown). took D other n fate [] (gossip_to D from (named_entries D n wants) [])) (entries_alike entries later ends))
   take_alike from fate (Write op key entry) =
       let entries : List (Keyed (Entry Op)) = record { key = key; item = entry } ∷ [] in
-      quiet (entries_end entries later) (ap (λ (n : Node Kind Op Shown). took D other n fate [] (answer_to D from (if has_failed fate then WriteNack op else WriteAck op))) (entries_alike entries later ends))
+      quiet (entries_end entries later) (ap (λ (n : Node Kind Op Shown). took D other n fate [] (write_answer D later from fate op key)) (entries_alike entries later ends))
   take_alike from fate (WriteAck op) = counts D (answered later Taken) ends from (find (is_answered_by false op) node.open_operations)
   take_alike from fate (WriteNack op) = quiet refl refl
   take_alike from fate (Read op key) = quiet refl refl

@@ -122,7 +122,7 @@ module _ {T K Kind Delta : Type 0} {ghosts : Ghosts T Kind Op Delta} {keeping : 
         let f = meant_fate fate in
         let entries = entries_after spelling kinds logs (ps.forgotten at) m.before fate output after node sent at given before identity speaks g f in
         carried spelling kinds logs (ps.forgotten at) m.before fate output after node sent at given before identity speaks g
-        (m.makes.image kinds logs (part logs s) g.taken before.stands g.stands (g.of_known (with_ends before.ends node)) (safe_alike (step D node sent f).node (step D (part logs s) g.taken f).node entries safe))
+        (m.makes.image kinds logs (part logs s) g.taken before.stands g.stands (safe_alike (step D node sent f).node (step D (part logs s) g.taken f).node entries safe))
 
     -- the entries after the step are the same whatever the store did, so the step is the model's, and its fate fits
     fits : FitsFate D node sent (meant_fate fate)

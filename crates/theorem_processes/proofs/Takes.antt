@@ -26,13 +26,12 @@ use Rattle.member_messages.specs.declared.message.Message.{Message}
 use Rattle.member_messages.specs.declared.message.Message.TheVariants.{Deltas, Nack, Status, Gossip, Write, WriteAck, WriteNack, Read, ReadAnswer}
 use Rattle.member_messages.specs.Standing.{digest_told, StandsForKeyed, StandsForKeyedGroup}
 use Rattle.member_node.specs.declared.key.KeyState.{KeyState}
-use Rattle.member_node.specs.Inputs.{Tells, IsEntryPassedOver, IsGroupPassedOver, StandsForTaken, IsOfKnownKey}
+use Rattle.member_node.specs.Inputs.{Tells, IsEntryPassedOver, IsGroupPassedOver, StandsForTaken}
 use Rattle.member_node.specs.Inputs.Tells.{nothing, told, passed_over}
 use Rattle.member_node.specs.Keys.{declared_by}
 use Rattle.member_node.specs.Members.{StandsForMessage}
 use Rattle.theorem_declaring.specs.Parts.{knows, with_keys}
 use Rattle.theorem_processes.specs.Keys.{AsksOnly}
-use Rattle.theorem_processes.proofs.Keys.{known_found}
 use Rattle.theorem_processes.proofs.Messages.{status_part, unasked}
 use Rattle.theorem_processes.proofs.Parts.{no_state}
 
@@ -91,13 +90,12 @@ module _ {T Kind Delta : Type 0} {ghosts : Ghosts T Kind Op Delta} (kinds : Text
   pub record TakesPart (read : Message T Kind Op Delta ghosts) (sent : Sent Op) : Type 0 where
     pub taken : Sent Op
     pub stands : StandsForTaken kinds logs states read taken
-    pub of_known : (node : nodes.Node Kind Op Shown) (from : ℕ) → IsOfKnownKey (with_keys (keys states) node) (Input.Take from taken)
     pub same : (D : Replication Kind Op Shown) (node : nodes.Node Kind Op Shown) → AsksOnly (keys states) node → (from : ℕ) (fate : Fate) → step D (with_keys (keys states) node) (Input.Take from taken) fate ≡ step D (with_keys (keys states) node) (Input.Take from (part_of (known states) sent)) fate
 
   -- the message itself is taken
-  itself : (read : Message T Kind Op Delta ghosts) (sent : Sent Op) → part_of (known states) sent ≡ sent → StandsForTaken kinds logs states read sent → ((node : nodes.Node Kind Op Shown) (from : ℕ) → IsOfKnownKey (with_keys (keys states) node) (Input.Take from sent)) → TakesPart read sent
-  itself read sent whole stands of_known =
-      record { taken = sent; stands = stands; of_known = of_known; same = λ D node asks from fate. ap (λ (m : Sent Op). step D (with_keys (keys states) node) (Input.Take from m) fate) (sym whole) }
+  itself : (read : Message T Kind Op Delta ghosts) (sent : Sent Op) → part_of (known states) sent ≡ sent → StandsForTaken kinds logs states read sent → TakesPart read sent
+  itself read sent whole stands =
+      record { taken = sent; stands = stands; same = λ D node asks from fate. ap (λ (m : Sent Op). step D (with_keys (keys states) node) (Input.Take from m) fate) (sym whole) }
 
   -- an answer for a key that is not known brings nothing
   answers_nothing : (read : Message T Kind Op Delta ghosts) (op : ℕ) (key : Text) (entry : Option (model.Entry Op)) → IsFalse (known states key) → StandsForTaken kinds logs states read (Sent.ReadAnswer op key None) → TakesPart read (Sent.ReadAnswer op key entry)
@@ -105,7 +103,6 @@ module _ {T Kind Delta : Type 0} {ghosts : Ghosts T Kind Op Delta} (kinds : Text
       record {
         taken = Sent.ReadAnswer op key None;
         stands = stands;
-        of_known = λ node from. tt;
         same = λ D node asks from fate. takes_nothing states D node from fate op key unknown asks
             ∙ ap (λ (b : Bool). step D (with_keys (keys states) node) (Input.Take from (if_known (Sent.ReadAnswer op key entry) b)) fate) (sym unknown);
       }
@@ -122,16 +119,14 @@ module _ {T Kind Delta : Type 0} {ghosts : Ghosts T Kind Op Delta} (kinds : Text
           groups_stand = tells_part states (StandsForKeyedGroup kinds logs) (IsGroupPassedOver ghosts states) (group_passes ghosts kinds logs states) groups s.sent_groups s.groups_stand;
           entries_stand = tells_entries ghosts kinds logs states entries s.sent_entries s.entries_stand;
         };
-        of_known = λ node from. tt;
         same = λ D node asks from fate. refl;
       })
-  takes_part (Nack names) sent s = subst (TakesPart (Nack names)) (sym s) (itself (Nack names) (Sent.Nack names) refl refl (λ node from. tt))
+  takes_part (Nack names) sent s = subst (TakesPart (Nack names)) (sym s) (itself (Nack names) (Sent.Nack names) refl refl)
   takes_part (Status digests) sent s =
       subst (TakesPart (Status digests)) (sym s)
       (record {
         taken = Sent.Status (map digest_told digests);
         stands = refl;
-        of_known = λ node from. tt;
         same = λ D node asks from fate. takes_status states D node from fate (map digest_told digests);
       })
   takes_part (Gossip entries wants) sent s =
@@ -139,7 +134,6 @@ module _ {T Kind Delta : Type 0} {ghosts : Ghosts T Kind Op Delta} (kinds : Text
       (record {
         taken = part_of (known states) (Sent.Gossip s.sent_entries wants);
         stands = record { told_entries = filter (λ (y : sending.Keyed (model.Entry Op)). known states y.key) s.sent_entries; is = refl; entries_stand = tells_entries ghosts kinds logs states entries s.sent_entries s.entries_stand };
-        of_known = λ node from. tt;
         same = λ D node asks from fate. refl;
       })
   takes_part (Write op key envelope) sent s =
@@ -152,23 +146,21 @@ module _ {T Kind Delta : Type 0} {ghosts : Ghosts T Kind Op Delta} (kinds : Text
               entries_stand = told (record { key = key; item = envelope }) (record { key = key; item = s.entry }) [] [] (record { same = refl; held = s.held }) nothing;
               is = refl;
             })
-            (λ node from. known_found (keys states) key here)
         | inr other ↦
             record {
               taken = Sent.Deltas [] [];
               stands = record { told_entries = []; entries_stand = passed_over (record { key = key; item = envelope }) [] [] (entry_passes ghosts kinds logs states key (record { key = key; item = envelope }) refl other) nothing; is = refl };
-              of_known = λ node from. tt;
               same = λ D node asks from fate. ap (λ (b : Bool). step D (with_keys (keys states) node) (Input.Take from (if_known (Sent.Write op key s.entry) b)) fate) (sym other);
             }
       ])
-  takes_part (WriteAck op) sent s = subst (TakesPart (WriteAck op)) (sym s) (itself (WriteAck op) (Sent.WriteAck op) refl refl (λ node from. tt))
-  takes_part (WriteNack op) sent s = subst (TakesPart (WriteNack op)) (sym s) (itself (WriteNack op) (Sent.WriteNack op) refl refl (λ node from. tt))
-  takes_part (Read op key) sent s = subst (TakesPart (Read op key)) (sym s) (itself (Read op key) (Sent.Read op key) refl refl (λ node from. tt))
+  takes_part (WriteAck op) sent s = subst (TakesPart (WriteAck op)) (sym s) (itself (WriteAck op) (Sent.WriteAck op) refl refl)
+  takes_part (WriteNack op) sent s = subst (TakesPart (WriteNack op)) (sym s) (itself (WriteNack op) (Sent.WriteNack op) refl refl)
+  takes_part (Read op key) sent s = subst (TakesPart (Read op key)) (sym s) (itself (Read op key) (Sent.Read op key) refl refl)
   takes_part (ReadAnswer op key None) sent s =
       subst (TakesPart (ReadAnswer op key None)) (sym s)
       (let stands : StandsForTaken kinds logs states (ReadAnswer op key None) (Sent.ReadAnswer op key None) = record { entry = None; entries_stand = nothing; is = refl } in
       elim (cases_Bool (known states key)) [
-        | inl here ↦ itself (ReadAnswer op key None) (Sent.ReadAnswer op key None) (ap (if_known (Sent.ReadAnswer op key None)) here) stands (λ node from. tt)
+        | inl here ↦ itself (ReadAnswer op key None) (Sent.ReadAnswer op key None) (ap (if_known (Sent.ReadAnswer op key None)) here) stands
         | inr other ↦ answers_nothing (ReadAnswer op key None) op key None other stands
       ])
   takes_part (ReadAnswer op key (Some envelope)) sent s =
@@ -181,7 +173,6 @@ module _ {T Kind Delta : Type 0} {ghosts : Ghosts T Kind Op Delta} (kinds : Text
               entries_stand = told (record { key = key; item = envelope }) (record { key = key; item = s.entry }) [] [] (record { same = refl; held = s.held }) nothing;
               is = refl;
             })
-            (λ node from. tt)
         | inr other ↦
             answers_nothing (ReadAnswer op key (Some envelope)) op key (Some s.entry) other
             (record { entry = None; entries_stand = passed_over (record { key = key; item = envelope }) [] [] (entry_passes ghosts kinds logs states key (record { key = key; item = envelope }) refl other) nothing; is = refl })

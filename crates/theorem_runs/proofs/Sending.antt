@@ -1,6 +1,6 @@
 -- What a step sends and stores are entries that the member then holds, and groups of its own records.
 use Rattle.std.proofs.Common.{◌≡◌, ◌≢◌, ℕ, ◌+◌, ◌<◌, List, [], ◌∷◌, length, drop, map, refl, sym, ap, Bool, true, false, Option, Some, None}
-use Rattle.std.specs.Prelude.{if◌then◌else◌, find, filter, nat_le, not, ◌==◌, ◌&&◌, ◌||◌}
+use Rattle.std.specs.Prelude.{if◌then◌else◌, find, filter, is_some, nat_le, not, ◌==◌, ◌&&◌, ◌||◌}
 use Rattle.std.specs.List.{AllByRecursion, list_any}
 use Rattle.std.specs.Str.{bytes_eq}
 use Rattle.std.proofs.lemmas.Slice.Eq.{bytes_eq-Decides}
@@ -155,7 +155,9 @@ module _ {Kind Op Shown : Type 0} (D : Replication Kind Op Shown) where
   sends_taken node from fate (Nack keys) = from_gossip D node from _ [] (own_entries D node _)
   sends_taken node from fate (Status digests) = from_gossip D node from _ _ (own_entries D node _)
   sends_taken node from fate (Gossip entries wants) = from_gossip D (after_entries node entries) from _ [] (own_entries D (after_entries node entries) _)
-  sends_taken node from fate (Write op key entry) = (from_answer _ _ from (has_failed fate) op, tt)
+  sends_taken node from fate (Write op key entry) =
+      let after = after_entries node (record { key = key; item = entry } ∷ []) in
+      if_holds (AreFrom after.entries after.identity) (is_some (key_state node key)) _ _ (from_answer after.entries after.identity from (has_failed fate) op, tt) tt
   sends_taken node from fate (WriteAck op) = sends_counted (answered node Taken) from _ tt
   sends_taken node from fate (WriteNack op) = tt
   sends_taken node from fate (Read op key) = sends_read node from op key (key_state node key) refl

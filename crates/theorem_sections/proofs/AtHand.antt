@@ -33,6 +33,7 @@ use Rattle.theorem_operations.proofs.Opening.{all_members, each_or, found_at}
 use Rattle.theorem_operations.proofs.Rounds.{Later, link_case, post_grows, posts_grow}
 use Rattle.theorem_operations.proofs.Turns.{MakesStep}
 use Rattle.theorem_operations.proofs.Turns.MakesStep.{ByInput, ByDelivery}
+use Rattle.theorem_operations.proofs.KnownWrites.{message_known}
 use Rattle.theorem_operations.proofs.Waiting.{NodeFrom, node_from, later_after, Waits, IsQuestion, IsReplyTo, IsOverAt, GoesOn, goes_on, Answers, replied, answers_question, over_stays}
 use Rattle.theorem_operations.proofs.Waiting.NodeFrom.{Unmoved, Moved}
 use Rattle.theorem_operations.proofs.Waiting.GoesOn.{Ends, StillWaits}
@@ -180,7 +181,7 @@ module _ {Kind Op Shown : Type 0} (D : Replication Kind Op Shown) where
           takes_question k message fate other e there question =
               let r = (safe_at D members keys world calm.stands).views.all_run.runs t (ap (λ (v : View). is_member v t) calm.view ∙ member) in
               let old = r.0 in
-              let a = answers_question D i op reads key n old message fate (not_failed i t k fate e) (ap (λ (v : View). is_member v i) (calm.installed t old r.1) ∙ i_member) question in
+              let a = answers_question D i op reads key n old message fate (not_failed i t k fate e) (ap (λ (v : View). is_member v i) (calm.installed t old r.1) ∙ i_member) (message_known D members keys world calm.stands i t k message there t old r.1) question in
               let links : next.links ≡ with_posts (moved_on world.links i t k) t (record { to = i; message = a.0 } ∷ []) =
               ap (λ (ev : Event Op). (happens D world ev).links) e ∙ delivery_links world i t k fate message old there r.1 ∙ ap (with_posts (moved_on world.links i t k) t) a.1 in
               let same : moved_on world.links i t k t i ≡ world.links t i = moved_other world.links i t k t i other in

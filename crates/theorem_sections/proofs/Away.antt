@@ -1,6 +1,6 @@
 -- A member posts nothing to itself.
 use Rattle.std.proofs.Common.{◌≡◌, ◌≢◌, ⊎_elim, ℕ, ◌+◌, ◌<◌, ◌≤◌, List, [], ◌∷◌, ◌++◌, length, map, refl, sym, ap, subst, ◌∙◌, arith, true, false, cond, Option, Some, None}
-use Rattle.std.specs.Prelude.{◌==◌, ◌&&◌, ◌||◌, not, if◌then◌else◌, filter, find, nat_le, IsTrue}
+use Rattle.std.specs.Prelude.{◌==◌, ◌&&◌, ◌||◌, not, if◌then◌else◌, filter, find, is_some, nat_le, IsTrue}
 use Rattle.std.specs.List.{AllByRecursion, list_any}
 use Rattle.std.specs.Str.{bytes_eq}
 use Rattle.std.proofs.lemmas.Bool.{eqb-false, not-true}
@@ -102,7 +102,7 @@ module _ {Kind Op Shown : Type 0} (D : Replication Kind Op Shown) where
   goes_back node from fate (Nack keys) = gossip_back from _ []
   goes_back node from fate (Status digests) = gossip_back from _ _
   goes_back node from fate (Gossip entries wants) = gossip_back from _ []
-  goes_back node from fate (Write op key entry) = (refl, tt)
+  goes_back node from fate (Write op key entry) = if_holds (To from) (is_some (key_state node key)) _ _ (refl, tt) tt
   goes_back node from fate (WriteAck op) = counted_back (answered node Taken) from from _ tt
   goes_back node from fate (WriteNack op) = tt
   goes_back node from fate (Read op key) = (refl, tt)

@@ -1,7 +1,7 @@
 -- A member of the program that goes by the entries of its place stands for the model's member after the entries of its identity.
 --     Paired, by_place        entries of all places one by one, and of one place
 --     images_by_place        each entry of a history has its model entry there
---     IsFollowed, AreSafe        what inputs stand for in logs, that these hold the histories of a member on its way, and that it takes writes of declared keys
+--     IsFollowed, AreSafe        what inputs stand for in logs, and that these hold the histories of a member on its way
 --     goes_standing        the members stand for those of the model
 use Rattle.std.proofs.Common.{◌≡◌, ◌≢◌, ⊎_elim, ℕ, zero, suc, refl, sym, ap, subst, ◌∙◌, List, [], ◌∷◌, take, Option, Some}
 use Rattle.std.specs.Prelude.{⊤, if◌then◌else◌}
@@ -26,7 +26,7 @@ use Rattle.member_node.specs.declared.node.Node.{Node}
 use Rattle.member_node.specs.declared.reply.Fate.{Fate}
 use Rattle.member_node.specs.declared.reply.Output.{Output}
 use Rattle.member_node.specs.declared.reply.StepError.{StepError}
-use Rattle.member_node.specs.Inputs.{StandsForInput, IsOfKnownKey}
+use Rattle.member_node.specs.Inputs.{StandsForInput}
 use Rattle.member_node.specs.Members.{StandsForNode, IsSafe}
 use Rattle.member_node.specs.Replies.{meant_fate}
 use Rattle.member_node.specs.Steps.{replication, IsStepOf, IsUnchanged}
@@ -90,15 +90,15 @@ module _ {T K Kind Delta : Type 0} {ghosts : Ghosts T Kind Op Delta} {keeping : 
     pub fate : m.fate ≡ meant_fate e.fate
 
 module _ {Kind Op : Type 0} (D : Replication Kind Op Shown) (logs : Text → History Op) where
-  -- no entry writes an undeclared key, and the member is safe after each
+  -- the member is safe after each entry
   abbrev pub AreSafe : nodes.Node Kind Op Shown → List (Entry Op Shown) → Type 0
   AreSafe before [] = ⊤
-  AreSafe before (e ∷ entries) = IsOfKnownKey before e.input × IsSafe logs (step D before e.input e.fate).node × AreSafe (step D before e.input e.fate).node entries
+  AreSafe before (e ∷ entries) = IsSafe logs (step D before e.input e.fate).node × AreSafe (step D before e.input e.fate).node entries
 
   pub take_safe : (n : ℕ) (before : nodes.Node Kind Op Shown) (entries : List (Entry Op Shown)) → AreSafe before entries → AreSafe before (take n entries)
   take_safe zero before entries all = tt
   take_safe (suc n) before [] all = tt
-  take_safe (suc n) before (e ∷ entries) all = (all.0, all.1, take_safe n (step D before e.input e.fate).node entries all.2)
+  take_safe (suc n) before (e ∷ entries) all = (all.0, take_safe n (step D before e.input e.fate).node entries all.1)
 
 module _ {T K Kind Delta : Type 0} {ghosts : Ghosts T Kind Op Delta} {keeping : Keeping K} (kinds : Text → Kind) (logs : Text → History Op) where
   -- a member that refused an input stands for the same
@@ -123,5 +123,5 @@ module _ {T K Kind Delta : Type 0} {ghosts : Ghosts T Kind Op Delta} {keeping : 
   goes_standing now last _ (steps _ next _ e es s onward) member [] stands all safe = absurd all
   goes_standing now last _ (steps _ next _ e es s onward) member (m ∷ ms) stands all safe =
       let makes = steps_are now e.input e.fate e.output next s in
-      let image = makes.image kinds logs member m.input stands (all.0.input now.keys.items) safe.0 (subst (λ f. IsSafe logs (step D member m.input f).node) all.0.fate safe.1) in
-      goes_standing next last es onward (step D member m.input m.fate).node ms (subst (λ f. Stands next (step D member m.input f).node) (sym all.0.fate) image.stands) all.1 safe.2
+      let image = makes.image kinds logs member m.input stands (all.0.input now.keys.items) (subst (λ f. IsSafe logs (step D member m.input f).node) all.0.fate safe.0) in
+      goes_standing next last es onward (step D member m.input m.fate).node ms (subst (λ f. Stands next (step D member m.input f).node) (sym all.0.fate) image.stands) all.1 safe.1

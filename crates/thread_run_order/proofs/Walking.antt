@@ -427,7 +427,6 @@ module _ {T K Kind Delta : Type 0} {ghosts : Ghosts T Kind Op Delta} {keeping : 
                 let is : t.entered.node ≡ member = let e = sym t.entered.runs ∙ ap p.world.nodes (sym same) ∙ runs in cc e in
                 subst (λ n. AreSafe D logs n (entries_at k (y ∷ later.placed))) is
                 (subst (AreSafe D logs t.entered.node) (sym (entries_here k y later.placed (sym same))) (
-                  t.entered.known,
                   safe_next,
                   later.safe logs through_later k stepped.node (ap (λ (v : worlds.World Kind Op Shown). v.nodes k) t.entered.happened ∙ with_at_is p.world.nodes i (Some stepped.node) k same),
                 )))

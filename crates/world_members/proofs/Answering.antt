@@ -28,7 +28,7 @@ use Rattle.model_members.specs.DataType.{Replication}
 use Rattle.model_members.specs.Node.{Input, Fate, Stepped, KeyDecl, state_of, key_states}
 use Rattle.model_members.specs.Node.Fate.{NoStore, Stored, StoreFailed}
 use Rattle.model_members.specs.Step.{step, is_full, to_store}
-use Rattle.model_members.specs.World.{Event, Turn, turn_of, step_in, output_of, happens, stores, FitsFate, Links, with_posts, after_step, start, AreLawful, IsRun}
+use Rattle.model_members.specs.World.{Event, Turn, turn_of, step_in, output_of, happens, stores, FitsFate, Links, with_posts, after_step, IsRun}
 use Rattle.model_members.specs.Script.{Told, Playing, did, told, given, take_turn, output_lines, next_answer, with_call, answers_between, ScriptStep, IsStep, played}
 use Rattle.model_members.specs.Script.Answer.{Gone, HistoryFull, Replied}
 use Rattle.model_members.specs.Entry.{Entry, is_unchanged}
@@ -50,7 +50,7 @@ use Rattle.member_node.specs.declared.key.KeyState.{KeyState}
 use Rattle.member_node.specs.declared.reply.Output.{Output}
 use Rattle.member_node.specs.Keys.{AreDistinct, declared_by}
 use Rattle.member_node.specs.Replies.{meant_fate, program_steps}
-use Rattle.member_node.specs.Inputs.{StandsForInput, IsOfKnownKey}
+use Rattle.member_node.specs.Inputs.{StandsForInput}
 use Rattle.member_node.specs.Members.{StandsForNode, StandsForPosts, IsSafe}
 use Rattle.member_node.specs.Stores.{IsKept}
 use Rattle.member_node.specs.declared.reply.Fate.{Fate as Done}
@@ -75,7 +75,6 @@ use Rattle.world_members.specs.Steps.{Foretells, HaveAnswered, Reaches, Plays, R
 use Rattle.world_members.specs.Ways.{IsPrefix, Throughout, Means}
 use Rattle.world_members.specs.Places.{item_at, seat_of, keeper_of}
 use Rattle.world_members.proofs.FewSent.{few_posts, few_sent}
-use Rattle.world_members.proofs.Knowing.{knows_taken}
 use Rattle.world_members.proofs.Lists.{at_one}
 use Rattle.world_members.proofs.Seats.{item_found, seated_set}
 use Rattle.world_members.proofs.Linking.{same_told, links_sent}
@@ -357,13 +356,6 @@ module _ {T K Kind Delta : Type 0} {ghosts : Ghosts T Kind Op Delta} {keeping : 
       world_with : (f : Fate) → next ≡ taken_with D p head event i sent node (at.turns node work.runs) f → next.world ≡ after_step (record p.world { links = links }) i node f (step D node sent f)
       world_with f e = ap (λ (x : Playing Kind Op Shown). x.world) e ∙ world_taken D p head event i sent node (at.turns node work.runs) f ∙ at.happened node work.runs f
 
-      -- what is written is of a key that the member declares
-      pub known : IsOfKnownKey node sent
-      known =
-          let f = some_fate.0 in
-          let events : next.events ≡ p.events ++ event f ∷ [] = ap (λ (x : Playing Kind Op Shown). x.events) some_fate.1 ∙ events_taken D p head event i sent node (at.turns node work.runs) f in
-          knows_taken D members decls p m.run (event f) (subst (AreLawful D (start members decls)) events is_run.lawful) (record { at = i; before = node; input = sent; fate = f }) (at.turns node work.runs f)
-
       module _ (input_stands : StandsForInput kinds logs before.keys.items input sent) (through : Throughout D logs members decls next) where
         safe_with : (f : Fate) → next ≡ taken_with D p head event i sent node (at.turns node work.runs) f → IsSafe logs (step D node sent f).node
         safe_with f e =
@@ -375,7 +367,7 @@ module _ {T K Kind Delta : Type 0} {ghosts : Ghosts T Kind Op Delta} {keeping : 
         safe = safe_alike (step D node sent some_fate.0).node (step D node sent (meant_fate fate)).node (entries_same D node sent (meant_fate fate) ∙ sym (entries_same D node sent some_fate.0)) (safe_with some_fate.0 some_fate.1)
 
         pub image : IsImage spelling kinds logs before fate output after node sent
-        image = makes.image kinds logs node sent work.stands input_stands known safe
+        image = makes.image kinds logs node sent work.stands input_stands safe
 
         pub few : AreFew before.view input output.posts
         few =

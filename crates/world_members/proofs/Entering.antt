@@ -36,7 +36,7 @@ use Rattle.member_node.specs.declared.input.Input as given_input
 use Rattle.member_node.specs.declared.input.Input.TheVariants as form
 use Rattle.member_node.specs.declared.reply.Fate as done
 use Rattle.member_node.specs.declared.reply.Output.{Output}
-use Rattle.member_node.specs.Inputs.{StandsForInput, IsOfKnownKey}
+use Rattle.member_node.specs.Inputs.{StandsForInput}
 use Rattle.member_node.specs.Members.{StandsForPosts, StandsForMessage}
 use Rattle.member_node.specs.Operations.{finished_meant}
 use Rattle.member_node.specs.Replies.{meant, meant_fate}
@@ -59,7 +59,7 @@ use Rattle.world_members.specs.Sending.{messages_to, told_of, AreFew}
 use Rattle.world_members.specs.Standing.{StandsForLink, StandsForWorld}
 use Rattle.world_members.specs.Steps.{Foretells, Reaches}
 use Rattle.world_members.specs.Ways.{IsPrefix, Throughout, Means}
-use Rattle.world_members.proofs.Answering.{means_refused, given_at, has_room, image, known, next_is, reaches_made, answers_of, taken_with, world_taken, events_taken}
+use Rattle.world_members.proofs.Answering.{means_refused, given_at, has_room, image, next_is, reaches_made, answers_of, taken_with, world_taken, events_taken}
 use Rattle.world_members.proofs.Asking.{StandsAlways, asked_some, asks_so}
 use Rattle.world_members.proofs.Seats.{seated_set}
 use Rattle.world_members.proofs.Steps.{sent, stands_in, is_head, at_delivery, run_handing, more_handing}
@@ -148,7 +148,6 @@ module _ {T K Kind Delta : Type 0} {ghosts : Ghosts T Kind Op Delta} {keeping : 
     pub node : nodes.Node Kind Op Shown
     pub runs : p.world.nodes i ≡ Some node
     pub has_room : is_full (replication ghosts spelling) node ≡ false
-    pub known : IsOfKnownKey node sent
     pub fits : FitsFate (replication ghosts spelling) node sent (meant_fate fate)
     pub reply : (step (replication ghosts spelling) node sent (meant_fate fate)).output.reply ≡ meant output.reply
     pub posts : map told_of output.posts ≡ map sketched_post (step (replication ghosts spelling) node sent (meant_fate fate)).output.posts
@@ -200,7 +199,6 @@ module _ {T K Kind Delta : Type 0} {ghosts : Ghosts T Kind Op Delta} {keeping : 
           node = work.node;
           runs = work.runs;
           has_room = has_room spelling alike kinds members decls old new so means_so heading event is_run more i taken links at place before after changes input fate output makes logged.0 now;
-          known = known spelling alike kinds members decls old new so means_so heading event is_run more i taken links at place before after changes input fate output makes logged.0 now;
           fits = its_image.fate_fits;
           reply = sym its_image.answers.reply;
           posts = same_told kinds logged.0 output.posts (step D work.node taken (meant_fate fate)).output.posts its_image.answers.posts;

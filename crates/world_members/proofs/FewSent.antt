@@ -2,7 +2,7 @@
 --     few_posts        the member of the model
 --     few_sent        the member of the program, which stands for it
 use Rattle.std.proofs.Common.{◌≡◌, ℕ, ◌≤◌, suc, List, [], ◌∷◌, length, map, refl, sym, ap, ◌∙◌, subst, arith, Bool, true, false, Option, None, Some, get_or}
-use Rattle.std.specs.Prelude.{nat_le, if◌then◌else◌, filter, find, not, ◌==◌, ◌||◌, ◌&&◌}
+use Rattle.std.specs.Prelude.{is_some, nat_le, if◌then◌else◌, filter, find, not, ◌==◌, ◌||◌, ◌&&◌}
 use Rattle.std.specs.List.{list_any, list_all}
 use Rattle.std.specs.Str.{bytes_eq}
 use Rattle.std.proofs.lemmas.Bool.{eq-eqb}
@@ -208,13 +208,18 @@ module _ {Kind Op Shown : Type 0} (D : Replication Kind Op Shown) (node : Node K
 
   -- MESSAGES
 
+  -- a write is answered where its key is declared
+  one_write : (from : ℕ) (fate : Fate) (op : ℕ) (key : Text) (b : Bool) → IsOneTo from (if b then answer_to D from (if has_failed fate then WriteNack op else WriteAck op) else [])
+  one_write from fate op key true = (omega arith, to_itself from)
+  one_write from fate op key false = (omega arith, refl)
+
   -- at most one answer, to the sender
   one_answer : (from : ℕ) (fate : Fate) (message : Message Op) → IsOneTo from (step_of_take D later from fate message).output.posts
   one_answer from fate (Deltas groups entries) = one_nack D from _
   one_answer from fate (Nack keys) = one_gossip D from _ []
   one_answer from fate (Status digests) = one_gossip D from _ _
   one_answer from fate (Gossip entries wants) = one_gossip D from _ []
-  one_answer from fate (Write op key entry) = (omega arith, to_itself from)
+  one_answer from fate (Write op key entry) = one_write from fate op key (is_some (key_state later key))
   one_answer from fate (WriteAck op) =
       none_few (λ id. id == from) 1 (step_of_take D later from fate (WriteAck op)).output.posts (posts_counted D (answered later Taken) from (find (is_answered_by false op) node.open_operations))
   one_answer from fate (WriteNack op) = (omega arith, refl)

@@ -5,7 +5,6 @@ pub mod Starting
 pub mod Seats
 pub mod Linking
 pub mod Onward
-pub mod Knowing
 pub mod Answering
 pub mod FewSent
 pub mod Standings

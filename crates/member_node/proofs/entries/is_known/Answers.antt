@@ -1,9 +1,9 @@
-use Rattle.std.proofs.Common.{◌≡◌, ◌↔◌, ℕ, ◌<◌, List, length, map, get_or, Bool, true, false, Some, None, IsTrue, find, bytes_eq, refl, sym, ap, ◌∙◌, subst, arith, rules}
+use Rattle.std.proofs.Common.{◌≡◌, ◌↔◌, ℕ, ◌<◌, List, length, get_or, Bool, true, false, Some, IsTrue, bytes_eq, refl, sym, ap, ◌∙◌, subst, rules}
 use Rattle.std.proofs.lemmas.List.{get_or_default}
 use Rattle.member_node.proofs.Common.{Ghosts, Envelope, Keyed, KeyState, IsEntryPassedOver, AreOfTheirKinds, AreDistinctKeys, bytes_eq-tells}
 use Rattle.member_node.proofs.Lists.{IsFound, position-found, position-none}
 use Rattle.member_node.proofs.Standing.{slice_get-map}
-use Rattle.member_node.proofs.Declarings.{undeclared_names}
+use Rattle.member_node.proofs.TakingSteps.{passed_none}
 use Rattle.member_node.proofs.entries.is_known.Goals as goal
 
 module _ {T Kind Op Delta : Type 0} (ghosts : Ghosts T Kind Op Delta) (keys : List (KeyState T Kind Op Delta)) (keyed : Keyed (Envelope T Kind Op Delta)) where
@@ -12,10 +12,6 @@ module _ {T Kind Op Delta : Type 0} (ghosts : Ghosts T Kind Op Delta) (keys : Li
 
   abbrev name_of : KeyState T Kind Op Delta → List ℕ
   name_of state = state.name
-
-  -- a key that isn't declared
-  passed_none : find is_name keys ≡ None → IsEntryPassedOver ghosts keys keyed
-  passed_none none k d within same = absurd (undeclared_names keyed.key keys none k (slice_get-map name_of keys k d within ∙ ap Some same))
 
   -- a key that is, by its kind
   module _ (of_kinds : AreOfTheirKinds ghosts.kind_of keys) (distinct : AreDistinctKeys keys) (index : ℕ) (at : KeyState T Kind Op Delta) (found : IsFound is_name keys index) (is : at ≡ get_or keys index at) where

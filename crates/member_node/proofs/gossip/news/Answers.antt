@@ -1,10 +1,12 @@
-use Rattle.std.proofs.Common.{◌++◌, ◌∷◌, [], sym, ap, ◌∙◌, subst, arith, take, take_all, map}
+use Rattle.std.proofs.Common.{◌++◌, ◌∷◌, [], Some, find, sym, ap, ◌∙◌, subst, arith, take, take_all, map}
 use Rattle.std.specs.List.{AllZip}
+use Rattle.std.proofs.lemmas.Option.{slice_get-get_or}
 use Rattle.member_node.proofs.Common.{state_of, keyed_entry, Envelope, Keyed, digest_told, StandsForKeyed, declared_by, HoldsKey}
 use Rattle.model_members.specs.Node as nodes
 use Rattle.member_node.specs.Gossip.{is_news, is_wanted, news_of, wants_of}
 use Rattle.member_node.proofs.Lists.{one_more, zip_push}
 use Rattle.member_node.proofs.Sendings.{chosen_one, chosen_none, states_are, keyed_of}
+use Rattle.member_node.proofs.ToldInOrder.{is_of, find_after, names_apart, compared_alike}
 use Rattle.member_node.proofs.gossip.news.Goals as goal
 use Rattle.member_node.proofs.gossip.news.Goals.{then-comparison+in_ok-item+in_ok-push, else-comparison, then-comparison-2+in_ok-push-2, else-comparison-2}
 
@@ -16,11 +18,17 @@ loop-state-preserved g c =
     let i = c.loop-state.state-index in
     let state = c.state-item.result in
     let within = c.loop-state-test.true in
+    let standing = slice_get-get_or keys i state within ∙ ap Some (sym c.state-item.is) in
+    let left = c.loop-state.invariant.rest i state (omega arith) standing in
     record {
+      rest = λ k other beyond there.
+          c.loop-state.invariant.rest k other (omega arith) there
+          ∙ sym (find_after state.name other.name (names_apart keys c.requires.distinct i k state other standing there (omega arith)) c.loop-state.rest.now)
+          ∙ ap (find (is_of other.name)) (sym c.after-rest.ensures);
       entries = λ D kinds logs node same holds.
           let S = StandsForKeyed R.kind_of R.IsDataOf kinds logs in
           let here = subst (HoldsKey R.kind_of R.IsDataOf kinds logs node) (sym c.state-item.is) (holds i state within) in
-          let compared = c.in_ok-comparison.ensures D kinds logs node same here in
+          let compared = compared_alike D c.loop-state.rest.now c.args.digests.now (state_of node (declared_by state)) c.in_ok-comparison.comparison left (c.in_ok-comparison.ensures D kinds logs node same here) in
           let so_far = c.loop-state.invariant.entries D kinds logs node same holds in
           let more = ap (λ ks. news_of D ds (map (λ state. state_of node (declared_by state)) ks)) (one_more keys i state within c.state-item.is) in
           elim c.if-comparison.branch [
@@ -36,7 +44,7 @@ loop-state-preserved g c =
           ];
       wants = λ D kinds logs node same holds.
           let here = subst (HoldsKey R.kind_of R.IsDataOf kinds logs node) (sym c.state-item.is) (holds i state within) in
-          let compared = c.in_ok-comparison.ensures D kinds logs node same here in
+          let compared = compared_alike D c.loop-state.rest.now c.args.digests.now (state_of node (declared_by state)) c.in_ok-comparison.comparison left (c.in_ok-comparison.ensures D kinds logs node same here) in
           let so_far = c.loop-state.invariant.wants D kinds logs node same holds in
           let more = ap (λ ks. wants_of D ds (map (λ state. state_of node (declared_by state)) ks)) (one_more keys i state within c.state-item.is) in
           elim c.if-comparison-2.branch [

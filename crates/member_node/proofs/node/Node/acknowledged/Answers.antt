@@ -19,7 +19,7 @@ returns-clause-sound g c =
     }
 
 pub returns-clause-image : goal.returns-clause-image
-returns-clause-image g c = λ kinds logs node sent s i of_known safe.
+returns-clause-image g c = λ kinds logs node sent s i safe.
     let R = g.T.Replica in
     let D = replication R g.T.SpelledData in
     let code = c.args.self.now in

@@ -35,7 +35,7 @@ returns g c =
             operations = counts_can code.operations c.args.from c.args.op test (λ end. Unit {0}) c.in_ok-counted.counted c.in_ok-counted.ensures.counts;
             pending = not_opened c.of_take-reply.result false c.any_changed.result [] c.of_take-reply.ensures ∙ sym (counts_opens_none (known code.operations) c.args.from c.args.op test (λ end. Unit {0}) c.in_ok-counted.counted c.in_ok-counted.ensures.counts);
           };
-      image = λ kinds logs node sent s i of_known safe.
+      image = λ kinds logs node sent s i safe.
           let S = g.T.SpelledData in
           let D = replication R S in
           let from = c.args.from in

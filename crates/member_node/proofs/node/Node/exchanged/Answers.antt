@@ -21,7 +21,7 @@ returns g c =
       sound =
           let made = subst (λ keys. AreMade (IsKept R.kind_of code.id) keys c.in_ok-taken.taken.changes) c.deref.ensures.value c.in_ok-taken.ensures.kept in
           sound_as code _ (sound_each R code.id code.steps code.keys.items (owned code) (IsKept R.kind_of code.id) (kept_changed R.kind_of code.id) c.in_ok-taken.taken.changes made) refl c.in_ok-taken.ensures.opens_none;
-      image = λ kinds logs node sent s i of_known safe.
+      image = λ kinds logs node sent s i safe.
           let D = replication R g.T.SpelledData in
           let changes = c.in_ok-taken.taken.changes in
           let keys_are = c.deref.ensures.value in

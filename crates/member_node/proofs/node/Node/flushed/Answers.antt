@@ -17,7 +17,7 @@ returns g c =
           let members = c.deref-4.result.now in
           let made = subst (λ keys. AreMade (IsFlush code.id members) keys c.in_ok-changes.changes) c.deref-3.ensures.value c.in_ok-changes.ensures in
           sound_as code _ (sound_each R code.id code.steps code.keys.items (owned code) (IsFlush code.id members) (flush_keeps code.id members R.kind_of) c.in_ok-changes.changes made) refl refl;
-      image = λ kinds logs node sent s is of_known safe.
+      image = λ kinds logs node sent s is safe.
           let D = replication R g.T.SpelledData in
           let changes = c.in_ok-changes.changes in
           let made = subst (λ keys. AreMade (IsFlush code.id (identities_of code.view)) keys changes) c.deref-3.ensures.value

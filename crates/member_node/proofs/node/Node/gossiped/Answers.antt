@@ -12,7 +12,7 @@ pub returns-then-not-is_peer-clause-sound : goal.returns-then-not-is_peer-clause
 returns-then-not-is_peer-clause-sound g c = sound_told c.args.self.now c.reply.result reply.NotAPeer c.reply.ensures.plan c.reply.ensures.operations c.reply.ensures.output refl
 
 pub returns-then-not-is_peer-clause-image : goal.returns-then-not-is_peer-clause-image
-returns-then-not-is_peer-clause-image g c = λ kinds logs node sent s is of_known safe.
+returns-then-not-is_peer-clause-image g c = λ kinds logs node sent s is safe.
     let R = g.T.Replica in
     let D = replication R g.T.SpelledData in
     let code = c.args.self.now in
@@ -24,7 +24,7 @@ pub returns-clause-sound : goal.returns-clause-sound
 returns-clause-sound g c = sound_as c.args.self.now _ (sound_still c.args.self.now _ refl) refl refl
 
 pub returns-clause-image : goal.returns-clause-image
-returns-clause-image g c = λ kinds logs node sent s is of_known safe.
+returns-clause-image g c = λ kinds logs node sent s is safe.
     let R = g.T.Replica in
     let D = replication R g.T.SpelledData in
     let code = c.args.self.now in

@@ -46,7 +46,7 @@ pub returns-then-number-own-clause-sound : goal.returns-then-number-own-clause-s
 returns-then-number-own-clause-sound g c = sound_told c.args.self.now c.reply.result reply.OldView c.reply.ensures.plan c.reply.ensures.operations c.reply.ensures.output refl
 
 pub returns-then-number-own-clause-image : goal.returns-then-number-own-clause-image
-returns-then-number-own-clause-image g c = λ kinds logs node sent s is of_known safe.
+returns-then-number-own-clause-image g c = λ kinds logs node sent s is safe.
     let R = g.T.Replica in
     let D = replication R g.T.SpelledData in
     let code = c.args.self.now in
@@ -66,7 +66,7 @@ returns g c =
           let number = c.number-number.result in
           let made = subst (λ keys. AreMade (IsSeen R code.id number) keys c.in_ok-changes.changes) c.deref.ensures.value c.in_ok-changes.ensures in
           sound_as code _ (sound_each R code.id code.steps code.keys.items (owned code) (IsSeen R code.id number) (seen_keeps R code.id number) c.in_ok-changes.changes made) refl (ap (λ (o : Output g.row.T.Denot g.row.T-Kind.Denot g.row.T-Op.Denot g.row.T-Delta.Denot R). is_pending o.reply) c.told.ensures);
-      image = λ kinds logs node sent s is of_known safe.
+      image = λ kinds logs node sent s is safe.
           let D = replication R g.T.SpelledData in
           let view = c.args.view.now in
           let changes = c.in_ok-changes.changes in

@@ -13,7 +13,7 @@ pub returns-clause-sound : goal.returns-clause-sound
 returns-clause-sound g c = record { plan = sound_still c.args.self.now Nothing refl; operations = tt; pending = refl }
 
 pub returns-clause-image : goal.returns-clause-image
-returns-clause-image g c = λ kinds logs node input s i of_known safe.
+returns-clause-image g c = λ kinds logs node input s i safe.
     let R = g.T.Replica in
     let S = g.T.SpelledData in
     let D = replication R S in

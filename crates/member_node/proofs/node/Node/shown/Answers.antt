@@ -17,7 +17,7 @@ pub returns-in_default-clause-sound : goal.returns-in_default-clause-sound
 returns-in_default-clause-sound g c = sound_told c.args.self.now c.reply.result reply.UnknownKey c.reply.ensures.plan c.reply.ensures.operations c.reply.ensures.output refl
 
 pub returns-in_default-clause-image : goal.returns-in_default-clause-image
-returns-in_default-clause-image g c = λ kinds logs node sent s is of_known safe.
+returns-in_default-clause-image g c = λ kinds logs node sent s is safe.
     let R = g.T.Replica in
     let D = replication R g.T.SpelledData in
     let code = c.args.self.now in
@@ -30,7 +30,7 @@ pub returns-in_default-needed-clause-sound : goal.returns-in_default-needed-clau
 returns-in_default-needed-clause-sound g c = sound_told c.args.self.now c.reply-in_default-needed.result reply.TooFew c.reply-in_default-needed.ensures.plan c.reply-in_default-needed.ensures.operations c.reply-in_default-needed.ensures.output refl
 
 pub returns-in_default-needed-clause-image : goal.returns-in_default-needed-clause-image
-returns-in_default-needed-clause-image g c = λ kinds logs node sent s is of_known safe.
+returns-in_default-needed-clause-image g c = λ kinds logs node sent s is safe.
     let R = g.T.Replica in
     let S = g.T.SpelledData in
     let digest = entry_digest S.history_byte S.history_spelled in
@@ -47,7 +47,7 @@ pub returns-then-number-le1-clause-sound : goal.returns-then-number-le1-clause-s
 returns-then-number-le1-clause-sound g c = sound_told c.args.self.now c.reply-then-number-le1.result c.in_ok-reply.reply c.reply-then-number-le1.ensures.plan c.reply-then-number-le1.ensures.operations c.reply-then-number-le1.ensures.output c.in_ok-reply.ensures.quiet
 
 pub returns-then-number-le1-clause-image : goal.returns-then-number-le1-clause-image
-returns-then-number-le1-clause-image g c = λ kinds logs node sent s is of_known safe.
+returns-then-number-le1-clause-image g c = λ kinds logs node sent s is safe.
     let R = g.T.Replica in
     let S = g.T.SpelledData in
     let digest = entry_digest S.history_byte S.history_spelled in
@@ -76,7 +76,7 @@ returns g c =
       image =
           if_both (λ (prepared : Prepared g.row.T.Denot g.row.T-Kind.Denot g.row.T-Op.Denot g.row.T-Delta.Denot R). prepared.plan ≡ Nothing) (IsOpened code name true n message)
           (Prepares g.T.SpelledData code (input.Get c.args.key.now c.args.level)) c.read.result
-          (λ prepared plan o kinds logs node sent s is of_known safe.
+          (λ prepared plan o kinds logs node sent s is safe.
           let S = g.T.SpelledData in
           let digest = entry_digest S.history_byte S.history_spelled in
           let key = c.args.key.now in

@@ -14,7 +14,7 @@ pub returns-then-not-contains-clause-sound : goal.returns-then-not-contains-clau
 returns-then-not-contains-clause-sound g c = sound_told c.args.self.now c.reply.result reply.NotFromMember c.reply.ensures.plan c.reply.ensures.operations c.reply.ensures.output refl
 
 pub returns-then-not-contains-clause-image : goal.returns-then-not-contains-clause-image
-returns-then-not-contains-clause-image g c = λ kinds logs node sent s i of_known safe.
+returns-then-not-contains-clause-image g c = λ kinds logs node sent s i safe.
     let R = g.T.Replica in
     let D = replication R g.T.SpelledData in
     let code = c.args.self.now in
@@ -32,7 +32,7 @@ pub returns-in-WriteNack-clause-sound : goal.returns-in-WriteNack-clause-sound
 returns-in-WriteNack-clause-sound g c = sound_told c.args.self.now c.reply-in-WriteNack.result reply.Taken c.reply-in-WriteNack.ensures.plan c.reply-in-WriteNack.ensures.operations c.reply-in-WriteNack.ensures.output refl
 
 pub returns-in-WriteNack-clause-image : goal.returns-in-WriteNack-clause-image
-returns-in-WriteNack-clause-image g c = λ kinds logs node sent s i of_known safe.
+returns-in-WriteNack-clause-image g c = λ kinds logs node sent s i safe.
     let R = g.T.Replica in
     let D = replication R g.T.SpelledData in
     let code = c.args.self.now in

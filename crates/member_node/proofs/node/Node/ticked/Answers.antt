@@ -127,7 +127,7 @@ pub returns-then-ne-clause-sound : goal.returns-then-ne-clause-sound
 returns-then-ne-clause-sound g c = sound_told c.args.self.now c.reply.result (replies.NotLeader c.leader-leader.result) c.reply.ensures.plan c.reply.ensures.operations c.reply.ensures.output refl
 
 pub returns-then-ne-clause-image : goal.returns-then-ne-clause-image
-returns-then-ne-clause-image g c = λ kinds logs node sent s is of_known safe.
+returns-then-ne-clause-image g c = λ kinds logs node sent s is safe.
     let R = g.T.Replica in
     let D = replication R g.T.SpelledData in
     let code = c.args.self.now in
@@ -144,7 +144,7 @@ returns-clause-sound g c =
     (subst (λ (l : List (KeyState g.row.T.Denot g.row.T-Kind.Denot g.row.T-Op.Denot g.row.T-Delta.Denot)). AreMade (IsKeyTick g.T.Replica code.id) l c.in_ok-ticks.ticks.keys.items) c.deref.ensures.value c.in_ok-ticks.ensures.own)) refl (ap (λ (o : Output g.row.T.Denot g.row.T-Kind.Denot g.row.T-Op.Denot g.row.T-Delta.Denot g.T.Replica). is_pending o.reply) c.told.ensures)
 
 pub returns-clause-image : goal.returns-clause-image
-returns-clause-image g c = λ kinds logs node sent s is of_known safe.
+returns-clause-image g c = λ kinds logs node sent s is safe.
     let R = g.T.Replica in
     let D = replication R g.T.SpelledData in
     let code = c.args.self.now in

@@ -31,7 +31,7 @@ returns-in-Some-clause-sound g c =
     }
 
 pub returns-in-Some-clause-image : goal.returns-in-Some-clause-image
-returns-in-Some-clause-image g c = λ kinds logs node sent s is of_known safe.
+returns-in-Some-clause-image g c = λ kinds logs node sent s is safe.
     let R = g.T.Replica in
     let D = replication R g.T.SpelledData in
     let code = c.args.self.now in
@@ -50,7 +50,7 @@ pub returns-in-None-clause-sound : goal.returns-in-None-clause-sound
 returns-in-None-clause-sound g c = sound_told c.args.self.now c.reply.result reply.NoSuchOp c.reply.ensures.plan c.reply.ensures.operations c.reply.ensures.output refl
 
 pub returns-in-None-clause-image : goal.returns-in-None-clause-image
-returns-in-None-clause-image g c = λ kinds logs node sent s is of_known safe.
+returns-in-None-clause-image g c = λ kinds logs node sent s is safe.
     let R = g.T.Replica in
     let D = replication R g.T.SpelledData in
     let code = c.args.self.now in

@@ -21,7 +21,7 @@ pub returns-in_default-clause-sound : goal.returns-in_default-clause-sound
 returns-in_default-clause-sound g c = sound_told c.args.self.now c.reply.result reply.UnknownKey c.reply.ensures.plan c.reply.ensures.operations c.reply.ensures.output refl
 
 pub returns-in_default-clause-image : goal.returns-in_default-clause-image
-returns-in_default-clause-image g c = λ kinds logs node sent s is of_known safe.
+returns-in_default-clause-image g c = λ kinds logs node sent s is safe.
     let R = g.T.Replica in
     let D = replication R g.T.SpelledData in
     let code = c.args.self.now in
@@ -34,7 +34,7 @@ pub returns-then-closed-clause-sound : goal.returns-then-closed-clause-sound
 returns-then-closed-clause-sound g c = sound_told c.args.self.now c.reply-then-closed.result reply.Deleted c.reply-then-closed.ensures.plan c.reply-then-closed.ensures.operations c.reply-then-closed.ensures.output refl
 
 pub returns-then-closed-clause-image : goal.returns-then-closed-clause-image
-returns-then-closed-clause-image g c = λ kinds logs node sent s is of_known safe.
+returns-then-closed-clause-image g c = λ kinds logs node sent s is safe.
     let R = g.T.Replica in
     let S = g.T.SpelledData in
     let digest = entry_digest S.history_byte S.history_spelled in
@@ -53,7 +53,7 @@ pub returns-then-not-fits-clause-sound : goal.returns-then-not-fits-clause-sound
 returns-then-not-fits-clause-sound g c = sound_told c.args.self.now c.reply-then-not-fits.result reply.WrongKind c.reply-then-not-fits.ensures.plan c.reply-then-not-fits.ensures.operations c.reply-then-not-fits.ensures.output refl
 
 pub returns-then-not-fits-clause-image : goal.returns-then-not-fits-clause-image
-returns-then-not-fits-clause-image g c = λ kinds logs node sent s is of_known safe.
+returns-then-not-fits-clause-image g c = λ kinds logs node sent s is safe.
     let R = g.T.Replica in
     let S = g.T.SpelledData in
     let digest = entry_digest S.history_byte S.history_spelled in
@@ -73,7 +73,7 @@ pub returns-in_default-needed-clause-sound : goal.returns-in_default-needed-clau
 returns-in_default-needed-clause-sound g c = sound_told c.args.self.now c.reply-in_default-needed.result reply.TooFew c.reply-in_default-needed.ensures.plan c.reply-in_default-needed.ensures.operations c.reply-in_default-needed.ensures.output refl
 
 pub returns-in_default-needed-clause-image : goal.returns-in_default-needed-clause-image
-returns-in_default-needed-clause-image g c = λ kinds logs node sent s is of_known safe.
+returns-in_default-needed-clause-image g c = λ kinds logs node sent s is safe.
     let R = g.T.Replica in
     let S = g.T.SpelledData in
     let digest = entry_digest S.history_byte S.history_spelled in

@@ -1,18 +1,17 @@
 use Rattle.std.proofs.Common.{[], ◌∷◌, true, None, false, not, length, get_or, refl, sym, ap, ◌∙◌, subst}
 use Rattle.std.specs.List.{list_any}
-use Rattle.member_node.proofs.Common.{step_of_take, AreOfTheirKinds, AreDistinctKeys, known, is_unchanged, one_step_later, NoStore, after_entries, IsEntryPassedOver, answer_to, StandsForPosts, Each, Prepared, AreMade, TellsEntries, IsPrepared, replication, IsKept, LeadsTo, AreExactAt}
+use Rattle.member_node.proofs.Common.{AreOfTheirKinds, AreDistinctKeys, known, is_unchanged, one_step_later, NoStore, after_entries, IsEntryPassedOver, answer_to, StandsForPosts, Each, Prepared, AreMade, TellsEntries, IsPrepared, replication, IsKept, LeadsTo, AreExactAt}
 use Rattle.model_members.specs.Message.{Message as Sent}
 use Rattle.model_members.specs.Step.{took}
 use Rattle.model_members.proofs.Taking.{after_entries-only}
 use Rattle.member_node.specs.declared.operations.OperationChange.TheVariants.{Same}
-use Rattle.member_node.proofs.TakingSteps.{written_taken, written_none, nothing_brought, member_is, step_taken, held_later, sound_taken, prepared_taken}
+use Rattle.member_node.proofs.TakingSteps.{written_taken, written_none, member_is, step_taken, held_later, sound_taken, prepared_taken}
 use Rattle.member_node.proofs.Operating.{operates_same}
 use Rattle.member_node.proofs.Planned.{sound_told, prepared_answered}
 use Rattle.member_node.proofs.Sendings.{took_reply, not_opened, changed_is}
 use Rattle.member_node.specs.declared.input.Input.TheVariants as inputs
 use Rattle.member_messages.specs.declared.message.Message.TheVariants as messages
 use Rattle.member_node.proofs.Answerings.{taken_reply, take_fails, replies_stored, replies_told}
-use Rattle.member_node.specs.Inputs.{IsOfKnownKey}
 use Rattle.member_node.specs.declared.reply.Reply.TheVariants as reply
 use Rattle.member_node.proofs.node.Node.write_taken.Goals as goal
 
@@ -36,7 +35,7 @@ returns g c =
             operations = tt;
             pending = not_opened c.of_take-reply.result false c.any_changed.result [] c.of_take-reply.ensures;
           };
-      image = λ kinds logs node sent s i of_known safe.
+      image = λ kinds logs node sent s i safe.
           let D = replication R g.T.SpelledData in
           let from = c.args.from in
           let op = c.args.op in
@@ -50,7 +49,7 @@ returns g c =
           let member = member_is R.kind_of R.IsDataOf kinds logs code node s from ∙ c.requires in
           let next = took D later after NoStore [] (answer_to D from (Sent.WriteAck op)) in
           let told = λ (passed : IsEntryPassedOver R code.keys.items (record { key = key; item = envelope })). absurd (cc (c.if-not-is_known.false, c.is_known.ensures.1 (subst (λ keys. IsEntryPassedOver R keys (record { key = key; item = envelope })) (sym c.deref.ensures.value) passed))) in
-          let same = step_taken D node from sent i.told i.is member ∙ written_taken R kinds logs code.keys.items later from op key envelope i.told w D told in
+          let same = step_taken D node from sent i.told i.is member ∙ written_taken R kinds logs code.keys.items later s.keys from op key envelope i.told w D told in
           let exact = subst (λ st. AreExactAt code.keys.items st.node.entries) same (λ k d within. safe.exact (get_or code.keys.items k d).name) in
           let kept = subst (λ keys. AreMade (IsKept R.kind_of code.id) keys changes) keys_are c.in_ok-changes.ensures.kept in
           let work = c.in_ok-changes.ensures.image kinds logs later w.told_entries (subst (λ keys. AreExactAt keys after.entries) (sym keys_are) exact)
@@ -89,15 +88,14 @@ returns-then-not-is_known g c =
     let told = c.reply in
     record {
       sound = sound_told code told.result reply.Already told.ensures.plan told.ensures.operations told.ensures.output refl;
-      image = λ kinds logs node sent s i of_known safe.
+      image = λ kinds logs node sent s i safe.
           let D = replication R g.T.SpelledData in
           let key = c.args.key.now in
           let envelope = c.args.envelope.now in
           let later = one_step_later node in
           let member = member_is R.kind_of R.IsDataOf kinds logs code node s c.args.from ∙ c.requires in
           let passed = subst (λ keys. IsEntryPassedOver R keys (record { key = key; item = envelope })) c.deref.ensures.value (c.is_known.ensures.0 c.if-not-is_known.true) in
-          let none = written_none R kinds logs code.keys.items node c.args.from c.args.op key envelope i.told i.message_stands s.keys (λ k d within. (s.entries k d within).kind) passed (subst (IsOfKnownKey node) i.is of_known) in
-          let same = step_taken D node c.args.from sent i.told i.is member ∙ ap (step_of_take D later c.args.from NoStore) none ∙ nothing_brought D later c.args.from in
+          let same = step_taken D node c.args.from sent i.told i.is member ∙ written_none R kinds logs code.keys.items later s.keys c.args.from c.args.op key envelope i.told i.message_stands D (λ k d within. (s.entries k d within).kind) passed in
           prepared_answered kinds logs code node s told.result reply.Already told.ensures.view told.ensures.plan told.ensures.operations told.ensures.output _ same;
       replies = replies_told (inputs.Take c.args.from (messages.Write c.args.op c.args.key.now c.args.envelope.now)) told.result reply.Already told.ensures.plan told.ensures.output refl;
     }
