@@ -36,9 +36,8 @@ impl<T: Replica> Model for Digested<T> {
 
 impl<T: Replica> Digested<T> {
     ghost use Rattle.std.specs.Prelude.{◌≡◌, false};
-    ghost use Rattle.std.specs.Borrow.{sem, Lends};
-    ghost use Rattle.data_envelope.specs.contracts.envelope.Envelope as envelope;
-    ghost use Rattle.data_codec.specs.contracts.digested.Digested as digested;
+    ghost use Rattle.std.specs.Borrow.{sem};
+    ghost use Rattle.data_codec.specs.Lends.{lends_envelope};
 
     /// The envelope, without a digest.
     pub fn new(alloc: Global, envelope: Envelope<T>) -> Digested<T>
@@ -67,7 +66,7 @@ impl<T: Replica> Digested<T> {
 
     /// The envelope to be changed. Its digest is no longer kept.
     pub fn change(&mut self) -> &mut Envelope<T>
-        ensures* writes_back { sem 𝓛 (Lends (digested.the_row T.row T.Kind.row T.Op.row T.Delta.row T.Replica) (envelope.the_row T.row T.Kind.row T.Op.row T.Delta.row T.Replica) self.entry result (λ envelope. record { envelope = envelope; is_kept = false })) }
+        ensures* writes_back { sem 𝓛 (lends_envelope T.row T.Kind.row T.Op.row T.Delta.row T.Replica self.entry result) }
         ensures value { result.now ≡ self.old.envelope }
     {
         self.digest = None;
@@ -78,18 +77,15 @@ impl<T: Replica> Digested<T> {
 impl<T: SpelledData> Digested<T> {
     ghost use Rattle.std.specs.Prelude.{◌≡◌, ◌+◌, true, not, ◌&&◌, if◌then◌else◌, is_ok, IfOk, OnOk, OnErr};
     ghost use Rattle.sha1.specs.Sha1.{sha1};
-    ghost use Rattle.model_history.specs.History.{History};
-    ghost use Rattle.model_members.specs.Entry.{Entry};
-    ghost use Rattle.data_envelope.specs.Images.{StandsFor};
     ghost use Rattle.data_envelope.specs.Words.{parts_of};
     ghost use Rattle.data_codec.specs.Envelopes.{envelope_spelled};
     ghost use Rattle.data_codec.specs.Entries.{entry_digest};
+    ghost use Rattle.data_codec.specs.Calls.{DigestsEntry};
 
     /// The digest that is kept, or else one that is made and not kept.
     pub fn told(&self) -> Result<[u8; 20], Memory>
         ensures value { IfOk result (λ digest. digest ≡ sha1 (envelope_spelled T.byte_of T.spelled (parts_of self.now.envelope))) }
-        ensures image { (log : History T.Op) (entry : Entry T.Op) → StandsFor T.IsDataOf (parts_of self.now.envelope) log entry
-            → IfOk result (λ digest. digest ≡ entry_digest T.history_byte T.history_spelled (T.kind_of self.now.envelope.value) entry) }
+        ensures image { DigestsEntry T.IsDataOf (parts_of self.now.envelope) (entry_digest T.history_byte T.history_spelled (T.kind_of self.now.envelope.value)) result }
     {
         match self.digest {
             Some(kept) => Ok(kept),
@@ -111,8 +107,7 @@ impl<T: SpelledData> Digested<T> {
     /// The digest, which is then kept. A step is a digest that was made.
     pub fn digest<L: Ledger>(&mut self, steps: &mut Steps<L>) -> Result<[u8; 20], Memory>
         ensures value { IfOk result (λ digest. digest ≡ sha1 (envelope_spelled T.byte_of T.spelled (parts_of self.old.envelope))) }
-        ensures image { (log : History T.Op) (entry : Entry T.Op) → StandsFor T.IsDataOf (parts_of self.old.envelope) log entry
-            → IfOk result (λ digest. digest ≡ entry_digest T.history_byte T.history_spelled (T.kind_of self.old.envelope.value) entry) }
+        ensures image { DigestsEntry T.IsDataOf (parts_of self.old.envelope) (entry_digest T.history_byte T.history_spelled (T.kind_of self.old.envelope.value)) result }
         ensures kept { OnOk result (self.new ≡ record { envelope = self.old.envelope; is_kept = true }) }
         ensures err { OnErr result (self.new ≡ self.old) }
         ensures steps { steps.new ≡ (if is_ok result && not self.old.is_kept then steps.old + 1 else steps.old) }

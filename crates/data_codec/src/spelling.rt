@@ -1,11 +1,9 @@
 ghost use Rattle.std.specs.Prelude.{◌≡◌, ◌++◌, IfOk, OnOk};
-ghost use Rattle.model_history.specs.History.{History};
-ghost use Rattle.model_members.specs.Entry.{Entry};
-ghost use Rattle.data_envelope.specs.Images.{StandsFor};
 ghost use Rattle.data_envelope.specs.Words.{parts_of};
 ghost use Rattle.data_codec.specs.Envelopes.{spelled_in, envelope_spelled, IsEnvelope};
 ghost use Rattle.data_codec.specs.Entries.{entry_spelled, entry_digest};
 ghost use Rattle.data_codec.specs.Stored.{envelope_stored, entry_stored};
+ghost use Rattle.data_codec.specs.Calls.{SpellsEntry, DigestsEntry};
 ghost use Rattle.sha1.specs.Sha1.{sha1};
 
 use base_bytes::Memory;
@@ -41,8 +39,7 @@ pub fn append<T: SpelledData>(envelope: &Envelope<T>, into: &mut Vec<u8>) -> Res
 /// The spelling of an envelope.
 pub fn spell<T: SpelledData>(alloc: Global, envelope: &Envelope<T>) -> Result<Vec<u8>, Memory>
     ensures value { IfOk result (λ bytes. bytes.items ≡ envelope_spelled T.byte_of T.spelled (parts_of envelope.now)) }
-    ensures image { (log : History T.Op) (entry : Entry T.Op) → StandsFor T.IsDataOf (parts_of envelope.now) log entry
-        → IfOk result (λ bytes. bytes.items ≡ entry_spelled T.history_byte T.history_spelled (T.kind_of envelope.now.value) entry) }
+    ensures image { SpellsEntry T.IsDataOf (parts_of envelope.now) (entry_spelled T.history_byte T.history_spelled (T.kind_of envelope.now.value)) result }
     // What is spelled is what `read` reads again.
     ensures readable { IfOk result (λ _bytes. IsEnvelope T.IsSound T.mentioned (parts_of envelope.now)) }
 {
@@ -58,8 +55,7 @@ pub fn spell_stored<T: SpelledData>(
     envelope: &Envelope<T>,
 ) -> Result<Vec<u8>, Memory>
     ensures value { IfOk result (λ bytes. bytes.items ≡ envelope_stored T.byte_of T.spelled (parts_of envelope.now)) }
-    ensures image { (log : History T.Op) (entry : Entry T.Op) → StandsFor T.IsDataOf (parts_of envelope.now) log entry
-        → IfOk result (λ bytes. bytes.items ≡ entry_stored T.history_byte T.history_spelled (T.kind_of envelope.now.value) entry) }
+    ensures image { SpellsEntry T.IsDataOf (parts_of envelope.now) (entry_stored T.history_byte T.history_spelled (T.kind_of envelope.now.value)) result }
     // What is stored is what `read_stored` reads again.
     ensures readable { IfOk result (λ _bytes. IsEnvelope T.IsSound T.mentioned (parts_of envelope.now)) }
 {
@@ -73,8 +69,7 @@ pub fn spell_stored<T: SpelledData>(
 /// The SHA-1 (FIPS 180-4) of the envelope's spelling.
 pub fn digest<T: SpelledData>(alloc: Global, envelope: &Envelope<T>) -> Result<[u8; 20], Memory>
     ensures value { IfOk result (λ digest. digest ≡ sha1 (envelope_spelled T.byte_of T.spelled (parts_of envelope.now))) }
-    ensures image { (log : History T.Op) (entry : Entry T.Op) → StandsFor T.IsDataOf (parts_of envelope.now) log entry
-        → IfOk result (λ digest. digest ≡ entry_digest T.history_byte T.history_spelled (T.kind_of envelope.now.value) entry) }
+    ensures image { DigestsEntry T.IsDataOf (parts_of envelope.now) (entry_digest T.history_byte T.history_spelled (T.kind_of envelope.now.value)) result }
 {
     let bytes = spell(alloc, envelope)?;
     Ok(Sha1::digest(&bytes))

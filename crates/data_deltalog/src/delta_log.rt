@@ -61,24 +61,18 @@ impl<T: Replica> Model for DeltaLog<T> {
 }
 
 impl<T: Replica> DeltaLog<T> {
-    ghost use Rattle.std.specs.Prelude.{◌≡◌, ◌<◌, ◌≤◌, ◌^◌, ℕ, ◌+◌, ◌↔◌, [], true, Some, None, IfOk};
+    ghost use Rattle.std.specs.Prelude.{◌≡◌, ◌<◌, ◌≤◌, ◌^◌, [], true, Some, IfOk};
     ghost use Rattle.std.specs.FinMap as map;
     ghost use Rattle.model_history.specs.History.{History, IsHistory, at};
-    ghost use Rattle.model_history.specs.History.Action.{Operation};
     ghost use Rattle.model_history.specs.Log.{IsTakenFrom};
-    ghost use Rattle.model_members.specs.DataType.{Replication};
-    ghost use Rattle.model_members.specs.Entry.{Entry, with_action, with_prune, group_after};
-    ghost use Rattle.model_members.specs.Node.{Node as Member, KeyState};
-    ghost use Rattle.model_members.specs.Step.{is_behind, goes_as_group};
-    ghost use Rattle.model_kinds.specs.declared.shown.Shown.{Shown};
+    ghost use Rattle.model_members.specs.Entry.{Entry};
     ghost use Rattle.base_vectors.specs.Vectors.{number_at};
-    ghost use Rattle.data_envelope.specs.Images.{StandsForGroup};
     ghost use Rattle.data_envelope.specs.Words.{group_parts};
     ghost use Rattle.data_deltalog.specs.Contents.{appended, answer_by, IsMadeOf, IsDeltaFor};
     ghost use Rattle.data_deltalog.specs.Answers.{answer_for};
-    ghost use Rattle.data_deltalog.specs.Answers.Answer.{AsGroup};
     ghost use Rattle.data_deltalog.specs.Words.{answer_in, IfGroup, HasRoom, IsAfter, all_appended, AreNext};
     ghost use Rattle.data_deltalog.specs.Images.{StandsForLog};
+    ghost use Rattle.data_deltalog.specs.Calls.{AddsOperation, AddsPrune, GivesGroup, GoesAsFlushed};
 
     /// A log without records of an origin, for a key of this kind. Its last number is 0.
     pub fn new(alloc: Global, origin: Id, kind: T::Kind) -> DeltaLog<T>
@@ -144,13 +138,8 @@ impl<T: Replica> DeltaLog<T> {
         requires fits { IsDeltaFor T.IsOfOrigin T.delta_fits_kind self.old.kind self.old.origin next.delta }
         requires room { HasRoom self.old next }
         ensures value { self.new ≡ appended self.old next.before next.delta }
-        ensures operation { (log : History T.Op) (entry : Entry T.Op) (op : T.Op) (made : T.Delta) → StandsForLog T.IsDeltaOf self.old log entry
-            → IsTakenFrom log (with_action entry self.old.origin (Operation op)).history → IsAfter self.old (at entry.history) next
-            → next.delta ≡ Some made → T.IsDeltaOf made log self.old.origin (at entry.history self.old.origin) (at entry.history self.old.origin + 1)
-            → StandsForLog T.IsDeltaOf self.new log (with_action entry self.old.origin (Operation op)) }
-        ensures prune { (log : History T.Op) (entry : Entry T.Op) (removed : ℕ) → StandsForLog T.IsDeltaOf self.old log entry
-            → IsTakenFrom log (with_prune entry self.old.origin removed).history → IsAfter self.old (at entry.history) next → next.delta ≡ None
-            → StandsForLog T.IsDeltaOf self.new log (with_prune entry self.old.origin removed) }
+        ensures operation { AddsOperation T.IsDeltaOf self.old self.new next }
+        ensures prune { AddsPrune T.IsDeltaOf self.old self.new next }
     {
         self.records.push(next.delta, next.room);
         put(&mut self.before, next.before);
@@ -175,11 +164,8 @@ impl<T: Replica> DeltaLog<T> {
         ensures origin { IfOk result (λ grouped. IfGroup grouped (λ made. T.IsOfOrigin made.delta made.origin)) }
         ensures means { (log : History T.Op) (entry : Entry T.Op) → StandsForLog T.IsDeltaOf self.now log entry
             → IfOk result (λ grouped. answer_in grouped ≡ answer_for entry self.now.origin after) }
-        ensures image { (log : History T.Op) (entry : Entry T.Op) → StandsForLog T.IsDeltaOf self.now log entry
-            → IfOk result (λ grouped. IfGroup grouped (λ made. StandsForGroup T.IsDeltaOf (group_parts made) log (group_after entry self.now.origin after))) }
-        ensures flush { (D : Replication T.Kind T.Op Shown) (node : Member T.Kind T.Op Shown) (peer : ℕ) (key : KeyState T.Kind T.Op) (log : History T.Op) → StandsForLog T.IsDeltaOf self.now log key.entry
-            → D.log_length ≡ 50 → node.identity ≡ self.now.origin → node.flushed key.name peer ≡ after → is_behind D node peer key ≡ true
-            → IfOk result (λ grouped. (answer_in grouped ≡ AsGroup) ↔ (goes_as_group D node peer key ≡ true)) }
+        ensures image { GivesGroup T.Replica self.now after result }
+        ensures flush { GoesAsFlushed T.Replica self.now after result }
     {
         if after >= self.last {
             return Ok(Grouped::Nothing);

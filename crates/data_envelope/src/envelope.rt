@@ -1,20 +1,18 @@
-ghost use Rattle.std.specs.Prelude.{◌≡◌, ◌↔◌, ℕ, ◌+◌, ◌<◌, ◌≤◌, ◌^◌, Bool, true, false, not, ◌&&◌, IsTrue, IfSome, IfNone, IfOk, IfErr, OnOk, OnErr, Option, Some, None, Ok, max};
+ghost use Rattle.std.specs.Prelude.{◌≡◌, ◌↔◌, ℕ, ◌+◌, ◌<◌, ◌≤◌, ◌^◌, true, false, not, ◌&&◌, IsTrue, IfSome, IfNone, IfOk, IfErr, OnOk, OnErr, Option, Some, None, Ok, max};
 ghost use Rattle.std.specs.FinMap as map;
 ghost use Rattle.model_history.specs.Table.{identity_limit};
 ghost use Rattle.model_history.specs.Vector.{Covers};
-ghost use Rattle.model_history.specs.History.{History, at, versions, union, is_pruned, IsHistory, IsExactlyPruned};
+ghost use Rattle.model_history.specs.History.{History, at, versions, is_pruned, IsHistory};
 ghost use Rattle.model_history.specs.History.Action.{Operation};
-ghost use Rattle.model_history.specs.Log.{IsTakenFrom};
 ghost use Rattle.model_history.specs.Cuts.{without};
-ghost use Rattle.model_members.specs.Entry as model;
-ghost use Rattle.model_members.specs.Entry.{Entry, Mark, unseen, merged, with_action, with_prune, with_group, judged, empty_entry, has_records, seen_by, is_unchanged};
-ghost use Rattle.model_members.specs.Entry.Judgement.{Wanted};
+ghost use Rattle.model_members.specs.Entry.{Entry, Mark, unseen, merged, empty_entry, has_records, seen_by, is_unchanged};
 ghost use Rattle.base_vectors.specs.Vectors.{number_at, raised};
 ghost use Rattle.data_markers.specs.Marks.{mark_of, begun, is_performed, is_begun_at, performed_in, MergesTo};
 ghost use Rattle.data_lattice.specs.Refusals.{IsApplyRefusal};
-ghost use Rattle.data_envelope.specs.Images.{StandsFor, StandsForGroup};
-ghost use Rattle.data_envelope.specs.Words.{parts_of, group_parts, is_unchanged_at, with_mark, init_at, init_by, judgement_of, IsFirstUnknown, IsUnmarked};
+ghost use Rattle.data_envelope.specs.Images.{StandsFor};
+ghost use Rattle.data_envelope.specs.Words.{parts_of, group_parts, is_unchanged_at, init_at, init_by, IsFirstUnknown};
 ghost use Rattle.data_envelope.specs.Pruning.{init_as, init_of, IsPruned};
+ghost use Rattle.data_envelope.specs.Calls.{AddsRecord, BringsDelta, GainsNothing, MergesEntries, JudgesGroup, TakesGroup, BeginsMark, AddsPrune, TellsShares, HasFit};
 ghost use Rattle.data_envelope.specs.declared.outcomes.Perform.TheVariants as outcome;
 ghost use Rattle.data_envelope.specs.declared.outcomes.Init.TheVariants as initial;
 
@@ -233,8 +231,7 @@ impl<T: Replica> Envelope<T> {
         ensures merged { (log : History T.Op) (mine theirs : Entry T.Op) → StandsFor T.IsDataOf (parts_of self.now) log mine → StandsFor T.IsDataOf (parts_of other.now) log theirs
             → IsTrue result → merged mine theirs ≡ mine }
         ensures seen { (log : History T.Op) (entry : Entry T.Op) (id view : ℕ) → StandsFor T.IsDataOf (parts_of self.now) log entry → IsTrue result → seen_by id view entry ≡ entry }
-        ensures nothing { (log : History T.Op) (mine theirs : Entry T.Op) → StandsFor T.IsDataOf (parts_of self.now) log mine → StandsFor T.IsDataOf (parts_of other.now) log theirs
-            → IsUnmarked mine → IsUnmarked theirs → Covers (versions mine.history) (versions theirs.history) → IsTrue result }
+        ensures nothing { GainsNothing T.IsDataOf (parts_of self.now) (parts_of other.now) result }
     {
         if self.markers.has_begun() {
             return false;
@@ -300,10 +297,8 @@ impl<T: Replica> Envelope<T> {
         requires fits { (not (T.is_closed self.old.value) && T.data_type.fits (T.kind_of self.old.value) op.now) ≡ true }
         requires member { performed_in self.old.markers id ≡ false }
         requires room { number_at self.old.versions id < 2 ^ 62 }
-        ensures image { (log : History T.Op) (entry : Entry T.Op) → StandsFor T.IsDataOf (parts_of self.old) log entry → IsTakenFrom log (with_action entry id (Operation op.now)).history
-            → OnOk result (StandsFor T.IsDataOf (parts_of self.new) log (with_action entry id (Operation op.now))) }
-        ensures delta { (log : History T.Op) (entry : Entry T.Op) → StandsFor T.IsDataOf (parts_of self.old) log entry → IsTakenFrom log (with_action entry id (Operation op.now)).history
-            → IfOk result (λ delta. T.IsDeltaOf delta log id (at entry.history id) (at entry.history id + 1)) }
+        ensures image { AddsRecord T.IsDataOf (parts_of self.old) (parts_of self.new) id (Operation op.now) result }
+        ensures delta { BringsDelta T.IsDataOf T.IsDeltaOf (parts_of self.old) id (Operation op.now) result }
         ensures delta_kind { IfOk result (λ delta. T.delta_fits_kind (T.kind_of self.old.value) delta ≡ true) }
         ensures delta_origin { IfOk result (λ delta. T.IsOfOrigin delta id) }
         ensures unrefused { (log : History T.Op) (entry : Entry T.Op) → StandsFor T.IsDataOf (parts_of self.old) log entry
@@ -330,8 +325,7 @@ impl<T: Replica> Envelope<T> {
     /// Takes the records and marks of another entry of the same key.
     pub fn merge(&mut self, other: &Envelope<T>) -> Result<(), Memory>
         requires { T.kind_of self.old.value ≡ T.kind_of other.now.value }
-        ensures image { (log : History T.Op) (mine theirs : Entry T.Op) → StandsFor T.IsDataOf (parts_of self.old) log mine → StandsFor T.IsDataOf (parts_of other.now) log theirs
-            → IsExactlyPruned (union mine.history theirs.history) → OnOk result (StandsFor T.IsDataOf (parts_of self.new) log (merged mine theirs)) }
+        ensures image { MergesEntries T.IsDataOf (parts_of self.old) (parts_of other.now) (parts_of self.new) result }
         ensures markers { OnOk result (MergesTo self.old.markers other.now.markers self.new.markers) }
         ensures versions { (i : ℕ) → OnOk result (number_at self.new.versions i ≤ max (number_at self.old.versions i) (number_at other.now.versions i)) }
         ensures greatest { (i : ℕ) → performed_in self.new.markers i ≡ false → OnOk result (number_at self.new.versions i ≡ max (number_at self.old.versions i) (number_at other.now.versions i)) }
@@ -352,8 +346,7 @@ impl<T: Replica> Envelope<T> {
         requires kind { T.kind_of self.old.value ≡ T.kind_of other.now.value }
         requires merges { MergesTo self.old.markers other.now.markers markers }
         requires alike { (i : ℕ) → performed_in self.old.markers i ≡ performed_in other.now.markers i }
-        ensures image { (log : History T.Op) (mine theirs : Entry T.Op) → StandsFor T.IsDataOf (parts_of self.old) log mine → StandsFor T.IsDataOf (parts_of other.now) log theirs
-            → IsExactlyPruned (union mine.history theirs.history) → OnOk result (StandsFor T.IsDataOf (parts_of self.new) log (merged mine theirs)) }
+        ensures image { MergesEntries T.IsDataOf (parts_of self.old) (parts_of other.now) (parts_of self.new) result }
         ensures markers { OnOk result (self.new.markers ≡ markers) }
         ensures versions { (i : ℕ) → OnOk result (number_at self.new.versions i ≡ max (number_at self.old.versions i) (number_at other.now.versions i)) }
         ensures kind { T.kind_of self.new.value ≡ T.kind_of self.old.value }
@@ -374,8 +367,7 @@ impl<T: Replica> Envelope<T> {
     fn join_cleaned(&mut self, other: &Envelope<T>, markers: Markers) -> Result<(), Memory>
         requires kind { T.kind_of self.old.value ≡ T.kind_of other.now.value }
         requires merges { MergesTo self.old.markers other.now.markers markers }
-        ensures image { (log : History T.Op) (mine theirs : Entry T.Op) → StandsFor T.IsDataOf (parts_of self.old) log mine → StandsFor T.IsDataOf (parts_of other.now) log theirs
-            → IsExactlyPruned (union mine.history theirs.history) → OnOk result (StandsFor T.IsDataOf (parts_of self.new) log (merged mine theirs)) }
+        ensures image { MergesEntries T.IsDataOf (parts_of self.old) (parts_of other.now) (parts_of self.new) result }
         ensures markers { OnOk result (self.new.markers ≡ markers) }
         ensures versions { (i : ℕ) → OnOk result (number_at self.new.versions i ≤ max (number_at self.old.versions i) (number_at other.now.versions i)) }
         ensures greatest { (i : ℕ) → performed_in self.new.markers i ≡ false → OnOk result (number_at self.new.versions i ≡ max (number_at self.old.versions i) (number_at other.now.versions i)) }
@@ -399,8 +391,7 @@ impl<T: Replica> Envelope<T> {
 
     /// Whether a group of records is to be taken.
     pub fn judge(&self, group: &Group<T>) -> Judgement
-        ensures image { (log : History T.Op) (entry : Entry T.Op) (records : model.Group T.Op) → StandsFor T.IsDataOf (parts_of self.now) log entry → StandsForGroup T.IsDeltaOf (group_parts group.now) log records
-            → judgement_of result ≡ judged entry records }
+        ensures image { JudgesGroup T.IsDataOf T.IsDeltaOf (parts_of self.now) (group_parts group.now) result }
     {
         if self.at(group.origin) >= group.upto {
             return Judgement::Already;
@@ -435,8 +426,7 @@ impl<T: Replica> Envelope<T> {
     pub fn take(&mut self, group: &Group<T>) -> Result<(), Memory>
         requires fits { T.delta_fits_kind (T.kind_of self.old.value) group.now.delta ≡ true }
         requires member { performed_in self.old.markers group.now.origin ≡ false }
-        ensures image { (log : History T.Op) (entry : Entry T.Op) (records : model.Group T.Op) → StandsFor T.IsDataOf (parts_of self.old) log entry → StandsForGroup T.IsDeltaOf (group_parts group.now) log records
-            → judged entry records ≡ Wanted → OnOk result (StandsFor T.IsDataOf (parts_of self.new) log (with_group entry records)) }
+        ensures image { TakesGroup T.IsDataOf T.IsDeltaOf (parts_of self.old) (parts_of self.new) (group_parts group.now) result }
         ensures kind { T.kind_of self.new.value ≡ T.kind_of self.old.value }
         ensures others { (i : ℕ) → (i ≡ group.now.origin → ⊥) → number_at self.new.versions i ≡ number_at self.old.versions i }
         ensures markers { self.new.markers ≡ self.old.markers }
@@ -452,8 +442,7 @@ impl<T: Replica> Envelope<T> {
     /// Marks an identity as one that an owner is to prune in a view, unless a mark of this view or of a greater one stands,
     /// or the entry has no record of the identity, or it was pruned.
     pub fn init_prune(&mut self, removed: Id, owner: Id, view: u32) -> Result<Init, Memory>
-        ensures image { (log : History T.Op) (entry : Entry T.Op) → StandsFor T.IsDataOf (parts_of self.old) log entry → result ≡ Ok initial.Marked
-            → StandsFor T.IsDataOf (parts_of self.new) log (with_mark entry removed owner view) }
+        ensures image { BeginsMark T.IsDataOf (parts_of self.old) (parts_of self.new) removed owner view result }
         ensures outcome { (log : History T.Op) (entry : Entry T.Op) → StandsFor T.IsDataOf (parts_of self.old) log entry → IfOk result (λ init. init ≡ init_at entry removed view) }
         ensures init { IfOk result (λ init. init ≡ init_of (parts_of self.old) removed view) }
         ensures value { self.new.value ≡ self.old.value }
@@ -487,12 +476,9 @@ impl<T: Replica> Envelope<T> {
         requires member { performed_in self.old.markers owner ≡ false }
         requires known { 1 ≤ number_at self.old.versions removed }
         requires room { number_at self.old.versions owner < 2 ^ 62 }
-        ensures image { (log : History T.Op) (entry : Entry T.Op) → StandsFor T.IsDataOf (parts_of self.old) log entry → IsTakenFrom log (with_prune entry owner removed).history
-            → result ≡ Ok outcome.Performed → StandsFor T.IsDataOf (parts_of self.new) log (with_prune entry owner removed) }
-        ensures blocked { (log : History T.Op) (entry : Entry T.Op) (owner_share removed_share : ℕ) → StandsFor T.IsDataOf (parts_of self.old) log entry → result ≡ Ok (outcome.Blocked owner_share removed_share)
-            → T.data_type.blocked (T.kind_of self.old.value) owner removed entry.history ≡ Some (record { owner = owner_share; removed = removed_share }) }
-        ensures unblocked { (log : History T.Op) (entry : Entry T.Op) → StandsFor T.IsDataOf (parts_of self.old) log entry → result ≡ Ok outcome.Performed
-            → T.data_type.blocked (T.kind_of self.old.value) owner removed entry.history ≡ None }
+        ensures image { AddsPrune T.IsDataOf (parts_of self.old) (parts_of self.new) removed owner result }
+        ensures blocked { TellsShares T.IsDataOf (T.data_type.blocked (T.kind_of self.old.value)) (parts_of self.old) removed owner result }
+        ensures unblocked { HasFit T.IsDataOf (T.data_type.blocked (T.kind_of self.old.value)) (parts_of self.old) removed owner result }
         ensures undeleted { (owner_share removed_share : ℕ) → result ≡ Ok (outcome.Blocked owner_share removed_share) → T.is_closed self.old.value ≡ false }
         ensures nothing { result ≡ Ok outcome.NothingMarked → is_begun_at (mark_of self.old.markers removed) view ≡ false }
         ensures marked { is_begun_at (mark_of self.old.markers removed) view ≡ false → result ≡ Ok outcome.NothingMarked }
@@ -519,12 +505,9 @@ impl<T: Replica> Envelope<T> {
         requires unpruned { performed_in self.old.markers removed ≡ false }
         requires known { 1 ≤ number_at self.old.versions removed }
         requires room { number_at self.old.versions owner < 2 ^ 62 }
-        ensures image { (log : History T.Op) (entry : Entry T.Op) → StandsFor T.IsDataOf (parts_of self.old) log entry → IsTakenFrom log (with_prune entry owner removed).history
-            → result ≡ Ok outcome.Performed → StandsFor T.IsDataOf (parts_of self.new) log (with_prune entry owner removed) }
-        ensures blocked { (log : History T.Op) (entry : Entry T.Op) (owner_share removed_share : ℕ) → StandsFor T.IsDataOf (parts_of self.old) log entry → result ≡ Ok (outcome.Blocked owner_share removed_share)
-            → T.data_type.blocked (T.kind_of self.old.value) owner removed entry.history ≡ Some (record { owner = owner_share; removed = removed_share }) }
-        ensures unblocked { (log : History T.Op) (entry : Entry T.Op) → StandsFor T.IsDataOf (parts_of self.old) log entry → result ≡ Ok outcome.Performed
-            → T.data_type.blocked (T.kind_of self.old.value) owner removed entry.history ≡ None }
+        ensures image { AddsPrune T.IsDataOf (parts_of self.old) (parts_of self.new) removed owner result }
+        ensures blocked { TellsShares T.IsDataOf (T.data_type.blocked (T.kind_of self.old.value)) (parts_of self.old) removed owner result }
+        ensures unblocked { HasFit T.IsDataOf (T.data_type.blocked (T.kind_of self.old.value)) (parts_of self.old) removed owner result }
         ensures undeleted { (owner_share removed_share : ℕ) → result ≡ Ok (outcome.Blocked owner_share removed_share) → T.is_closed self.old.value ≡ false }
         ensures marked { result ≡ Ok outcome.NothingMarked → ⊥ }
         ensures seen { (i : ℕ) → result ≡ Ok (outcome.Waiting i) → ⊥ }

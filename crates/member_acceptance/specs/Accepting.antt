@@ -1,12 +1,15 @@
 -- What an honest member would not send.
 --     is_own        a group of the sender's own records, which needs those before them
+--     PassesFromSender        a group of the sender's records passes that test
 --     is_known        an entry that names what the view knows
 --     is_accepted        another member of the view sends such groups and entries
-use Rattle.std.specs.Prelude.{ℕ, Bool, true, ◌&&◌, not, ◌==◌, Some}
+use Rattle.std.specs.Prelude.{◌≡◌, ℕ, Bool, true, false, ◌&&◌, not, ◌==◌, Some}
 use Rattle.std.specs.List.{list_all}
+use Rattle.model_history.specs.History.{History}
+use Rattle.model_members.specs.Entry.{Group}
 use Rattle.base_vectors.specs.Vectors.{number_at}
 use Rattle.data_lattice.specs.declared.replica.Replica.{Ghosts}
-use Rattle.data_envelope.specs.Images.{Parts, GroupParts}
+use Rattle.data_envelope.specs.Images.{Parts, GroupParts, StandsForGroup}
 use Rattle.data_envelope.specs.Words.{parts_of, group_parts}
 use Rattle.member_views.specs.Views.{View, is_member}
 use Rattle.member_messages.specs.declared.message.Message.{Message}
@@ -16,6 +19,11 @@ use Rattle.member_acceptance.specs.Naming.{counts_later, names_later, has_late_m
 
 abbrev pub is_own : {Delta : Type 0} → View → ℕ → GroupParts Delta → Bool
 is_own view from group = (group.origin == from) && (number_at group.needed group.origin == group.after) && not (counts_later view.given group.needed)
+
+-- a group of the sender's own records of a log, once the view has given whom it needs
+abbrev pub PassesFromSender : {Delta Op : Type 0} → (Delta → History Op → ℕ → ℕ → ℕ → Type 0) → View → ℕ → GroupParts Delta → Type 0
+PassesFromSender {Op = Op} IsDeltaOf view from parts =
+    (log : History Op) (group : Group Op) → StandsForGroup IsDeltaOf parts log group → group.origin ≡ from → counts_later view.given parts.needed ≡ false → is_own view from parts ≡ true
 
 abbrev pub is_known : {T : Type 0} → (T → ℕ → Bool) → View → Parts T → Bool
 is_known mentioned view parts = not (names_later mentioned view.given parts) && not (has_late_mark view.number parts.marks)

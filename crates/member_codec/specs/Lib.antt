@@ -13,3 +13,4 @@ pub mod MessageLaws
 pub mod Views
 pub mod ViewLaws
 pub mod ViewTests
+pub mod Standing

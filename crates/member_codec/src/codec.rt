@@ -1,7 +1,7 @@
-ghost use Rattle.std.specs.Prelude.{◌≡◌, ℕ, ◌++◌, List, length, Ok, IfOk};
-ghost use Rattle.data_envelope.specs.Images.{Parts, GroupParts};
-ghost use Rattle.member_codec.specs.Messages.{MessageParts, message_parts, message_bytes, IsSpellable, told_by};
-ghost use Rattle.member_codec.specs.Answers.{IsRead};
+ghost use Rattle.std.specs.Prelude.{◌≡◌, length, IfOk};
+ghost use Rattle.data_codec.specs.Calls.{IsPrefixFree};
+ghost use Rattle.member_codec.specs.Messages.{message_parts, message_bytes, IsSpellable, told_by};
+ghost use Rattle.member_codec.specs.Answers.{IsRead, ReadsSpelled, ReadsWhatIsSpelled};
 
 use crate::error::CodecError;
 use crate::messages::{put_message, take_message};
@@ -44,11 +44,9 @@ fn read_whole<T: SpelledDelta>(alloc: Global, bytes: &[u8]) -> Result<Message<T>
 /// The memory that it takes is bounded by the bytes: nothing is reserved by a count that was read.
 pub fn read_message<T: SpelledDelta>(alloc: Global, bytes: &[u8]) -> Result<Message<T>, CodecError>
     // What is read is spelled so.
-    ensures found { IfOk result (λ message. IsSpellable T.Replica T.SpelledData.own T.SpelledDelta.own (message_parts message)
-        × (bytes.now ≡ message_bytes T.Replica T.SpelledData.own T.SpelledDelta.own (message_parts message))) }
+    ensures found { ReadsSpelled T.Replica T.SpelledData.own T.SpelledDelta.own bytes.now result }
     // What is spelled so is read, unless memory runs out.
-    ensures only { (parts : MessageParts (Parts T) (GroupParts T.Delta)) → IsSpellable T.Replica T.SpelledData.own T.SpelledDelta.own parts
-        → bytes.now ≡ message_bytes T.Replica T.SpelledData.own T.SpelledDelta.own parts → IsRead message_parts (length bytes.now) result (Ok parts) }
+    ensures only { ReadsWhatIsSpelled T.Replica T.SpelledData.own T.SpelledDelta.own bytes.now result }
     // Which fault it is.
     ensures exact { IsRead message_parts (length bytes.now) result (told_by T.Replica T.SpelledData.own T.SpelledDelta.own bytes.now) }
 {
@@ -57,6 +55,5 @@ pub fn read_message<T: SpelledDelta>(alloc: Global, bytes: &[u8]) -> Result<Mess
 
 /// No spelling of a message is a proper prefix of another's, whatever follows it.
 pub fn one_spelling<T: SpelledDelta>()
-    ensures { (a b : MessageParts (Parts T) (GroupParts T.Delta)) (x y : List ℕ) → IsSpellable T.Replica T.SpelledData.own T.SpelledDelta.own a → IsSpellable T.Replica T.SpelledData.own T.SpelledDelta.own b
-        → message_bytes T.Replica T.SpelledData.own T.SpelledDelta.own a ++ x ≡ message_bytes T.Replica T.SpelledData.own T.SpelledDelta.own b ++ y → (a ≡ b) × (x ≡ y) }
+    ensures { IsPrefixFree (IsSpellable T.Replica T.SpelledData.own T.SpelledDelta.own) (message_bytes T.Replica T.SpelledData.own T.SpelledDelta.own) }
 {}

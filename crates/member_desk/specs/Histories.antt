@@ -1,5 +1,6 @@
 -- What is told, as the histories that it is the meaning of.
 --     StandsForDesk        the told values are the meanings of the model's told histories
+--     SubscribesAsMeant, UnsubscribesAsMeant        they stay so over the two calls
 --     TellsOf        notices are those of the model, over what its member holds
 use Rattle.std.specs.Prelude.{◌≡◌, ℕ, List, true, false, if◌then◌else◌, Option, Some, None, find}
 use Rattle.std.specs.List.{AllZip}
@@ -17,6 +18,7 @@ use Rattle.member_desk.specs.declared.followed.Followed.{Followed}
 use Rattle.member_desk.specs.declared.look.Told.{Told}
 use Rattle.member_desk.specs.declared.look.Look.{Look}
 use Rattle.member_desk.specs.declared.look.Look.TheVariants.{Nothing, Same, Other}
+use Rattle.member_desk.specs.Subscriptions.{with_subscription, without_subscription}
 
 -- a meaning as it is shown
 abbrev pub shown_as : Meaning Shown → Shown
@@ -80,3 +82,13 @@ module _ {Kind Op : Type 0} (data_type : DataType Kind Op Shown) (kinds : Text �
 
   abbrev pub StandsForDesk : List (Followed Told) → List (Followed (History Op)) → Type 0
   StandsForDesk code model = AllZip StandsForFollowed code model
+
+  -- a desk that stands for one of the model does so after a client subscribed
+  abbrev pub SubscribesAsMeant : Type 0
+  SubscribesAsMeant =
+      (desk : List (Followed Told)) (model : List (Followed (History Op))) (key : Text) (client : ℕ) → StandsForDesk desk model → StandsForDesk (with_subscription desk key client) (with_subscription model key client)
+
+  -- and after a subscription ended
+  abbrev pub UnsubscribesAsMeant : Type 0
+  UnsubscribesAsMeant =
+      (desk : List (Followed Told)) (model : List (Followed (History Op))) (key : Text) (client : ℕ) → StandsForDesk desk model → StandsForDesk (without_subscription desk key client) (without_subscription model key client)

@@ -3,7 +3,9 @@
 --     with_subscription, without_subscription        what the two calls make of them
 --     told_to        what a client was told of a key
 --     AreInOrder        keys and clients rise
-use Rattle.std.specs.Prelude.{ℕ, List, [], ◌∷◌, Bool, true, false, if◌then◌else◌, Option, Some, None, is_some, map, nat_lt}
+--     TouchesOne        a call leaves what any other client was told
+--     BeginsUntold        a client that subscribes anew was told nothing
+use Rattle.std.specs.Prelude.{◌≡◌, ◌≢◌, ◌⊎◌, ℕ, List, [], ◌∷◌, Bool, true, false, if◌then◌else◌, Option, Some, None, is_some, map, nat_lt}
 use Rattle.std.specs.declared.cmp.Ordering.{Ordering}
 use Rattle.std.specs.Ordering.{nat_cmp}
 use Rattle.std.specs.List.{AllByRecursion}
@@ -92,3 +94,11 @@ module _ {V : Type 0} where
 
   abbrev pub AreInOrder : List (Followed V) → Type 0
   AreInOrder desk = IsRising text_lt (keys_of desk) × AllByRecursion (λ followed. IsRising nat_lt (numbers_of followed.clients)) desk
+
+  -- a call for a client of a key leaves what any other client, or of any other key, was told
+  abbrev pub TouchesOne : (List (Followed V) → Text → ℕ → List (Followed V)) → List (Followed V) → Type 0
+  TouchesOne call desk = (key other : Text) (client number : ℕ) → AreInOrder desk → (key ≢ other) ⊎ (client ≢ number) → told_to (call desk key client) other number ≡ told_to desk other number
+
+  -- a client that subscribes anew was told nothing of the key
+  abbrev pub BeginsUntold : List (Followed V) → Type 0
+  BeginsUntold desk = (key : Text) (client : ℕ) → AreInOrder desk → is_subscribed desk key client ≡ false → told_to (with_subscription desk key client) key client ≡ Some None

@@ -4,7 +4,9 @@
 --     Rise        each history is a part of those after it
 --     last_of        the last one
 --     said_over        what a desk says to one client of one key
-use Rattle.std.specs.Prelude.{◌≢◌, ℕ, List, [], ◌∷◌, ◌++◌, map, filter, ◌&&◌, ◌==◌, if◌then◌else◌, Option, Some, None}
+--     SaysTellings        it says these values to each client that is subscribed
+--     EndsAsFound, TellingsRise        the last one shows what was found last; they rise where what is found does
+use Rattle.std.specs.Prelude.{◌≡◌, ◌≢◌, ℕ, List, [], ◌∷◌, ◌++◌, map, filter, ◌&&◌, ◌==◌, if◌then◌else◌, Option, Some, None, option_map}
 use Rattle.std.specs.List.{AllByRecursion}
 use Rattle.std.specs.Str.{bytes_eq}
 use Rattle.model_history.specs.Texts.{Text}
@@ -13,6 +15,7 @@ use Rattle.model_kinds.specs.declared.shown.Shown.{Shown}
 use Rattle.member_desk.specs.declared.followed.Followed.{Followed}
 use Rattle.member_desk.specs.declared.notice.Notice.{Notice}
 use Rattle.member_desk.specs.Notices.{is_news, notices_of, told_after}
+use Rattle.member_desk.specs.Subscriptions.{AreInOrder, told_to}
 
 module _ {V : Type 0} (shows : Text → V → Shown) (key : Text) where
   -- where this was told before; at each flush a value is found, or none
@@ -51,3 +54,18 @@ said_to key number notices = map (λ notice. notice.shown) (filter (λ notice. b
 abbrev pub said_over : {V : Type 0} → (Text → V → Shown) → Text → ℕ → List (Followed V) → List (Text → Option V) → List Shown
 said_over shows key number desk [] = []
 said_over shows key number desk (found ∷ more) = said_to key number (notices_of shows found desk) ++ said_over shows key number (told_after found desk) more
+
+module _ {V : Type 0} (shows : Text → V → Shown) where
+  -- to each client of each key that is subscribed it says the values that the subscription is told
+  abbrev pub SaysTellings : List (Followed V) → Type 0
+  SaysTellings desk =
+      (key : Text) (client : ℕ) (told : Option V) (flushes : List (Text → Option V)) → AreInOrder desk → told_to desk key client ≡ Some told
+      → said_over shows key client desk flushes ≡ map (shows key) (tellings shows key told (map (λ found. found key) flushes))
+
+  -- what is shown last is what was found last
+  abbrev pub EndsAsFound : Text → Option V → List (Option V) → Type 0
+  EndsAsFound key told found = last_of (option_map (shows key) told) (map (shows key) (tellings shows key told found)) ≡ last_of (option_map (shows key) told) (map (shows key) (found_values found))
+
+-- histories that are told rise where those that are found do
+abbrev pub TellingsRise : {Op : Type 0} → (Text → History Op → Shown) → Text → Type 0
+TellingsRise {Op = Op} shows key = (told : Option (History Op)) (found : List (Option (History Op))) → Rise (found_values found) → Rise (tellings shows key told found)

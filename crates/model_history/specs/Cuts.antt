@@ -3,10 +3,11 @@
 --     IsConsistentCut               the vector holds the past of each of its records
 --     Prunes, HasExactPrunes, ArePruned        which record prunes an identity, and that nothing of it is lost or doubled
 --     IsPrunedCut                   all of these: what the laws of data types assume
+--     HasPrunedHistory              the same, said by histories
 use Rattle.std.specs.Prelude.{◌≡◌, ℕ, ◌+◌, ◌<◌, ◌≤◌, true, unwrap_or, slice_get, if◌then◌else◌}
 use Rattle.model_history.specs.Table.{identity_limit, with_at}
-use Rattle.model_history.specs.Vector.{VersionVector, IdentitySet, none_counted}
-use Rattle.model_history.specs.History.{Action, Record, History, at}
+use Rattle.model_history.specs.Vector.{VersionVector, IdentitySet, Covers, none_counted}
+use Rattle.model_history.specs.History.{Action, Record, History, at, versions, cut, IsHistory, IsExactlyPruned, is_pruned}
 use Rattle.model_history.specs.History.Action.{Prune}
 
 -- past the log's end it means nothing
@@ -68,3 +69,7 @@ module _ {Op : Type 0} (log : History Op) where
     pub cut : IsConsistentCut held
     pub exact : HasExactPrunes held
     pub pruned : ArePruned held gone
+
+  -- the log has so many records, they are a history that is exactly pruned, and the set is what that is pruned of
+  abbrev pub HasPrunedHistory : VersionVector → IdentitySet → Type 0
+  HasPrunedHistory held gone = Covers (versions log) held × IsHistory (cut log held) × IsExactlyPruned (cut log held) × ((r : ℕ) → gone r ≡ is_pruned (cut log held) r)

@@ -2,7 +2,7 @@ ghost use Rattle.std.specs.Prelude.{◌≡◌, ◌↔◌, ℕ, max};
 ghost use Rattle.model_history.specs.Vector.{VersionVector, IdentitySet, Covers, join};
 ghost use Rattle.model_history.specs.History.{History, at, versions, union, cut, Agree, IsPartOf, IsHistory, IsExactlyPruned, is_pruned};
 ghost use Rattle.model_history.specs.Log.{IsTakenFrom};
-ghost use Rattle.model_history.specs.Cuts.{IsConsistentCut, IsPrunedCut};
+ghost use Rattle.model_history.specs.Cuts.{IsConsistentCut, IsPrunedCut, HasPrunedHistory};
 
 /// A union of histories of operations of any type.
 pub fn union_laws<Operation>()
@@ -26,6 +26,5 @@ pub fn histories_are_cuts<Operation>()
 /// The cut is pruned exactly where that history is exactly pruned; its set is what the history is pruned of.
 pub fn cuts_by_histories<Operation>()
     ensures consistent { (log : History Operation) (held : VersionVector) → IsConsistentCut log held ↔ (Covers (versions log) held × IsHistory (cut log held)) }
-    ensures pruned { (log : History Operation) (held : VersionVector) (gone : IdentitySet)
-        → IsPrunedCut log held gone ↔ (Covers (versions log) held × IsHistory (cut log held) × IsExactlyPruned (cut log held) × ((r : ℕ) → gone r ≡ is_pruned (cut log held) r)) }
+    ensures pruned { (log : History Operation) (held : VersionVector) (gone : IdentitySet) → IsPrunedCut log held gone ↔ HasPrunedHistory log held gone }
 {}

@@ -1,8 +1,8 @@
 -- The meaning of sets that only grow and of registers, and whether a history has an operation: so a flag is on, and a key deleted.
-use Rattle.std.specs.Prelude.{ℕ, ◌+◌, max, List, [], Bool, false, ◌&&◌, not, ◌==◌, Option, None, Some, map, filter_map, fold, find, option_map, unwrap_or}
+use Rattle.std.specs.Prelude.{◌≡◌, ℕ, ◌+◌, max, List, [], Bool, true, false, ◌&&◌, not, ◌==◌, Option, None, Some, map, filter_map, fold, find, option_map, unwrap_or, slice_get}
 use Rattle.std.specs.List.{list_any}
 use Rattle.model_history.specs.Texts.{Text, text_set}
-use Rattle.model_history.specs.History.{Action, History, cut, by_past, Stamped, all_records}
+use Rattle.model_history.specs.History.{Action, Record, History, HasRecord, cut, by_past, Stamped, all_records}
 use Rattle.model_history.specs.History.Action.{Operation, Prune}
 
 -- a text that is written, and the writer's clock
@@ -52,3 +52,16 @@ module _ {Op : Type 0} where
 
   abbrev pub winning_text : (Op → Option Assignment) → History Op → Text
   winning_text assigned H = unwrap_or (option_map (λ assignment. assignment.text) (unwrap_or (option_map (λ x. found assigned x.action) (winner assigned H)) None)) []
+
+  -- the timestamp of each record is the one after the greatest in its past
+  abbrev pub TimestampsFollowPasts : (Op → Option Assignment) → History Op → Type 0
+  TimestampsFollowPasts assigned H =
+      (k : ℕ) (x : Stamped Op) → slice_get (all_records H) k ≡ Some x → timestamp assigned H x ≡ timestamp_after (greatest (map (timestamp assigned (cut H x.past)) (all_records (cut H x.past)))) (found assigned x.action)
+
+  -- some record is an operation that passes the test
+  abbrev pub HasPassing : (Op → Bool) → History Op → Type 0
+  HasPassing test H = (i : ℕ) × (k : ℕ) × (r : Record Op) × (op : Op) × HasRecord H i k r × (r.action ≡ Operation op) × (test op ≡ true)
+
+  -- whichever record is an operation that passes the test, it is told that there is one
+  abbrev pub TellsPassing : (Op → Bool) → History Op → Type 0
+  TellsPassing test H = (i k : ℕ) (r : Record Op) (op : Op) → HasRecord H i k r → r.action ≡ Operation op → test op ≡ true → has_operation test H ≡ true

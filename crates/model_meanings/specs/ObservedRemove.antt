@@ -1,5 +1,5 @@
 -- The meaning of a set where an add wins over a remove that hasn't seen it.
-use Rattle.std.specs.Prelude.{List, Bool, false, ◌&&◌, ◌||◌, not, ◌==◌, Option, filter, filter_map}
+use Rattle.std.specs.Prelude.{◌≡◌, ℕ, List, Bool, false, ◌&&◌, ◌||◌, not, ◌==◌, Option, Some, filter, filter_map, slice_get}
 use Rattle.std.specs.List.{list_any}
 use Rattle.model_history.specs.Texts.{Text, text_set}
 use Rattle.model_history.specs.Vector.{VersionVector}
@@ -41,3 +41,11 @@ module _ {Op : Type 0} (ops : SetOperations Op) where
   -- the elements with a live adding record, in byte order
   abbrev pub live_elements : History Op → List Text
   live_elements H = filter (λ e. list_any (is_live e H) (all_records H)) (text_set (filter_map (λ x. found ops.added x.action) (all_records H)))
+
+  -- each record touches the element by its operation, or as a prune by what is live in its past
+  abbrev pub TouchesFollowPasts : Text → History Op → Type 0
+  TouchesFollowPasts e H = (k : ℕ) (x : Stamped Op) → slice_get (all_records H) k ≡ Some x → touches e H x ≡ touches_by (touches e) e H x.past x.action
+
+  -- a record is live exactly where it adds the element and no later record touches that
+  abbrev pub LivesUntouched : Text → History Op → Stamped Op → Type 0
+  LivesUntouched e H x = is_live e H x ≡ (is_adding_by (touches e) e H x x.action && not (list_any (λ y. precedes x y && touches e H y) (all_records H)))

@@ -1,12 +1,11 @@
-ghost use Rattle.std.specs.Prelude.{◌≡◌, ℕ, ◌<◌, sum_by, map, if◌then◌else◌, Bool, ◌&&◌, not, Option, Some, slice_get, true};
-ghost use Rattle.std.specs.List.{list_any};
+ghost use Rattle.std.specs.Prelude.{◌≡◌, ℕ, ◌<◌, sum_by, if◌then◌else◌, Bool, Option, true};
 ghost use Rattle.model_history.specs.Table.{identity_limit, identities};
 ghost use Rattle.model_history.specs.Texts.{Text};
-ghost use Rattle.model_history.specs.History.{Action, Record, History, Stamped, cut, all_records, precedes, HasRecord, IsPartOf, IsHistory, IsExactlyPruned, is_pruned};
+ghost use Rattle.model_history.specs.History.{History, Stamped, IsPartOf, IsHistory, IsExactlyPruned, is_pruned};
 ghost use Rattle.model_meanings.specs.Counter.{brought, share, total};
-ghost use Rattle.model_meanings.specs.Growing.{Assignment, greatest, timestamp_after, found, added_elements, has_operation, timestamp, winning_text};
-ghost use Rattle.model_meanings.specs.ObservedRemove.{SetOperations, is_adding_by, touches_by, touches, is_live, live_elements};
-ghost use Rattle.model_meanings.specs.Prunes.{after_prune};
+ghost use Rattle.model_meanings.specs.Growing.{Assignment, added_elements, has_operation, winning_text, TimestampsFollowPasts, HasPassing, TellsPassing};
+ghost use Rattle.model_meanings.specs.ObservedRemove.{SetOperations, live_elements, TouchesFollowPasts, LivesUntouched};
+ghost use Rattle.model_meanings.specs.Prunes.{after_prune, IsKeptByPrunes};
 
 /// Nothing is lost or doubled by a prune: the shares of the identities without a prune add up to the total.
 pub fn shares_add_up<Operation>()
@@ -20,19 +19,16 @@ pub fn shares_add_up<Operation>()
 /// A record touches an element by its operation, and a prune by a live adding record of the pruned identity in the prune's past.
 pub fn meanings_by_pasts<Operation>()
     ensures share { (amount : Operation → ℕ) (H : History Operation) → IsHistory H → (i : ℕ) → share amount H i ≡ sum_by (brought amount (share amount) H) (H i) }
-    ensures timestamp { (assigned : Operation → Option Assignment) (H : History Operation) → IsHistory H → (k : ℕ) (x : Stamped Operation) → slice_get (all_records H) k ≡ Some x
-        → timestamp assigned H x ≡ timestamp_after (greatest (map (timestamp assigned (cut H x.past)) (all_records (cut H x.past)))) (found assigned x.action) }
-    ensures touches { (operations : SetOperations Operation) (e : Text) (H : History Operation) → IsHistory H → (k : ℕ) (x : Stamped Operation) → slice_get (all_records H) k ≡ Some x
-        → touches operations e H x ≡ touches_by operations (touches operations e) e H x.past x.action }
-    ensures live { (operations : SetOperations Operation) (e : Text) (H : History Operation) (x : Stamped Operation)
-        → is_live operations e H x ≡ (is_adding_by operations (touches operations e) e H x x.action && not (list_any (λ y. precedes x y && touches operations e H y) (all_records H))) }
+    ensures timestamp { (assigned : Operation → Option Assignment) (H : History Operation) → IsHistory H → TimestampsFollowPasts assigned H }
+    ensures touches { (operations : SetOperations Operation) (e : Text) (H : History Operation) → IsHistory H → TouchesFollowPasts operations e H }
+    ensures live { (operations : SetOperations Operation) (e : Text) (H : History Operation) (x : Stamped Operation) → LivesUntouched operations e H x }
 {}
 
 /// An operation that a history has stays: each history that holds it has the operation too. And there is an operation that passes a test exactly where some record is one.
 pub fn operations_stay<Operation>()
     ensures stays { (test : Operation → Bool) (H J : History Operation) → IsPartOf H J → has_operation test H ≡ true → has_operation test J ≡ true }
-    ensures is { (test : Operation → Bool) (H : History Operation) → has_operation test H ≡ true → (i : ℕ) × (k : ℕ) × (r : Record Operation) × (op : Operation) × HasRecord H i k r × (r.action ≡ Action.Operation op) × (test op ≡ true) }
-    ensures has { (test : Operation → Bool) (H : History Operation) → IsHistory H → (i k : ℕ) (r : Record Operation) (op : Operation) → HasRecord H i k r → r.action ≡ Action.Operation op → test op ≡ true → has_operation test H ≡ true }
+    ensures is { (test : Operation → Bool) (H : History Operation) → has_operation test H ≡ true → HasPassing test H }
+    ensures has { (test : Operation → Bool) (H : History Operation) → IsHistory H → TellsPassing test H }
 {}
 
 /// A prune changes nothing at its moment: whoever prunes whom, the history means what it meant before.
@@ -41,6 +37,6 @@ pub fn prunes_mean_nothing_new<Operation>()
     ensures total { (amount : Operation → ℕ) (H : History Operation) (owner removed : ℕ) → owner < identity_limit → total amount (after_prune H owner removed) ≡ total amount H }
     ensures elements { (added : Operation → Option Text) (H : History Operation) (owner removed : ℕ) → owner < identity_limit → added_elements added (after_prune H owner removed) ≡ added_elements added H }
     ensures operation { (test : Operation → Bool) (H : History Operation) (owner removed : ℕ) → has_operation test (after_prune H owner removed) ≡ has_operation test H }
-    ensures text { (assigned : Operation → Option Assignment) (H : History Operation) (owner removed : ℕ) → owner < identity_limit → IsHistory H → winning_text assigned (after_prune H owner removed) ≡ winning_text assigned H }
-    ensures live { (operations : SetOperations Operation) (H : History Operation) (owner removed : ℕ) → owner < identity_limit → IsHistory H → live_elements operations (after_prune H owner removed) ≡ live_elements operations H }
+    ensures text { (assigned : Operation → Option Assignment) (H : History Operation) → IsKeptByPrunes (winning_text assigned) H }
+    ensures live { (operations : SetOperations Operation) (H : History Operation) → IsKeptByPrunes (live_elements operations) H }
 {}

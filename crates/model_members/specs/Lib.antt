@@ -6,6 +6,7 @@ pub mod Relations
 pub mod Node
 pub mod Step
 pub mod Refusals
+pub mod Tellings
 pub mod World
 pub mod Script
 pub mod Report

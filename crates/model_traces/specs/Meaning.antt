@@ -1,6 +1,6 @@
 -- What it means that a trace is lawful: every member's history is a consistent cut of the records made, and what it shows is a function of how many it holds.
-use Rattle.std.specs.Prelude.{◌≡◌, ℕ, ◌-◌, ◌<◌, ◌≤◌, ◌==◌, List, [], ◌∷◌, ◌++◌, Bool, if◌then◌else◌, Some, find}
-use Rattle.std.specs.List.{list_all}
+use Rattle.std.specs.Prelude.{◌≡◌, ◌↔◌, ℕ, ◌-◌, ◌<◌, ◌≤◌, ◌==◌, List, [], ◌∷◌, ◌++◌, Bool, if◌then◌else◌, Some, find}
+use Rattle.std.specs.List.{AllByRecursion, list_all}
 use Rattle.std.specs.Str.{bytes_eq}
 use Rattle.model_history.specs.Table.{identity_limit, identities}
 use Rattle.model_history.specs.Texts.{Text}
@@ -10,7 +10,8 @@ use Rattle.model_history.specs.Log.{IsTakenFrom}
 use Rattle.model_history.specs.History.{Record, History, at, versions, HasRecord, IsPartOf, IsHistory, IsExactlyPruned}
 use Rattle.model_members.specs.DataType.{DataType, meaning}
 use Rattle.model_members.specs.Node.{KeyDecl}
-use Rattle.model_traces.specs.Traces.{covers, meaning_text, TraceLine, Trace, TraceState, nothing_traced, after_lines}
+use Rattle.model_traces.specs.Traces.{covers, meaning_text, TraceLine, Trace, TraceState, nothing_traced, after_lines, IsLawful, BreaksFirst, verdict}
+use Rattle.model_traces.specs.Traces.Verdict.{Broken}
 use Rattle.model_traces.specs.Traces.Act.{Shows}
 
 -- WHAT THE TESTS SAY
@@ -65,3 +66,11 @@ module _ {Kind Op Shown : Type 0} (D : DataType Kind Op Shown) (value_text : Sho
   pub record ShowsAlike (trace : Trace Kind Op) : Type 0 where
     pub meant : (i : ℕ) (key text : Text) (H : History Op) → ShowsOf trace i key text H → (decl : KeyDecl Kind) × (find (λ d. bytes_eq d.name key) trace.keys ≡ Some decl) × (meaning_text value_text (meaning D decl.kind H) ≡ text)
     pub alike : (i j : ℕ) (key text other : Text) (H J : History Op) → ShowsOf trace i key text H → ShowsOf trace j key other J → ((origin : ℕ) → at H origin ≡ at J origin) → (H ≡ J) × (text ≡ other)
+
+  -- the verdict names a line and a rule exactly where the line is the first that breaks one, and this is the least
+  abbrev pub TellsFirstBreak : Trace Kind Op → Type 0
+  TellsFirstBreak trace = (line rule : ℕ) → (verdict D value_text trace ≡ Broken line rule) ↔ BreaksFirst D value_text trace.keys nothing_traced trace.lines line rule
+
+  -- if its lines are of identities and it is lawful, it is consistent
+  abbrev pub IsConsistentIfLawful : Trace Kind Op → Type 0
+  IsConsistentIfLawful trace = AllByRecursion IsOfIdentity trace.lines → IsLawful D value_text trace → IsConsistentTrace trace

@@ -5,16 +5,15 @@ ghost use Rattle.model_history.specs.Table.{identity_limit};
 ghost use Rattle.model_history.specs.Vector.{VersionVector, Covers};
 ghost use Rattle.model_history.specs.History.{History, at, versions, cut, IsHistory, IsExactlyPruned};
 ghost use Rattle.model_members.specs.DataType.{DataType};
-ghost use Rattle.model_traces.specs.Meaning.{IsOfIdentity, IsWithin, CoversAt, IsClosed, covers_last_pasts, IsConsistentTrace, ShowsAlike};
-ghost use Rattle.model_traces.specs.Traces.{Trace, Verdict, IsLawful, BreaksFirst, nothing_traced, verdict, covers, is_none, is_closed, is_exactly_pruned};
-ghost use Rattle.model_traces.specs.Traces.Verdict.{Lawful, Broken};
+ghost use Rattle.model_traces.specs.Meaning.{IsOfIdentity, IsWithin, CoversAt, IsClosed, covers_last_pasts, ShowsAlike, TellsFirstBreak, IsConsistentIfLawful};
+ghost use Rattle.model_traces.specs.Traces.{Trace, IsLawful, verdict, covers, is_none, is_closed, is_exactly_pruned};
+ghost use Rattle.model_traces.specs.Traces.Verdict.{Lawful};
 
 /// The verdict on a trace is that it is lawful exactly where it is, and else names the first line that breaks a rule, and
 /// the least rule that it breaks.
 pub fn verdicts<Kind, Operation, Shown>()
     ensures lawful { (D : DataType Kind Operation Shown) (value_text : Shown → Text) (trace : Trace Kind Operation) → (verdict D value_text trace ≡ Lawful) ↔ IsLawful D value_text trace }
-    ensures broken { (D : DataType Kind Operation Shown) (value_text : Shown → Text) (trace : Trace Kind Operation) (line rule : ℕ)
-        → (verdict D value_text trace ≡ Broken line rule) ↔ BreaksFirst D value_text trace.keys nothing_traced trace.lines line rule }
+    ensures broken { (D : DataType Kind Operation Shown) (value_text : Shown → Text) (trace : Trace Kind Operation) → TellsFirstBreak D value_text trace }
 {}
 
 /// What the tests of the rules say: that a vector counts no fewer than another at each identity, that a history is empty, that it
@@ -35,6 +34,6 @@ pub fn last_pasts_are_enough<Operation>()
 /// closed under past, exactly pruned, and has all of its own records; no record is lost. What is shown is what the member's
 /// history means, and members that hold as many records of each identity hold the same ones and show the same.
 pub fn lawful_traces_are_consistent<Kind, Operation, Shown>()
-    ensures consistent { (D : DataType Kind Operation Shown) (value_text : Shown → Text) (trace : Trace Kind Operation) → AllByRecursion IsOfIdentity trace.lines → IsLawful D value_text trace → IsConsistentTrace D value_text trace }
+    ensures consistent { (D : DataType Kind Operation Shown) (value_text : Shown → Text) (trace : Trace Kind Operation) → IsConsistentIfLawful D value_text trace }
     ensures alike { (D : DataType Kind Operation Shown) (value_text : Shown → Text) (trace : Trace Kind Operation) → AllByRecursion IsOfIdentity trace.lines → IsLawful D value_text trace → ShowsAlike D value_text trace }
 {}

@@ -1,9 +1,9 @@
-ghost use Rattle.std.specs.Prelude.{◌≡◌, ◌++◌, string_bytes, OnOk};
+ghost use Rattle.std.specs.Prelude.{◌≡◌, string_bytes};
 ghost use Rattle.model_history.specs.History.{History};
 ghost use Rattle.model_members.specs.Entry.{Entry};
 ghost use Rattle.data_envelope.specs.Images.{StandsFor};
 ghost use Rattle.data_envelope.specs.Words.{parts_of};
-ghost use Rattle.report_texts.specs.Entries.{has_records, value_text};
+ghost use Rattle.report_texts.specs.Entries.{has_records, AddsValue};
 
 use crate::shown::push_shown;
 use base_bytes::Memory;
@@ -32,8 +32,7 @@ pub fn push_value<T: Replica>(
     text: &mut String,
     envelope: &Envelope<T>,
 ) -> Result<(), Memory>
-    ensures { (log : History T.Op) (entry : Entry T.Op) → StandsFor T.IsDataOf (parts_of envelope.now) log entry
-        → OnOk result (string_bytes text.new ≡ string_bytes text.old ++ value_text (T.data_type.shown (T.kind_of envelope.now.value)) entry) }
+    ensures { AddsValue T.IsDataOf (parts_of envelope.now) T.data_type.shown (T.kind_of envelope.now.value) (string_bytes text.old) (string_bytes text.new) result }
 {
     if !has_records(envelope) {
         text.push_str("-")?;

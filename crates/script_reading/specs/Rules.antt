@@ -1,4 +1,6 @@
 -- In which order the rules of a script are told: none before another that is broken.
+--     HoldBelow        the rules of a script as a whole that have a lower number hold
+--     IsFirstBroken, IsBrokenByStep        of its steps the first that breaks a rule breaks this one
 use Rattle.std.specs.Prelude.{◌≡◌, ℕ, zero, suc, ◌<◌, [], ◌∷◌, codes, true, Result, Ok, Err}
 use Rattle.serde_json.specs.Data.{Data, Items, no_items, item}
 use Rattle.serde_json.specs.Find.{get}
@@ -22,3 +24,7 @@ unfoldable pub IsFirstBroken : Clients → ℕ → ℕ → Rule → Items → Ty
 IsFirstBroken clients first k broken no_items = ⊥
 IsFirstBroken clients first zero broken (item d ds) = step_of clients first d ≡ Err broken
 IsFirstBroken clients first (suc k) broken (item d ds) = IsRead (step_of clients first d) × IsFirstBroken clients (suc first) k broken ds
+
+-- the steps are a list, so many of the first of which are read, and the next one breaks the rule
+abbrev pub IsBrokenByStep : Clients → Data → Rule → Type 0
+IsBrokenByStep clients d broken = (items : Items) × (step_list_of d ≡ Ok items) × ((k : ℕ) × IsFirstBroken clients 1 k broken items)

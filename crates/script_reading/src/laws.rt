@@ -1,10 +1,10 @@
-ghost use Rattle.std.specs.Prelude.{◌≡◌, ◌↔◌, ℕ, List, ◌≤◌, Ok, Err, All};
-ghost use Rattle.serde_json.specs.Data.{Data, Items};
+ghost use Rattle.std.specs.Prelude.{◌≡◌, ◌↔◌, ℕ, List, ◌≤◌, Err, All};
+ghost use Rattle.serde_json.specs.Data.{Data};
 ghost use Rattle.script_reading.specs.declared.clients.Clients.{Clients};
 ghost use Rattle.script_reading.specs.declared.fault.Rule.{Rule};
 ghost use Rattle.script_reading.specs.declared.script.Script.{Script};
-ghost use Rattle.script_reading.specs.Reading.{script_of, step_list_of, Spells};
-ghost use Rattle.script_reading.specs.Rules.{HoldBelow, IsFirstBroken};
+ghost use Rattle.script_reading.specs.Reading.{script_of, Spells};
+ghost use Rattle.script_reading.specs.Rules.{HoldBelow, IsBrokenByStep};
 ghost use Rattle.script_reading.specs.WellFormed.{HasNoClients};
 
 /// A script is refused with the first rule that it breaks: one of the script as a whole where those of lower numbers hold,
@@ -12,8 +12,7 @@ ghost use Rattle.script_reading.specs.WellFormed.{HasNoClients};
 pub fn rules_in_order()
     ensures whole { (clients : Clients) (d : Data) (broken : Rule) → script_of clients d ≡ Err broken → broken.step ≡ 0 → HoldBelow broken.number d }
     ensures holds { (clients : Clients) (d : Data) (broken : Rule) → script_of clients d ≡ Err broken → 1 ≤ broken.step → HoldBelow 5 d }
-    ensures step { (clients : Clients) (d : Data) (broken : Rule) → script_of clients d ≡ Err broken → 1 ≤ broken.step
-        → (items : Items) × (step_list_of d ≡ Ok items) × ((k : ℕ) × IsFirstBroken clients 1 k broken items) }
+    ensures step { (clients : Clients) (d : Data) (broken : Rule) → script_of clients d ≡ Err broken → 1 ≤ broken.step → IsBrokenByStep clients d broken }
 {}
 
 /// Where no clients are allowed, the same bytes spell the same script, if it has none.

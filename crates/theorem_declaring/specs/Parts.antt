@@ -4,18 +4,23 @@
 --     SpeaksOf, IsForAnother        what an input says of keys is of these; a command for another key
 --     stepped_with        a step, made with these keys
 --     MakesSameStep, StaysPart        the member with these keys makes the same step; afterwards nothing is held or stored of others
+--     OfStepsInPart, GrowsByNext, RefusesOtherKeys        of every such step; one more key of a member's; what a command for another key does
 --     StoresNoOthers        a store without entries of the other durable keys
-use Rattle.std.specs.Prelude.{◌≡◌, ◌↔◌, ℕ, List, Bool, IsTrue, IsFalse, Some, None, map, filter, find}
+--     OfNewParts, IsSameAsPart        of every new member whose store is such; it is the new member with a part of the keys
+use Rattle.std.specs.Prelude.{◌≡◌, ◌↔◌, ℕ, List, Bool, IsTrue, IsFalse, Some, None, map, filter, find, slice_get}
 use Rattle.std.specs.List.{list_any}
 use Rattle.std.specs.Str.{bytes_eq}
 use Rattle.model_history.specs.Texts.{Text}
 use Rattle.model_members.specs.DataType.{Replication}
 use Rattle.model_members.specs.Entry.{empty_entry}
 use Rattle.model_members.specs.Message.{part_of}
-use Rattle.model_members.specs.Node.{KeyDecl, Node, Input, Fate, Stepped, keyed_entry}
+use Rattle.model_members.specs.Node.{KeyDecl, Node, Input, Fate, Stepped, keyed_entry, with_key, one_step_later}
 use Rattle.model_members.specs.Node.Input.{Update, Get, Take}
-use Rattle.model_members.specs.Step.{step, to_store}
-use Rattle.model_members.specs.World.{Store, FitsFate, after_store}
+use Rattle.model_members.specs.Node.Reply.{UnknownKey}
+use Rattle.model_members.specs.Step.{step, answered, to_store}
+use Rattle.model_members.specs.View.{View}
+use Rattle.model_members.specs.World.{Store, FitsFate, after_store, loaded_node}
+use Rattle.base_bytes.specs.TextOrder.{IsRising}
 
 -- KEYS
 
@@ -77,9 +82,32 @@ module _ {Kind Op Shown : Type 0} (D : Replication Kind Op Shown) (part : List (
     pub uses : UsesOnly part (step D node input fate).node
     pub stored : (store : Store Op) (key : Text) → IsFalse (knows part key) → after_store fate (map keyed_entry (to_store node (step D node input fate).node)) store key ≡ store key
 
+module _ {Kind Op Shown : Type 0} where
+  -- it holds of every step of a member that so far used only a part of its keys, for an input that speaks of these alone
+  abbrev pub OfStepsInPart : (List (KeyDecl Kind) → Node Kind Op Shown → Input Op → Fate → Type 0) → Type 0
+  OfStepsInPart Holds = (keys : List (KeyDecl Kind)) (node : Node Kind Op Shown) (input : Input Op) (fate : Fate) → UsesOnly keys node → SpeaksOf keys input → Holds keys node input fate
+
+  -- a member that so far used only these of its keys, which stand in the order of their names, used only these and one more of them
+  abbrev pub GrowsByNext : List (KeyDecl Kind) → Node Kind Op Shown → ℕ → KeyDecl Kind → Type 0
+  GrowsByNext keys node k new = UsesOnly keys node → IsRising (map (λ decl. decl.name) node.keys) → slice_get node.keys k ≡ Some new → IsFalse (knows keys new.name) → UsesOnly (with_key new keys) node
+
+  -- a member with some keys answers a command for another key that it is unknown, and counts one step more
+  abbrev pub RefusesOtherKeys : Replication Kind Op Shown → Type 0
+  RefusesOtherKeys D =
+      (keys : List (KeyDecl Kind)) (node : Node Kind Op Shown) (input : Input Op) (fate : Fate)
+      → IsForAnother keys input → step D (with_keys keys node) input fate ≡ answered (with_keys keys (one_step_later node)) UnknownKey
+
 -- STORES
 
 -- the store has no entry of a durable key that is not in the part
 abbrev pub StoresNoOthers : {Kind Op : Type 0} → (part all : List (KeyDecl Kind)) → Store Op → Type 0
 StoresNoOthers {Kind} part all store =
     (name : Text) (decl : KeyDecl Kind) → IsFalse (knows part name) → find (λ (d : KeyDecl Kind). bytes_eq d.name name) all ≡ Some decl → IsTrue decl.durable → store name ≡ None
+
+-- it holds of every new member over a store that has nothing of durable keys beside a part of all
+abbrev pub OfNewParts : (Kind Op : Type 0) → ((part all : List (KeyDecl Kind)) → ℕ → View → Store Op → Type 0) → Type 0
+OfNewParts Kind Op Holds = (part all : List (KeyDecl Kind)) (i : ℕ) (view : View) (store : Store Op) → IsPart part all → StoresNoOthers part all store → Holds part all i view store
+
+-- with the part of the keys it is the new member that has declared only these
+abbrev pub IsSameAsPart : {Kind Op : Type 0} → (Shown : Type 0) → (part all : List (KeyDecl Kind)) → ℕ → View → Store Op → Type 0
+IsSameAsPart Shown part all i view store = with_keys part (loaded_node {Shown = Shown} all i view store) ≡ loaded_node part i view store

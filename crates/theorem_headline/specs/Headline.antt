@@ -3,8 +3,11 @@
 --     TellsMeaning, AreAlike, RefusalChangesNothing        what members tell, and what changes
 --     TellsSettle, LeavesSettled, EachSection        of settles and of thread steps
 --     TheHeadline        all of it
+--     ReportsHaveHeadline        it holds of each run that a report tells
 use Rattle.std.specs.Prelude.{◌≡◌, ℕ, suc, ◌-◌, ◌*◌, ◌≤◌, List, [], ◌∷◌, ◌++◌, length, ⊤, None, Some, find, slice_get}
+use Rattle.std.specs.List.{AllByRecursion}
 use Rattle.std.specs.Str.{bytes_eq}
+use Rattle.model_history.specs.Table.{identity_limit}
 use Rattle.model_history.specs.Texts.{Text}
 use Rattle.model_members.specs.DataType.{Replication, Meaning, meaning}
 use Rattle.model_members.specs.Node.{KeyDecl, Node, OpenOperation, Finished, Level, Input, state_of}
@@ -15,11 +18,11 @@ use Rattle.model_members.specs.Script.{KeeperAnswers, Playing, ScriptStep, Answe
 use Rattle.theorem_runs.specs.Logs.{AllHaveHistories}
 use Rattle.theorem_runs.specs.Pruning.{UnionsArePruned, AreRunning, HaveTakenAsMany}
 use Rattle.theorem_sections.specs.Calls.{CallsStandOnce}
-use Rattle.theorem_sections.specs.Runs.{RunStep, PlaysAll}
+use Rattle.theorem_sections.specs.Runs.{RunStep, IsRunStep, PlaysAll, HasReport}
 use Rattle.theorem_sections.specs.Runs.RunStep.{Plain, Threads}
 use Rattle.theorem_sections.specs.Sections.{Command, Move, Section, Line}
 use Rattle.theorem_sections.specs.Seen.{Stands, GetsIncludeSeen, stands_before}
-use Rattle.theorem_settling.specs.Settling.{IsSettled, HasBlocked}
+use Rattle.theorem_settling.specs.Settling.{DigestsTellFrom, IsSettled, HasBlocked}
 
 -- WHAT MEMBERS TELL, AND WHAT CHANGES
 
@@ -110,3 +113,14 @@ module _ {Kind Op Shown : Type 0} (D : Replication Kind Op Shown) (answers : Kee
     pub calls : EachSection D (CallsStandOnce D) (opening answers members keys) steps lines last plays
     -- a refused input changes no entry; that a store failed is no refusal
     pub refused : AtEachEvent (RefusalChangesNothing D)
+
+-- digests tell entries apart in each world of these events, from the first one on
+abbrev pub DigestsTellThroughout : {Kind Op Shown : Type 0} → Replication Kind Op Shown → ℕ → List (KeyDecl Kind) → List (Event Op) → Type 0
+DigestsTellThroughout D members keys = DigestsTellFrom D (start members keys)
+
+-- whatever report a script has, the headline holds of the run that it tells
+abbrev pub ReportsHaveHeadline : {Kind Op Shown : Type 0} → Replication Kind Op Shown → (Shown → Text) → (ℕ → List (KeyDecl Kind) → List (Event Op) → Type 0) → Type 0
+ReportsHaveHeadline {Kind} {Op} {Shown} D value_text DigestsTell =
+    (answers : KeeperAnswers) (members : ℕ) (keys : List (KeyDecl Kind)) (steps : List (RunStep Op)) (text : Text) → 1 ≤ members → members ≤ identity_limit → AllByRecursion IsRunStep steps
+    → (report : HasReport D value_text answers members keys steps text)
+    → TheHeadline D answers members keys steps report.lines report.last report.plays (DigestsTell members keys)

@@ -1,11 +1,11 @@
 -- The last record of each identity that touches an element.
-use Rattle.std.specs.Prelude.{ℕ, zero, suc, ◌-◌, ◌==◌, Bool, ◌&&◌, not, if◌then◌else◌, nat_le}
+use Rattle.std.specs.Prelude.{◌≡◌, ℕ, ◌<◌, zero, suc, ◌-◌, ◌==◌, Bool, ◌&&◌, not, if◌then◌else◌, nat_le}
 use Rattle.std.specs.List.{list_any}
-use Rattle.model_history.specs.Table.{identities}
+use Rattle.model_history.specs.Table.{identities, identity_limit}
 use Rattle.model_history.specs.Texts.{Text}
-use Rattle.model_history.specs.History.{History, Stamped, at}
+use Rattle.model_history.specs.History.{History, Stamped, at, all_records}
 use Rattle.model_history.specs.Cuts.{record_at}
-use Rattle.model_meanings.specs.ObservedRemove.{SetOperations, is_adding_by, touches}
+use Rattle.model_meanings.specs.ObservedRemove.{SetOperations, is_adding_by, is_live, touches}
 
 module _ {Op : Type 0} (ops : SetOperations Op) (e : Text) (H : History Op) where
   -- the record of an origin at an index, with its number
@@ -33,3 +33,7 @@ module _ {Op : Type 0} (ops : SetOperations Op) (e : Text) (H : History Op) wher
 
   abbrev pub has_last_live : Bool
   has_last_live = list_any is_last_live identities
+
+  -- a record of an identity adds the element, and no later one has replaced it, exactly where the last record of the identity that touches the element does so
+  abbrev pub LastTouchesTell : Type 0
+  LastTouchesTell = (i : ℕ) → i < identity_limit → list_any (λ x. (x.origin == i) && is_live ops e H x) (all_records H) ≡ is_last_live i

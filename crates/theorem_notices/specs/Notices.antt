@@ -2,20 +2,24 @@
 --     moment, GoesOn        where the run stands after some steps; the client follows the key from there on, step after step
 --     said_in, held_in        what the notices of steps say to it; what the member holds of the key at its flushes
 --     IsTold        how the one follows the other
-use Rattle.std.specs.Prelude.{◌≡◌, ℕ, List, [], ◌∷◌, ◌++◌, map, flat_map, Bool, true, false, ◌==◌, if◌then◌else◌, Option, None, Some, option_map}
+--     NoticesFollow, SubscribersBeginUntold        so it is from any moment on; and at first nothing was told
+use Rattle.std.specs.Prelude.{◌≡◌, ◌≤◌, ℕ, List, [], ◌∷◌, ◌++◌, map, flat_map, Bool, true, false, ◌==◌, if◌then◌else◌, Option, None, Some, option_map}
+use Rattle.std.specs.List.{AllByRecursion}
+use Rattle.model_history.specs.Table.{identity_limit}
 use Rattle.model_history.specs.Texts.{Text}
 use Rattle.model_history.specs.History.{History}
 use Rattle.model_members.specs.DataType.{Replication}
 use Rattle.model_members.specs.Node.{KeyDecl, Node}
-use Rattle.model_members.specs.Script.{KeeperAnswers, opening}
+use Rattle.model_members.specs.Script.{KeeperAnswers, IsStep, opening}
 use Rattle.model_kinds.specs.declared.shown.Shown.{Shown}
 use Rattle.member_desk.specs.declared.notice.Notice.{Notice}
 use Rattle.member_desk.specs.Histories.{held_at}
 use Rattle.member_desk.specs.Subscriptions.{is_subscribed, told_to}
 use Rattle.member_desk.specs.Successive.{tellings, found_values, Differ, Rise, last_of, said_to}
-use Rattle.theorem_watching.specs.Watching.{WatchStep, WatchLine, Watching, shows_in, flushed_by, beginning, just_played, watched, watched_all, all_lines}
+use Rattle.theorem_watching.specs.Watching.{WatchStep, WatchLine, Watching, plain_steps, subscribe_answer, shows_in, flushed_by, beginning, just_played, watched, watched_all, all_lines}
 use Rattle.theorem_watching.specs.Watching.WatchStep.{Plain, Subscribe, Unsubscribe}
 use Rattle.theorem_watching.specs.Watching.WatchLine.{NoticeLine}
+use Rattle.theorem_watching.specs.declared.followship.Followship.TheVariants.{Subscribed}
 
 -- a client that follows a key at a member
 pub record Subscription : Type 0 where
@@ -92,3 +96,18 @@ module _ {Kind Op : Type 0} (D : Replication Kind Op Shown) (s : Subscription) w
       -- the last one is what was shown at the last flush at which there was a record
       pub last : last_of (option_map (shows_in D.data_type keys s.key) told) (said_in s (all_lines D w steps))
           ≡ last_of (option_map (shows_in D.data_type keys s.key) told) (map (shows_in D.data_type keys s.key) (found_values (held_in w steps)))
+
+module _ {Kind Op : Type 0} (D : Replication Kind Op Shown) where
+  -- in every run of a script with subscriptions: from any moment on, through any steps that a client goes on following a key, its notices follow what its member holds
+  abbrev pub NoticesFollow : Type 0
+  NoticesFollow =
+      (answers : KeeperAnswers) (members : ℕ) (keys : List (KeyDecl Kind)) (before steps : List (WatchStep Op))
+      → 1 ≤ members → members ≤ identity_limit → AllByRecursion IsStep (plain_steps (before ++ steps))
+      → (s : Subscription) (told : Option (History Op)) → WasTold s told (moment D answers members keys before)
+      → GoesOn D s (moment D answers members keys before) steps → IsTold D s keys told (moment D answers members keys before) steps
+
+  -- who subscribes anew follows the key from then on, and was told nothing
+  abbrev pub SubscribersBeginUntold : Type 0
+  SubscribersBeginUntold =
+      (answers : KeeperAnswers) (members : ℕ) (keys : List (KeyDecl Kind)) (before : List (WatchStep Op)) (s : Subscription)
+      → subscribe_answer (moment D answers members keys before) s.at s.client s.key ≡ Subscribed → WasTold s None (watched D (moment D answers members keys before) (subscribe_step s))

@@ -1,12 +1,13 @@
 -- What a majority read has to do with an earlier majority write of its key.
-use Rattle.std.specs.Prelude.{◌≡◌, ℕ, List, ◌∷◌, ◌++◌, Option, Some, find, option_map, slice_get}
+use Rattle.std.specs.Prelude.{◌≡◌, ◌≢◌, ℕ, List, ◌∷◌, ◌++◌, Option, Some, find, option_map, slice_get}
 use Rattle.std.specs.List.{AllByRecursion}
 use Rattle.std.specs.Str.{bytes_eq}
 use Rattle.model_history.specs.Texts.{Text}
 use Rattle.model_history.specs.History.{Action, History, at, versions, HasRecord}
 use Rattle.model_members.specs.DataType.{Replication, Meaning, meaning}
 use Rattle.model_members.specs.Node.{KeyDecl, Node, Level, Input, Fate, Reply, Result, Finished, Output}
-use Rattle.model_members.specs.World.{World, Event, Turn, IsRun, run, start, turn_of, step_in, output_of}
+use Rattle.model_members.specs.Step.{value_reply, read_result}
+use Rattle.model_members.specs.World.{World, Event, Turn, IsRun, IsLawful, run, start, happens, turn_of, step_in, output_of}
 
 -- WORDS
 
@@ -107,3 +108,20 @@ module _ {Kind Op Shown : Type 0} (D : Replication Kind Op Shown) where
       pub declared : find (λ (d : KeyDecl Kind). bytes_eq d.name r.write.key) keys ≡ Some decl
       pub is : means ≡ meaning D.data_type decl.kind (node.entries r.write.key).history
       pub has : HasWrite at_write r.write.writer r.write.key r.write.operation (node.entries r.write.key).history
+
+    -- what the read is answered at once shows the write
+    abbrev pub ShowsAtOnce : Type 0
+    ShowsAtOnce =
+        (reply : Reply Shown) → reply_in at_read (read_event r) ≡ Some reply → ((op : ℕ) → reply ≢ Reply.Pending op)
+        → (means : Meaning Shown) × (reply ≡ value_reply D (Some means)) × ShowsWrite (happens D at_read (read_event r)) means
+
+    -- what a pending read finishes with at a later event shows the write
+    abbrev pub ShowsLater : Type 0
+    ShowsLater =
+        (op : ℕ) → reply_in at_read (read_event r) ≡ Some (Reply.Pending op)
+        → (event : Event Op) (end : Finished Shown) → IsLawful D at_end event → Finishes at_end event r.reader end → end.op ≡ op
+        → (means : Meaning Shown) × (end.result ≡ read_result D (Some means)) × ShowsWrite (happens D at_end event) means
+
+  -- it holds of every majority write and later majority read of its key, while membership stays unchanged and where the read's caller had seen that the write succeeded
+  abbrev pub WhileUnchanged : (ℕ → List (KeyDecl Kind) → WriteThenRead Op → Type 0) → Type 0
+  WhileUnchanged Holds = (members : ℕ) (keys : List (KeyDecl Kind)) (r : WriteThenRead Op) → IsUnchanged members keys r → Holds members keys r

@@ -6,6 +6,8 @@
 --     StandFor        the processes stand for a world
 --     AreOneRun        what happened is a run, the processes stand for the world that it leads to, and what is told next is the model's
 --     HoldHistories        what the members hold
+--     WhateverHappens        it holds of all processes that begin so, and of all that may happen to them
+--     AreAlwaysOneRun, AlwaysHoldHistories        whatever happens is one run, and the members then hold such histories
 use Rattle.std.specs.Prelude.{◌≡◌, ℕ, List, [], ◌∷◌, ◌++◌, Bool, true, false, if◌then◌else◌, Option, Some, None, map, option_map, ⊤, All}
 use Rattle.std.specs.List.{AllZip}
 use Rattle.model_history.specs.Texts.{Text}
@@ -32,7 +34,7 @@ use Rattle.member_node.specs.declared.key.KeyState.{KeyState}
 use Rattle.member_node.specs.declared.input.Input.{Input}
 use Rattle.member_node.specs.declared.input.Input.TheVariants as input
 use Rattle.member_node.specs.declared.reply.Output.{Output}
-use Rattle.member_node.specs.Keys.{declared}
+use Rattle.member_node.specs.Keys.{declared, AreOfKinds}
 use Rattle.member_node.specs.Limits.{highest_limit}
 use Rattle.member_node.specs.Members.{StandsForMessage, StandsForEntry}
 use Rattle.member_node.specs.Operations.{finished_meant}
@@ -42,7 +44,7 @@ use Rattle.world_members.specs.Standing.{TellsStore}
 use Rattle.theorem_processes.specs.Declaring.{known_to, is_unknown}
 use Rattle.theorem_processes.specs.Forgetting.{StandsForProcess}
 use Rattle.theorem_processes.specs.Keys.{is_whole}
-use Rattle.theorem_processes.specs.Processes.{Processes, Happening, MayHappen, happened}
+use Rattle.theorem_processes.specs.Processes.{Processes, Happening, Begin, MayHappen, AllHappen, happened, after_all}
 use Rattle.theorem_processes.specs.Processes.Happening.{Steps, Takes, Refuses, Forgets, Limits, Declares, Leaves, Joins, Returns}
 
 -- THE MODEL
@@ -167,3 +169,20 @@ module _ {T K Kind Delta : Type 0} {ghosts : Ghosts T Kind Op Delta} {keeping : 
     pub histories : (i : ℕ) (member : Node T K Kind Op Delta ghosts keeping) (key : Text) → ps.members i ≡ Some member → IsHistory (taken i key)
     pub pruned : (i j : ℕ) (a b : Node T K Kind Op Delta ghosts keeping) (key : Text) → AreMembers ps i j a b → IsExactlyPruned (union (taken i key) (taken j key))
     pub alike : (i j : ℕ) (a b : Node T K Kind Op Delta ghosts keeping) (key : Text) → AreMembers ps i j a b → ((origin : ℕ) → at (taken i key) origin ≡ at (taken j key) origin) → taken i key ≡ taken j key
+
+-- WHATEVER HAPPENS
+
+module _ {T K Kind Delta : Type 0} (ghosts : Ghosts T Kind Op Delta) (keeping : Keeping K) (spelling : Spelling T Kind Op Delta) (deltas : DeltaSpelling T Kind Op Delta) where
+  -- it holds of all processes that begin with so many members and keys of a catalogue, and of all that may happen to them
+  abbrev pub WhateverHappens : ((Text → Kind) → List (KeyDecl T Kind Op Delta) → ℕ → Processes ghosts keeping → List (Happening ghosts keeping) → Type 0) → Type 0
+  WhateverHappens Holds =
+      (kinds : Text → Kind) (decls : List (KeyDecl T Kind Op Delta)) (count : ℕ) (first : Processes ghosts keeping) (happenings : List (Happening ghosts keeping))
+      → AreOfKinds kinds decls → Begin decls count first → AllHappen spelling deltas decls first happenings → Holds kinds decls count first happenings
+
+  -- what happened is one run
+  abbrev pub AreAlwaysOneRun : Type 0
+  AreAlwaysOneRun = WhateverHappens (λ kinds decls count first happenings. AreOneRun spelling kinds decls deltas count first happenings (after_all first happenings))
+
+  -- the members then hold histories of it
+  abbrev pub AlwaysHoldHistories : Type 0
+  AlwaysHoldHistories = WhateverHappens (λ kinds decls count first happenings. HoldHistories spelling kinds decls (after_all first happenings))

@@ -1,10 +1,4 @@
-ghost use Rattle.std.specs.Prelude.{ℕ, List};
-ghost use Rattle.model_history.specs.Texts.{Text};
-ghost use Rattle.model_kinds.specs.declared.operation.Op as operation;
-ghost use Rattle.member_node.specs.declared.key.KeyDecl.{KeyDecl};
-ghost use Rattle.member_node.specs.Keys.{AreOfKinds};
-ghost use Rattle.theorem_processes.specs.Processes.{Processes, Happening, Begin, AllHappen, after_all};
-ghost use Rattle.theorem_processes.specs.Runs.{AreOneRun, HoldHistories};
+ghost use Rattle.theorem_processes.specs.Runs.{AreAlwaysOneRun, AlwaysHoldHistories};
 
 use data_delta_codec::SpelledDelta;
 use member_codec::{one_spelling, stands_as_sent};
@@ -19,9 +13,7 @@ use model_kinds::Op;
 /// were told to forget; what they posted is what lies on its links, and what each step tells is what its event puts out, or that a
 /// key is not declared. So whatever is proved of every run holds of them.
 pub fn processes_are_one_run<T: SpelledDelta<Op = Op>, K: Keeper>()
-    ensures { (kinds : Text → T.Kind) (decls : List (KeyDecl T T.Kind operation.Op T.Delta)) (count : ℕ) (first : Processes T.Replica K.Keeper) (happenings : List (Happening T.Replica K.Keeper))
-        → AreOfKinds kinds decls → Begin decls count first → AllHappen T.SpelledData.own T.SpelledDelta.own decls first happenings
-        → AreOneRun T.SpelledData.own kinds decls T.SpelledDelta.own count first happenings (after_all first happenings) }
+    ensures { AreAlwaysOneRun T.Replica K.Keeper T.SpelledData.own T.SpelledDelta.own }
 {
     one_spelling::<T>();
     stands_as_sent::<T>();
@@ -31,9 +23,7 @@ pub fn processes_are_one_run<T: SpelledDelta<Op = Op>, K: Keeper>()
 /// Any two of these histories are exactly pruned together, so no update is lost by a prune or counted twice; and members that
 /// have taken as many records of each identity have taken the same.
 pub fn processes_hold_histories<T: SpelledDelta<Op = Op>, K: Keeper>()
-    ensures { (kinds : Text → T.Kind) (decls : List (KeyDecl T T.Kind operation.Op T.Delta)) (count : ℕ) (first : Processes T.Replica K.Keeper) (happenings : List (Happening T.Replica K.Keeper))
-        → AreOfKinds kinds decls → Begin decls count first → AllHappen T.SpelledData.own T.SpelledDelta.own decls first happenings
-        → HoldHistories T.SpelledData.own kinds decls (after_all first happenings) }
+    ensures { AlwaysHoldHistories T.Replica K.Keeper T.SpelledData.own T.SpelledDelta.own }
 {
     one_spelling::<T>();
     stands_as_sent::<T>();

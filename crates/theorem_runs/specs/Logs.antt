@@ -50,6 +50,10 @@ pub record AreLogsOf {Kind Op Shown : Type 0} (D : Replication Kind Op Shown) (m
   pub throughout : (before rest : List (Event Op)) → events ≡ before ++ rest → IsLoggedBy logs (run D (start members keys) before)
   pub unpruned : AllByRecursion IsNoTick events → (key : Text) → HasNoPrunes (logs key)
 
+-- there are such logs
+abbrev pub HaveLogs : {Kind Op Shown : Type 0} → Replication Kind Op Shown → ℕ → List (KeyDecl Kind) → List (Event Op) → Type 0
+HaveLogs {Kind} {Op} {Shown} D members keys events = (logs : Text → History Op) × AreLogsOf D members keys events logs
+
 -- each running member's history of a key is one: pasts lie inside it, numbers are in order, and a past holds the pasts of its records
 abbrev pub AllHaveHistories : {Kind Op Shown : Type 0} → World Kind Op Shown → Type 0
 AllHaveHistories {Kind} {Op} {Shown} world = (i : ℕ) (node : Node Kind Op Shown) (key : Text) → world.nodes i ≡ Some node → IsHistory (node.entries key).history

@@ -1,23 +1,15 @@
-ghost use Rattle.std.specs.Prelude.{◌≡◌, ◌≤◌, ℕ, List, true};
-ghost use Rattle.std.specs.List.{AllByRecursion};
-ghost use Rattle.model_history.specs.History.{History, IsPartOf};
-ghost use Rattle.model_history.specs.Table.{identity_limit};
-ghost use Rattle.model_history.specs.Texts.{Text};
 ghost use Rattle.model_members.specs.DataType.{Replication};
-ghost use Rattle.model_members.specs.Node.{KeyDecl, Node, Level, Input, Fate, state_of};
-ghost use Rattle.model_members.specs.Step.{step, shown_of};
-ghost use Rattle.model_members.specs.World.{World, Event, IsRun};
-ghost use Rattle.model_members.specs.Script.{ScriptStep, IsStep, KeeperAnswers, opening, played_all};
-ghost use Rattle.theorem_runs.specs.Logs.{HasLogs, AreLogsOf, AllHaveHistories};
+ghost use Rattle.theorem_runs.specs.Logs.{HasLogs, HaveLogs, AllHaveHistories};
 ghost use Rattle.theorem_runs.specs.Views.{HasSoundViews};
 ghost use Rattle.theorem_runs.specs.PassedOver.{NothingIsPassedOver};
-ghost use Rattle.theorem_runs.specs.Pruning.{InEveryRun, HaveTakenAsMany, HasTakenAll, AreRunning, AllSeeTheirMarks, AllHaveUnprunedMarks, SeenHaveInstalled, SeenAreKept, JoinedUnpruned, PrunersHaveInstalled, NoLateRecord, NoLateGroup, NoEarlierPrune, GroupsHaveNoPrunes, StoredIsHeld, PrunesFollowMarks, OnePruneAView, EntriesArePruned, UnionsArePruned};
+ghost use Rattle.theorem_runs.specs.Pruning.{InEveryRun, AllSeeTheirMarks, AllHaveUnprunedMarks, SeenHaveInstalled, SeenAreKept, JoinedUnpruned, PrunersHaveInstalled, NoLateRecord, NoLateGroup, NoEarlierPrune, GroupsHaveNoPrunes, StoredIsHeld, PrunesFollowMarks, OnePruneAView, EntriesArePruned, UnionsArePruned};
+ghost use Rattle.theorem_runs.specs.Runs.{OfEveryRun, ScriptsAreRuns};
+ghost use Rattle.theorem_runs.specs.Taken.{SameCountsSameHistory, SameRecordsSameHistory, SameCountsSameReply, SameCountsSameShown, StepsKeepRecords, DeletesStay, StepsKeepDeletes};
 
 /// The logs of a run hold each history that a member, a message or a store held on the way: each key, origin and number
 /// names one record, and each history holds the pasts of its records. They have no prune where no event was a prune tick.
 pub fn logs_throughout<Kind, Operation, Shown>()
-    ensures { (D : Replication Kind Operation Shown) (members : ℕ) (keys : List (KeyDecl Kind)) (events : List (Event Operation)) (world : World Kind Operation Shown) → IsRun D members keys events world
-        → (logs : Text → History Operation) × AreLogsOf D members keys events logs }
+    ensures { OfEveryRun Kind Operation Shown (λ D members keys events world. HaveLogs D members keys events) }
 {}
 
 /// In every run, each running member's history of a key is one in which pasts lie inside it, numbers are in order, and a
@@ -28,9 +20,7 @@ pub fn members_have_histories<Kind, Operation, Shown>()
 
 /// What a script plays is a run, whatever the keepers answer.
 pub fn scripts_are_runs<Kind, Operation, Shown>()
-    ensures { (D : Replication Kind Operation Shown) (members : ℕ) (keys : List (KeyDecl Kind)) (answers : KeeperAnswers) (steps : List (ScriptStep Operation))
-        → 1 ≤ members → members ≤ identity_limit → AllByRecursion IsStep steps
-        → let end = played_all D (opening answers members keys) steps in IsRun D members keys end.events end.world }
+    ensures { (D : Replication Kind Operation Shown) → ScriptsAreRuns D }
 {}
 
 /// In every run, view 0, view 1 and so on are sound: somebody is in each, identities rise and were given, and no two
@@ -83,21 +73,15 @@ pub fn pruning_safety<Kind, Operation, Shown>()
 /// member has taken: members that have taken as many records of each identity have taken the same, in the same history,
 /// answer a local get alike, and show the same.
 pub fn same_taken_same_shown<Kind, Operation, Shown>()
-    ensures history { (D : Replication Kind Operation Shown) (members : ℕ) (keys : List (KeyDecl Kind)) (events : List (Event Operation)) (world : World Kind Operation Shown) → IsRun D members keys events world
-        → (i j : ℕ) (a b : Node Kind Operation Shown) (key : Text) → AreRunning world i j a b → HaveTakenAsMany key a b → (a.entries key).history ≡ (b.entries key).history }
-    ensures records { (D : Replication Kind Operation Shown) (members : ℕ) (keys : List (KeyDecl Kind)) (events : List (Event Operation)) (world : World Kind Operation Shown) → IsRun D members keys events world
-        → (i j : ℕ) (a b : Node Kind Operation Shown) (key : Text) → AreRunning world i j a b → HasTakenAll key a b → HasTakenAll key b a → (a.entries key).history ≡ (b.entries key).history }
-    ensures replies { (D : Replication Kind Operation Shown) (members : ℕ) (keys : List (KeyDecl Kind)) (events : List (Event Operation)) (world : World Kind Operation Shown) → IsRun D members keys events world
-        → (i j : ℕ) (a b : Node Kind Operation Shown) (key : Text) (fate : Fate) → AreRunning world i j a b → HaveTakenAsMany key a b
-        → (step D a (Input.Get key Level.Local) fate).output.reply ≡ (step D b (Input.Get key Level.Local) fate).output.reply }
-    ensures shown { (D : Replication Kind Operation Shown) (members : ℕ) (keys : List (KeyDecl Kind)) (events : List (Event Operation)) (world : World Kind Operation Shown) → IsRun D members keys events world
-        → (i j : ℕ) (a b : Node Kind Operation Shown) (key : KeyDecl Kind) → AreRunning world i j a b → HaveTakenAsMany key.name a b → shown_of D (state_of a key) ≡ shown_of D (state_of b key) }
+    ensures history { InEveryRun Kind Operation Shown (λ variables world. SameCountsSameHistory world) }
+    ensures records { InEveryRun Kind Operation Shown (λ variables world. SameRecordsSameHistory world) }
+    ensures replies { OfEveryRun Kind Operation Shown (λ D members keys events world. SameCountsSameReply D world) }
+    ensures shown { OfEveryRun Kind Operation Shown (λ D members keys events world. SameCountsSameShown D world) }
 {}
 
 /// No step of a member loses a record that it has taken. So a deleted key stays deleted there, where histories that hold one
 /// with a delete are deleted (`model_kinds::deletes_win`).
 pub fn nothing_is_lost<Kind, Operation, Shown>()
-    ensures records { (D : Replication Kind Operation Shown) (node : Node Kind Operation Shown) (input : Input Operation) (fate : Fate) (key : Text) → IsPartOf (node.entries key).history ((step D node input fate).node.entries key).history }
-    ensures deleted { (D : Replication Kind Operation Shown) → ((H J : History Operation) → IsPartOf H J → D.data_type.deleted H ≡ true → D.data_type.deleted J ≡ true)
-        → (node : Node Kind Operation Shown) (input : Input Operation) (fate : Fate) (key : Text) → D.data_type.deleted (node.entries key).history ≡ true → D.data_type.deleted ((step D node input fate).node.entries key).history ≡ true }
+    ensures records { (D : Replication Kind Operation Shown) → StepsKeepRecords D }
+    ensures deleted { (D : Replication Kind Operation Shown) → DeletesStay D → StepsKeepDeletes D }
 {}

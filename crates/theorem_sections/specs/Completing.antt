@@ -7,7 +7,7 @@ use Rattle.model_members.specs.Script.{Playing}
 use Rattle.model_members.specs.World.{Event}
 use Rattle.theorem_operations.specs.Finishing.{HasNotFailed}
 use Rattle.theorem_operations.specs.Quorum.{AllInstalled}
-use Rattle.theorem_sections.specs.Sections.{Client, Made, Section, Ending, pending_op, some_full, world_of, client_line}
+use Rattle.theorem_sections.specs.Sections.{Client, Made, Section, Ending, OfEverySection, pending_op, some_full, world_of, client_line}
 
 -- the store of a member that steps does not fail
 abbrev pub StoreHolds : {Op : Type 0} → Event Op → Type 0
@@ -28,3 +28,7 @@ module _ {Kind Op Shown : Type 0} (before : Playing Kind Op Shown) (end : Sectio
   AllFinish =
       (c k op : ℕ) (client : Client Op Shown) (made : Made Op Shown) → slice_get end.clients c ≡ Some client → slice_get client.made k ≡ Some made → pending_op made.line.answer ≡ Some op
       → (finished : Finished Shown) × ((client_line (world_of end) c made).ended ≡ Some (Ending.Ended finished))
+
+-- in every section from here that nothing disturbs, each operation of a client finishes
+abbrev pub SectionsFinish : {Kind Op Shown : Type 0} → Replication Kind Op Shown → Playing Kind Op Shown → Type 0
+SectionsFinish D before = OfEverySection D before (λ clients moves end. IsUndisturbed D before end → AllFinish before end)

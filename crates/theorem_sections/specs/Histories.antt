@@ -123,3 +123,9 @@ module _ {Kind Op Shown : Type 0} (D : Replication Kind Op Shown) where
   pub record LeadTo (world : World Kind Op Shown) (histories : ℕ → List (Entry Op Shown)) (events : List (Event Op)) : Type 0 where
     pub lawful : AreLawful D world events
     pub members : (i : ℕ) (member : Node Kind Op Shown) → IsTrue (is_member world.view i) → world.nodes i ≡ Some member → (run D world events).nodes i ≡ Some (replayed member (histories i))
+
+  -- the entries of such histories, in run order, are one run
+  abbrev pub HistoriesAreRuns : Type 0
+  HistoriesAreRuns =
+      (world : World Kind Op Shown) (histories : ℕ → List (Entry Op Shown)) (placed : List (Placed Op Shown))
+      → AreHistories world histories → IsRunOrder world.view histories placed → LeadTo world histories (events_of (sent_so_far world) placed)

@@ -1,5 +1,6 @@
 -- Messages on their way between members, for entries of any kind that have a member and a stamp, post messages and take some.
-use Rattle.std.specs.Prelude.{◌≡◌, ℕ, ◌<◌, List, [], ◌∷◌, ◌++◌, map, filter, flat_map, ◌==◌, ⊤}
+use Rattle.std.specs.Prelude.{◌≡◌, ◌≢◌, ℕ, ◌<◌, ◌≤◌, List, [], ◌∷◌, ◌++◌, map, filter, flat_map, ◌==◌, ⊤}
+use Rattle.std.specs.List.{AllByRecursion}
 use Rattle.model_history.specs.Table.{with_at}
 
 -- messages with the stamp of their entry
@@ -32,3 +33,17 @@ pub record IsDue {E X : Type 0} (at stamp : E → ℕ) (posts takes : E → ℕ 
   pub first : queue from (at x) ≡ (m, posted) ∷ others
   pub earlier : posted < stamp x
   pub waits : Waits at stamp posts takes (λ i j. with_at queue from (with_at (queue from) (at x) others) i j ++ sent at stamp posts i j (x ∷ [])) rest
+
+-- of entries and messages of these types: an entry that takes a message, where no later one has a lower stamp, takes the first on its way
+abbrev pub TakenAreDue : (E X : Type 0) → Type 0
+TakenAreDue E X =
+    (at stamp : E → ℕ) (posts takes : E → ℕ → List X) (queue : ℕ → ℕ → List (X × ℕ)) (x : E) (rest : List E) (from : ℕ) (m : X)
+    → takes x from ≡ m ∷ [] → ((i : ℕ) → i ≢ from → takes x i ≡ []) → AllByRecursion (λ y. stamp x ≤ stamp y) rest
+    → Waits at stamp posts takes queue (x ∷ rest) → IsDue at stamp posts takes queue x rest from m
+
+-- after one that takes none, what it posted is on its way behind what was
+abbrev pub OthersWait : (E X : Type 0) → Type 0
+OthersWait E X =
+    (at stamp : E → ℕ) (posts takes : E → ℕ → List X) (queue : ℕ → ℕ → List (X × ℕ)) (x : E) (rest : List E)
+    → ((i : ℕ) → takes x i ≡ []) → Waits at stamp posts takes queue (x ∷ rest)
+    → Waits at stamp posts takes (λ i j. queue i j ++ sent at stamp posts i j (x ∷ [])) rest

@@ -1,10 +1,13 @@
 -- Scripts with thread steps: their runs and reports. Plain steps leave no choice, a section does.
-use Rattle.std.specs.Prelude.{◌≡◌, ℕ, suc, List, [], ◌∷◌, ◌++◌, map, flat_map, Option, None, Some, codes, decimal, option_map}
+use Rattle.std.specs.Prelude.{◌≡◌, ◌↔◌, ◌≤◌, ℕ, suc, List, [], ◌∷◌, ◌++◌, map, flat_map, Option, None, Some, codes, decimal, option_map}
+use Rattle.std.specs.List.{AllByRecursion}
+use Rattle.model_history.specs.Table.{identity_limit}
 use Rattle.model_history.specs.Texts.{Text}
 use Rattle.model_members.specs.DataType.{Replication}
 use Rattle.model_members.specs.Node.{KeyDecl}
+use Rattle.model_members.specs.World.{IsRun}
 use Rattle.model_members.specs.Script.{Playing, ScriptStep, IsStep, Told, KeeperAnswers, opening, played}
-use Rattle.model_members.specs.Report.{words, line_of, head_words, answer_text, post_words, result_text, final_block}
+use Rattle.model_members.specs.Report.{words, line_of, head_words, answer_text, post_words, result_text, final_block, report}
 use Rattle.theorem_sections.specs.Sections.{Command, Move, Section, Ending, Line, IsSection, section_lines}
 use Rattle.theorem_sections.specs.Sections.Ending.{Ended, TimedOut, LeftOpen}
 
@@ -60,3 +63,16 @@ module _ {Kind Op Shown : Type 0} (D : Replication Kind Op Shown) (value_text : 
     pub last : Playing Kind Op Shown
     pub plays : PlaysAll D (opening answers members keys) steps lines last
     pub told : text ≡ lines_text value_text 1 lines ++ final_block D value_text last.world
+
+module _ {Kind Op Shown : Type 0} (D : Replication Kind Op Shown) where
+  -- what a script that may have thread steps plays is a run, whatever the schedule and whatever the keepers answer
+  abbrev pub SectionsAreRuns : Type 0
+  SectionsAreRuns =
+      (members : ℕ) (keys : List (KeyDecl Kind)) (answers : KeeperAnswers) (steps : List (RunStep Op)) → 1 ≤ members → members ≤ identity_limit → AllByRecursion IsRunStep steps
+      → (lines : List (List (Line Op Shown))) (last : Playing Kind Op Shown) → PlaysAll D (opening answers members keys) steps lines last → IsRun D members keys last.events last.world
+
+  -- a script without thread steps has the report of its one run
+  abbrev pub PlainScriptsHaveOneReport : Type 0
+  PlainScriptsHaveOneReport =
+      (value_text : Shown → Text) (answers : KeeperAnswers) (members : ℕ) (keys : List (KeyDecl Kind)) (steps : List (ScriptStep Op)) (text : Text)
+      → HasReport D value_text answers members keys (map RunStep.Plain steps) text ↔ text ≡ report D value_text answers members keys steps

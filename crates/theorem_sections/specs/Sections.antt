@@ -229,10 +229,18 @@ module _ {Kind Op Shown : Type 0} (D : Replication Kind Op Shown) where
     pub leads : end ≡ moved_all (opened before clients) moves
     pub over : is_over end ≡ true
 
+  -- it holds of every section from here: of its clients, its moves and its end
+  abbrev pub OfEverySection : Playing Kind Op Shown → (List (List (Command Op)) → List Move → Section Kind Op Shown → Type 0) → Type 0
+  OfEverySection before Holds = (clients : List (List (Command Op))) (moves : List Move) (end : Section Kind Op Shown) → IsSection before clients moves end → Holds clients moves end
+
 -- the message due on a link after a section: where none was pending, the next one of the section that was not heard; elsewhere the one of before
 pub record IsDueAfter {Kind Op Shown : Type 0} (before : Playing Kind Op Shown) (end : Section Kind Op Shown) (from to : ℕ) : Type 0 where
   pub idle : (before.world.links from to).next ≡ length (before.world.links from to).messages → (end.playing.world.links from to).next ≡ end.due from to
   pub pending : (before.world.links from to).next < length (before.world.links from to).messages → (end.playing.world.links from to).next ≡ (before.world.links from to).next
+
+-- so it is on every link
+abbrev pub AreDueAfter : {Kind Op Shown : Type 0} → Playing Kind Op Shown → Section Kind Op Shown → Type 0
+AreDueAfter before end = (from to : ℕ) → IsDueAfter before end from to
 
 -- HOW COMMANDS ENDED
 

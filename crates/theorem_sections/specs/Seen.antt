@@ -134,3 +134,9 @@ module _ {Kind Op Shown : Type 0} (D : Replication Kind Op Shown) (answers : Kee
         → (op : ℕ) (end : Finished Shown) → get.answer ≡ Replied (Reply.Pending op) → get.ended ≡ Some (Ending.Ended end) → (means : Meaning Shown) × (end.result ≡ read_result D (Some means)) × IncludesSeen r r.get.step here means
     pub by_delivery : (r : SeenUpdate Op) (here there : Playing Kind Op Shown) (update get : Line Op Shown) (place : Place) → r.get.step < place.step → IsSeenUntil r place.step here there update get
         → (op : ℕ) (end : Finished Shown) → get.answer ≡ Replied (Reply.Pending op) → TellsDelivery lines place r.reader end → end.op ≡ op → (means : Meaning Shown) × (end.result ≡ read_result D (Some means)) × IncludesSeen r place.step here means
+
+-- so it is in every run that the script may have
+abbrev pub AllGetsIncludeSeen : {Kind Op Shown : Type 0} → Replication Kind Op Shown → KeeperAnswers → ℕ → List (KeyDecl Kind) → List (RunStep Op) → Type 0
+AllGetsIncludeSeen {Kind} {Op} {Shown} D answers members keys steps =
+    (lines : List (List (Line Op Shown))) (last : Playing Kind Op Shown) → (plays : PlaysAll D (opening answers members keys) steps lines last)
+    → GetsIncludeSeen D answers members keys steps lines last plays

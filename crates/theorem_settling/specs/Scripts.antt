@@ -7,7 +7,7 @@ use Rattle.model_members.specs.Node.{KeyDecl}
 use Rattle.model_members.specs.World.{start}
 use Rattle.model_members.specs.Script.{ScriptStep, Told, Answer, KeeperAnswers}
 use Rattle.theorem_operations.specs.Scripts.{before_step, TellsLine}
-use Rattle.theorem_settling.specs.Settling.{DigestsTellFrom, IsSettled, HasBlocked}
+use Rattle.theorem_settling.specs.Settling.{DigestsTellFrom, BlockedStays, IsSettled, HasBlocked}
 
 module _ {Kind Op Shown : Type 0} (D : Replication Kind Op Shown) (answers : KeeperAnswers) (members : ℕ) (keys : List (KeyDecl Kind)) (steps : List (ScriptStep Op)) where
   -- the step of this number is a settle, which tells that it is done with these two numbers
@@ -26,3 +26,7 @@ module _ {Kind Op Shown : Type 0} (D : Replication Kind Op Shown) (answers : Kee
     pub few : (n messages blocked : ℕ) → TellsSettled n messages blocked → messages ≤ 12 * (length (before_step D answers members keys steps n).world.view.members - 1)
     pub second_number : (n messages blocked : ℕ) → TellsSettled n messages blocked → HasBlocked D (before_step D answers members keys steps n) blocked
     pub settled : (n messages blocked : ℕ) → TellsSettled n messages blocked → Premise n → IsSettled D (before_step D answers members keys steps (suc n)).world
+
+  -- so it is where digests tell apart what running members have, and what blocks a prune goes on blocking it
+  abbrev pub SettlesAgreeWhereTold : Type 0
+  SettlesAgreeWhereTold = SettlesAgree (λ n. BlockedStays D × DigestsTellUntil n)

@@ -1,13 +1,13 @@
 -- What a settle leaves.
-use Rattle.std.specs.Prelude.{◌≡◌, ◌≢◌, ℕ, ◌<◌, List, [], ◌++◌, fold, IsSome, Some, find, true, false}
+use Rattle.std.specs.Prelude.{◌≡◌, ◌≢◌, ℕ, ◌-◌, ◌*◌, ◌<◌, ◌≤◌, List, [], ◌++◌, length, fold, IsSome, Some, find, true, false}
 use Rattle.std.specs.Str.{bytes_eq}
 use Rattle.model_history.specs.History.{at, is_pruned}
 use Rattle.model_members.specs.View.{is_member, leader, identities_of}
 use Rattle.model_members.specs.Entry.{Entry, with_prune, is_unchanged}
 use Rattle.model_members.specs.DataType.{Replication}
 use Rattle.model_members.specs.Node.{KeyDecl, Node, Input, Fate, Reply}
-use Rattle.model_members.specs.World.{World, Event, happens, run}
-use Rattle.model_members.specs.Script.{Playing, Answer, install_last, sweep, tick, settle_line, last_answer_blocked, blocked_in_answer}
+use Rattle.model_members.specs.World.{World, Event, start, happens, run}
+use Rattle.model_members.specs.Script.{Playing, Answer, install_last, sweep, tick, settle, settle_line, last_answer_blocked, blocked_in_answer}
 use Rattle.theorem_operations.specs.Quorum.{reply_in}
 
 -- the key is declared
@@ -78,3 +78,17 @@ module _ {Kind Op Shown : Type 0} (D : Replication Kind Op Shown) where
     pub ticks : (ticked_twice p).world ≡ happens D (swept_again p).world (tick_event p fate)
     pub replies : reply_in D (swept_again p).world (tick_event p fate) ≡ Some reply
     pub count : blocked ≡ blocked_in_answer (Answer.Replied reply)
+
+  -- WHAT IT TELLS
+
+  -- it holds of the two numbers that the settle tells, where it is done
+  abbrev pub WhereDone : Playing Kind Op Shown → (ℕ → ℕ → Type 0) → Type 0
+  WhereDone p Holds = (messages blocked : ℕ) → settle_answer p ≡ Answer.Settled messages blocked → Holds messages blocked
+
+  -- it sent at most 12 messages for each member of the last view but the leader
+  abbrev pub SendsFew : Playing Kind Op Shown → Type 0
+  SendsFew p = WhereDone p (λ messages blocked. messages ≤ 12 * (length p.world.view.members - 1))
+
+  -- where digests tell entries apart until it ends, and what blocks a prune goes on blocking it, it leaves a settled world
+  abbrev pub SettlesWhereTold : ℕ → List (KeyDecl Kind) → Playing Kind Op Shown → Type 0
+  SettlesWhereTold members keys p = DigestsTellFrom (start members keys) (settle D p).events → BlockedStays → WhereDone p (λ messages blocked. IsSettled (settle D p).world)

@@ -1,8 +1,9 @@
 -- Scripts with subscriptions: their runs and reports. Clients follow keys at members, and a flush that is done tells them what changed.
 --     watched        a step of such a script: its lines, and what it leaves
 --     plain_steps        the steps of it that the members take part in
+--     ChangesNothing        the members do what they do in the script of these
 --     watch_report        the report, where the keepers answer so
-use Rattle.std.specs.Prelude.{ℕ, suc, List, [], ◌∷◌, ◌++◌, map, flat_map, is_some, find, Option, None, Some, if◌then◌else◌, codes, decimal}
+use Rattle.std.specs.Prelude.{◌≡◌, ℕ, suc, List, [], ◌∷◌, ◌++◌, map, flat_map, is_some, find, Option, None, Some, if◌then◌else◌, codes, decimal}
 use Rattle.std.specs.Str.{bytes_eq}
 use Rattle.model_history.specs.Table.{with_at}
 use Rattle.model_history.specs.Texts.{Text}
@@ -10,7 +11,7 @@ use Rattle.model_history.specs.History.{History}
 use Rattle.model_members.specs.DataType.{DataType, Replication, meaning}
 use Rattle.model_members.specs.Node.{KeyDecl, Node, Reply}
 use Rattle.model_members.specs.World.{World}
-use Rattle.model_members.specs.Script.{Ask, ScriptStep, Head, Answer, Told, Playing, KeeperAnswers, opening, played}
+use Rattle.model_members.specs.Script.{Ask, ScriptStep, Head, Answer, Told, Playing, KeeperAnswers, opening, played, played_all}
 use Rattle.model_members.specs.Report.{words, line_of, told_text, final_block}
 use Rattle.model_kinds.specs.declared.shown.Shown.{Shown}
 use Rattle.model_kinds.specs.declared.shown.Shown.TheVariants.{Deleted}
@@ -172,3 +173,7 @@ module _ {Kind Op : Type 0} (D : Replication Kind Op Shown) where
   watch_report answers members keys steps =
       let first = beginning (opening answers members keys) in
       watch_text 1 (all_lines D first steps) ++ final_block D shown_text (watched_all D first steps).playing.world
+
+-- what the members do is what they do in the script of the steps that they take part in
+abbrev pub ChangesNothing : {Kind Op : Type 0} → Replication Kind Op Shown → Type 0
+ChangesNothing {Kind} {Op} D = (before : Watching Kind Op) (steps : List (WatchStep Op)) → (watched_all D before steps).playing ≡ played_all D before.playing (plain_steps steps)

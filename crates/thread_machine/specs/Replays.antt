@@ -1,5 +1,5 @@
 -- Histories and the machine that made them.
-use Rattle.std.specs.Prelude.{ℕ, List, [], ◌∷◌, ◌++◌, take, Bool, count_by}
+use Rattle.std.specs.Prelude.{◌≡◌, ℕ, List, [], ◌∷◌, ◌++◌, take, slice_get, Bool, Some, count_by}
 use Rattle.thread_machine.specs.declared.machine.Machine.{Ghosts}
 use Rattle.thread_machine.specs.declared.entry.Entry.{Entry}
 use Rattle.thread_machine.specs.Faults.{RoseBy}
@@ -25,3 +25,7 @@ module _ {M I F O R : Type 0} (meaning : Ghosts M I F O R) where
     pub after : M
     pub replays : Replays start (take index history) before
     pub steps : meaning.Steps before e.input e.fate e.output after
+
+  -- each entry of a history that leads here is such a step
+  abbrev pub EntriesAreSteps : (start now : M) → List (Entry M I F O R) → Type 0
+  EntriesAreSteps start now history = (index : ℕ) (e : Entry M I F O R) → Replays start history now → slice_get history index ≡ Some e → IsStepAt start history index e

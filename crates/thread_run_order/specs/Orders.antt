@@ -1,9 +1,11 @@
 -- Entries of all places in one list.
 --     AtPlace        an entry at the place of its member
 --     IsRunOrder        all entries of the histories of all places, by stamp, then place
-use Rattle.std.specs.Prelude.{◌≡◌, ◌⊎◌, ℕ, ◌<◌, List, [], ◌∷◌, ◌==◌, if◌then◌else◌, ⊤}
+--     HaveRunOrder        histories whose stamps rise have one
+use Rattle.std.specs.Prelude.{◌≡◌, ◌⊎◌, ℕ, ◌<◌, ◌≤◌, List, [], ◌∷◌, ◌==◌, if◌then◌else◌, ⊤}
 use Rattle.std.specs.List.{AllByRecursion}
 use Rattle.thread_machine.specs.declared.entry.Entry.{Entry}
+use Rattle.thread_cell.specs.Stamps.{Rises}
 
 pub record AtPlace (E : Type 0) : Type 0 where
   pub place : ℕ
@@ -25,3 +27,8 @@ module _ {M I F O R : Type 0} where
   pub record IsRunOrder (histories : ℕ → List (Entry M I F O R)) (xs : List (AtPlace (Entry M I F O R))) : Type 0 where
     pub sorted : AreSorted xs
     pub whole : (p : ℕ) → entries_of p xs ≡ histories p
+
+-- histories whose stamps rise, at so many places, have a run order
+abbrev pub HaveRunOrder : {M I F O R : Type 0} → (ℕ → List (Entry M I F O R)) → ℕ → Type 0
+HaveRunOrder {M} {I} {F} {O} {R} histories n =
+    ((p : ℕ) → Rises (histories p)) → ((p : ℕ) → n ≤ p → histories p ≡ []) → (xs : List (AtPlace (Entry M I F O R))) × IsRunOrder histories xs

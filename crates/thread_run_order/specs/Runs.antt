@@ -1,6 +1,7 @@
 -- What a section of client threads was, once its entries are put in one order.
 --     StandsAfter        a member of the program stands for that of the model after its first entries
 --     IsOneRun        the entries of all places are one run of the model
+--     SectionsAreOneRun        so they are after every section of a world
 use Rattle.std.specs.Prelude.{◌≡◌, ℕ, List, ◌++◌, take, flat_map, Bool, Option, Some}
 use Rattle.model_history.specs.Texts.{Text}
 use Rattle.model_history.specs.History.{History}
@@ -32,9 +33,9 @@ use Rattle.member_node.specs.Steps.{replication}
 use Rattle.world_members.specs.declared.world.World.{World}
 use Rattle.world_members.specs.Places.{item_at, identity_at}
 use Rattle.world_members.specs.Ways.{Throughout, Means}
-use Rattle.thread_run_order.specs.Orders.{AtPlace}
+use Rattle.thread_run_order.specs.Orders.{AtPlace, IsRunOrder}
 use Rattle.thread_run_order.specs.Images.{EntryOf, AreImages}
-use Rattle.thread_run_order.specs.Section.{IsLeft}
+use Rattle.thread_run_order.specs.Section.{IsSection, IsLeft}
 
 -- what a keeper answered in the entries of its place
 abbrev pub answers_in : {T K Kind Delta : Type 0} {ghosts : Ghosts T Kind Op Delta} {keeping : Keeping K} → List (EntryOf ghosts keeping) → List Bool
@@ -62,3 +63,11 @@ module _ {T K Kind Delta : Type 0} {ghosts : Ghosts T Kind Op Delta} {keeping : 
     pub logged : Throughout (replication ghosts spelling) logs members decls (record p { events = p.events ++ events_of (sent_so_far p.world) placed })
     pub stand : (place i count : ℕ) (start now : Node T K Kind Op Delta ghosts keeping) → identity_at (last_view world.views) place ≡ Some i → item_at world.nodes.items place ≡ Some start
         → Replays meaning start (take count (histories place)) now → StandsAfter spelling kinds logs p.world (λ j. entries_at j placed) i count now
+
+module _ {T K Kind Delta : Type 0} {ghosts : Ghosts T Kind Op Delta} {keeping : Keeping K} where
+  -- wherever a script is that the world means, the entries of every section of it, in run order, are one run of the model
+  abbrev pub SectionsAreOneRun : Spelling T Kind Op Delta → Machine (Node T K Kind Op Delta ghosts keeping) (Input T Kind Op Delta ghosts) Fate (Output T Kind Op Delta ghosts) StepError → World T K Kind Op Delta ghosts keeping → Type 0
+  SectionsAreOneRun spelling meaning world =
+      (kinds : Text → Kind) (members : ℕ) (decls : List (KeyDecl Kind)) (p : Playing Kind Op Shown) → Means spelling kinds members decls p world
+      → (histories : ℕ → List (EntryOf ghosts keeping)) (nows : ℕ → Option (Node T K Kind Op Delta ghosts keeping)) → IsSection meaning world histories nows
+      → (xs : List (AtPlace (EntryOf ghosts keeping))) → IsRunOrder histories xs → IsOneRun spelling kinds members decls p world meaning histories nows xs

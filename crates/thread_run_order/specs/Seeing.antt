@@ -2,6 +2,7 @@
 --     IsCallWithin        a call that was answered, in what became these histories
 --     StandsBelow        an entry stands in a list, below a number
 --     FollowsAllSeen        a call stands after all that its session had seen
+--     CallsFollowAllSeen        so does every call
 use Rattle.std.specs.Prelude.{◌≡◌, ℕ, ◌<◌, ◌≤◌, List, Some, slice_get}
 use mathlib.Core.List.{IsPrefix}
 use Rattle.thread_machine.specs.declared.machine.Machine.{Ghosts}
@@ -11,7 +12,7 @@ use Rattle.thread_cell.specs.Lists.{at}
 use Rattle.thread_cell.specs.Stamps.{IsTimed}
 use Rattle.thread_cell.specs.Values.{ClientParts}
 use Rattle.thread_cluster.specs.Knowing.{IsAnswered}
-use Rattle.thread_run_order.specs.Orders.{AtPlace}
+use Rattle.thread_run_order.specs.Orders.{AtPlace, IsRunOrder}
 
 module _ {M I F O R : Type 0} where
   -- the call was answered; before it the session's stamp was what a session's always is; and what it knows after it are beginnings of the histories
@@ -32,3 +33,10 @@ module _ {M I F O R : Type 0} where
       pub call : ℕ
       pub stands : slice_get xs call ≡ Some (record { place = p; entry = entry })
       pub earlier : (k q j : ℕ) (seen : Entry M I F O R) → call ≤ k → slice_get (at old.seen.known q) j ≡ Some seen → StandsBelow k q seen
+
+  -- every call of a session stands after all that the session had seen, in each run order
+  abbrev pub CallsFollowAllSeen : Ghosts M I F O R → Type 0
+  CallsFollowAllSeen meaning =
+      (histories : ℕ → List (Entry M I F O R)) (xs : List (AtPlace (Entry M I F O R))) → IsRunOrder histories xs
+      → (p : ℕ) (input : I) (old new : ClientParts M I F O R) (receipt : Receipt M I F O R) → IsCallWithin meaning histories p input old new receipt
+      → (entry : Entry M I F O R) → slice_get (histories p) receipt.index ≡ Some entry → FollowsAllSeen xs old p entry

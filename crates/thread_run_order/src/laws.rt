@@ -1,27 +1,16 @@
-ghost use Rattle.std.specs.Prelude.{◌≡◌, ℕ, ◌≤◌, List, [], Option, Some, slice_get};
-ghost use Rattle.model_history.specs.Texts.{Text};
+ghost use Rattle.std.specs.Prelude.{◌≡◌, ℕ, List};
 ghost use Rattle.thread_machine.specs.declared.entry.Entry.{Entry};
 ghost use Rattle.std.specs.List.{AllByRecursion};
 ghost use Rattle.thread_machine.specs.Machines.{machine_at};
 ghost use Rattle.thread_cell.specs.Closings.{AreReplayed, CellsKnew};
 ghost use Rattle.thread_cell.specs.Entries.{history_at};
-ghost use Rattle.thread_cell.specs.Stamps.{Rises};
-ghost use Rattle.thread_cell.specs.Values.{ClientParts};
-ghost use Rattle.thread_cell.specs.declared.receipt.Receipt.{Receipt};
 ghost use Rattle.thread_cluster.specs.Opening.{AreWholeCells, AllHear};
 ghost use Rattle.member_views.specs.Sound.{last_view};
 ghost use Rattle.world_members.specs.Places.{item_at, identity_at};
-ghost use Rattle.model_members.specs.Node.{KeyDecl};
-ghost use Rattle.model_members.specs.Script.{Playing};
-ghost use Rattle.model_kinds.specs.declared.operation.Op as operation;
-ghost use Rattle.model_kinds.specs.declared.shown.Shown.{Shown};
-ghost use Rattle.member_node.specs.declared.node.Node as member;
-ghost use Rattle.world_members.specs.Ways.{Means};
-ghost use Rattle.thread_run_order.specs.Orders.{AtPlace, IsRunOrder};
-ghost use Rattle.thread_run_order.specs.Images.{EntryOf};
+ghost use Rattle.thread_run_order.specs.Orders.{HaveRunOrder};
 ghost use Rattle.thread_run_order.specs.Section.{IsGiven, IsSection};
-ghost use Rattle.thread_run_order.specs.Runs.{IsOneRun};
-ghost use Rattle.thread_run_order.specs.Seeing.{IsCallWithin, FollowsAllSeen};
+ghost use Rattle.thread_run_order.specs.Runs.{SectionsAreOneRun};
+ghost use Rattle.thread_run_order.specs.Seeing.{CallsFollowAllSeen};
 
 use data_lattice::SpelledData;
 use member_keeper::Keeper;
@@ -36,8 +25,7 @@ use world_members::World;
 
 /// Histories whose stamps rise have a run order, where no place but the first ones has entries.
 pub fn histories_have_a_run_order<M, I, F, O, R>()
-    ensures { (histories : ℕ → List (Entry M I F O R)) (n : ℕ) → ((p : ℕ) → Rises (histories p)) → ((p : ℕ) → n ≤ p → histories p ≡ [])
-        → (xs : List (AtPlace (Entry M I F O R))) × IsRunOrder histories xs }
+    ensures { (histories : ℕ → List (Entry M I F O R)) (n : ℕ) → HaveRunOrder histories n }
 {}
 
 /// A call of a session stands after all that the session had seen: the entry of an answered call stands in run order, and of
@@ -46,9 +34,7 @@ pub fn histories_have_a_run_order<M, I, F, O, R>()
 /// The session's stamp is what `Session::facts` tells of every session. What a session knows are beginnings of the histories
 /// that `close` leaves, since it is what the session that `close` takes knows, or less.
 pub fn calls_follow_what_was_seen<M: Machine>()
-    ensures { (histories : ℕ → List (Entry M M.Input M.Fate M.Output M.Refusal)) (xs : List (AtPlace (Entry M M.Input M.Fate M.Output M.Refusal))) → IsRunOrder histories xs
-        → (p : ℕ) (input : M.Input) (old new : ClientParts M M.Input M.Fate M.Output M.Refusal) (receipt : Receipt M M.Input M.Fate M.Output M.Refusal)
-        → IsCallWithin M.Machine histories p input old new receipt → (entry : Entry M M.Input M.Fate M.Output M.Refusal) → slice_get (histories p) receipt.index ≡ Some entry → FollowsAllSeen xs old p entry }
+    ensures { CallsFollowAllSeen M.Machine }
 {}
 
 /// What closed cells leave is a section of the world whose members they began with, where each message is taken of a member
@@ -76,10 +62,7 @@ pub fn closed_cells_leave_a_section<T: SpelledData<Op = Op>, K: Keeper + Drop, N
 /// the script is after them. And whatever replays a beginning of a member's history stands for the model's member after as many
 /// entries: so a client that looked at a member saw the model's, too.
 pub fn a_section_is_one_run<T: SpelledData<Op = Op>, K: Keeper + Drop>(world: &World<T, K>)
-    ensures { (kinds : Text → T.Kind) (members : ℕ) (decls : List (KeyDecl T.Kind)) (p : Playing T.Kind operation.Op Shown) → Means T.SpelledData.own kinds members decls p world.now
-        → (histories : ℕ → List (EntryOf T.Replica K.Keeper)) (nows : ℕ → Option (member.Node T K T.Kind operation.Op T.Delta T.Replica K.Keeper)) → IsSection ⟦<Node<T, K> as Machine>⟧ world.now histories nows
-        → (xs : List (AtPlace (EntryOf T.Replica K.Keeper))) → IsRunOrder histories xs
-        → IsOneRun T.SpelledData.own kinds members decls p world.now ⟦<Node<T, K> as Machine>⟧ histories nows xs }
+    ensures { SectionsAreOneRun T.SpelledData.own ⟦<Node<T, K> as Machine>⟧ world.now }
 {
     let _ = world.views().last();
 }

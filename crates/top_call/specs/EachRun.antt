@@ -2,12 +2,16 @@
 --     SettlesAreSo        what a settle from here tells is so, and it leaves a settled world
 --     TellsSettle        a run's lines tell such a settle
 --     ReadsIncludeWrites        what a majority read shows includes the majority writes whose success was seen
+--     OfEveryRunOfSix, SettlesAreTold        of every run of every script; what the lines of each tell of a settle
+--     HasHeadline, OfEverySpelled        what holds of the run that a report tells; of every script that bytes spell
 use Rattle.std.specs.Prelude.{◌≡◌, ◌≢◌, ℕ, ◌*◌, ◌-◌, ◌≤◌, List, [], ◌∷◌, ◌++◌, length, map, None, Some}
 use Rattle.std.specs.List.{AllByRecursion}
+use Rattle.model_history.specs.Table.{identity_limit}
+use Rattle.model_history.specs.Texts.{Text}
 use Rattle.model_members.specs.DataType.{Replication, Meaning}
 use Rattle.model_members.specs.Node.{KeyDecl, Finished, Reply}
 use Rattle.model_members.specs.Step.{value_reply, read_result}
-use Rattle.model_members.specs.Script.{KeeperAnswers, Playing, Answer, Head, opening, settle}
+use Rattle.model_members.specs.Script.{KeeperAnswers, Playing, ScriptStep, Answer, Head, opening, settle}
 use Rattle.model_members.specs.World.{Event, start, happens}
 use Rattle.model_kinds.specs.SixKinds.{six_kinds}
 use Rattle.model_kinds.specs.declared.kind.Kind.{Kind}
@@ -15,13 +19,18 @@ use Rattle.model_kinds.specs.declared.operation.Op.{Op}
 use Rattle.model_kinds.specs.declared.shown.Shown.{Shown}
 use Rattle.data_value.specs.DataSpelled.{history_byte, history_spelled}
 use Rattle.member_node.specs.Members.{spelled_groups}
+use Rattle.theorem_runs.specs.Runs.{OfEveryScript}
 use Rattle.theorem_operations.specs.Quorum.{WriteThenRead, AllInstalled, KeepsMembers, HasSucceeded, Finishes, ShowsWrite, all_events, read_event, reply_in, at_write, at_read, at_end}
 use Rattle.theorem_sections.specs.Sections.{Line}
-use Rattle.theorem_sections.specs.Runs.{RunStep, PlaysAll}
+use Rattle.theorem_sections.specs.Runs.{RunStep, IsRunStep, PlaysAll}
 use Rattle.theorem_settling.specs.Settling.{IsSettled, HasBlocked, settle_answer}
 use Rattle.theorem_digests.specs.Digests.{DistinctDigests}
+use Rattle.theorem_headline.specs.Headline.{TheHeadline}
+use Rattle.script_reading.specs.declared.clients.Clients.{Clients}
 use Rattle.script_reading.specs.declared.script.Script.{Script}
-use Rattle.report_lines.specs.Run.{decl_of, in_order}
+use Rattle.script_reading.specs.Reading.{Spells}
+use Rattle.world_members.specs.Threads.{run_step_of}
+use Rattle.report_lines.specs.Run.{IsReport, decl_of, in_order}
 
 -- values of the six kinds, whose digests are the SHA-1 of their spellings
 abbrev pub six : Replication Kind Op Shown
@@ -81,3 +90,25 @@ module _ (members : ℕ) (keys : List (KeyDecl Kind)) where
         → (op : ℕ) → reply_in six (at_read six members keys r) (read_event r) ≡ Some (Reply.Pending op)
         → (end : Finished Shown) → Finishes six (at_end six members keys r) event r.reader end → end.op ≡ op
         → (means : Meaning Shown) × (end.result ≡ read_result six (Some means)) × ShowsWrite six members keys r (happens six (at_end six members keys r) event) means
+
+-- it holds of every run of every script that may have clients, over values of the six kinds: of how many members it begins with, its keys, and where it ends
+abbrev pub OfEveryRunOfSix : (ℕ → List (KeyDecl Kind) → Playing Kind Op Shown → Type 0) → Type 0
+OfEveryRunOfSix Holds =
+    OfEveryScript IsRunStep (λ answers members keys steps. (lines : Lines) (last : Playing Kind Op Shown) → PlaysAll six (opening answers members keys) steps lines last → Holds members keys last)
+
+-- the lines of every run of a script that has a settle behind its first steps tell such a settle there
+abbrev pub SettlesAreTold : Type 0
+SettlesAreTold =
+    (answers : KeeperAnswers) (members : ℕ) (keys : List (KeyDecl Kind)) (front rest : List (RunStep Op)) → 1 ≤ members → members ≤ identity_limit → AllByRecursion IsRunStep front
+    → (lines : Lines) (last : Playing Kind Op Shown) → PlaysAll six (opening answers members keys) (front ++ RunStep.Plain ScriptStep.Settle ∷ rest) lines last
+    → TellsSettle members keys answers front rest lines last
+
+-- where the text is a report of the script, the headline holds of the run that it tells
+abbrev pub HasHeadline : Script → KeeperAnswers → Text → Type 0
+HasHeadline script answers text =
+    (report : IsReport six_kinds history_byte history_spelled answers script text)
+    → TheHeadline six answers script.members (keys_of script) (map run_step_of script.steps) report.lines report.last report.plays (DistinctOf script)
+
+-- it holds of every script that bytes spell, whatever the keepers answer, and of every text
+abbrev pub OfEverySpelled : (Script → KeeperAnswers → Text → Type 0) → Type 0
+OfEverySpelled Holds = (clients : Clients) (bytes : List ℕ) (script : Script) (answers : KeeperAnswers) (text : Text) → Spells clients bytes script → Holds script answers text

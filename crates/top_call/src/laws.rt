@@ -3,35 +3,26 @@ ghost use Rattle.model_history.specs.Texts.{Text};
 ghost use Rattle.model_kinds.specs.ShownText.{shown_text};
 ghost use Rattle.model_members.specs.World.{start};
 ghost use Rattle.theorem_digests.specs.Digests.{DistinctDigests};
-ghost use Rattle.theorem_headline.specs.Headline.{TheHeadline};
-ghost use Rattle.std.specs.Prelude.{◌≤◌, ◌++◌, ◌∷◌, ℕ, List, map};
+ghost use Rattle.theorem_headline.specs.Headline.{ReportsHaveHeadline};
+ghost use Rattle.std.specs.Prelude.{◌≤◌, ℕ, List, map};
 ghost use Rattle.std.specs.List.{AllByRecursion};
-ghost use Rattle.model_history.specs.Table.{identity_limit};
-ghost use Rattle.model_kinds.specs.declared.kind.Kind.{Kind};
-ghost use Rattle.model_kinds.specs.declared.operation.Op.{Op};
-ghost use Rattle.model_kinds.specs.declared.shown.Shown.{Shown};
-ghost use Rattle.model_members.specs.Node.{KeyDecl};
-ghost use Rattle.model_members.specs.Script.{KeeperAnswers, Playing, ScriptStep, opening};
-ghost use Rattle.theorem_sections.specs.Runs.{RunStep, IsRunStep, PlaysAll, HasReport};
+ghost use Rattle.model_members.specs.Script.{KeeperAnswers};
+ghost use Rattle.theorem_sections.specs.Runs.{IsRunStep};
 ghost use Rattle.model_kinds.specs.SixKinds.{six_kinds};
 ghost use Rattle.script_reading.specs.declared.clients.Clients.{Clients};
 ghost use Rattle.script_reading.specs.declared.script.Script.{Script};
 ghost use Rattle.script_reading.specs.Reading.{Spells};
 ghost use Rattle.world_members.specs.Threads.{run_step_of};
-ghost use Rattle.report_lines.specs.Run.{IsReport};
 ghost use Rattle.trace_judged.specs.Judgements.{IsJudgement};
 ghost use Rattle.trace_judged.specs.declared.judging.Judgement.TheVariants as judged;
 ghost use Rattle.trace_played.specs.Traced.{IsTraceText};
-ghost use Rattle.top_call.specs.EachRun.{DistinctOf, Lines, SettlesAreSo, TellsSettle, ReadsIncludeWrites, keys_of, six};
+ghost use Rattle.top_call.specs.EachRun.{SettlesAreSo, SettlesAreTold, ReadsIncludeWrites, OfEveryRunOfSix, HasHeadline, OfEverySpelled, six};
 
 /// The headline: all that holds of each run whose report the program may write, over the six kinds and the SHA-1 of
 /// spellings, whatever the keepers answer and whatever the schedule is. Of what bytes spell its premises hold
 /// (`scripts_are_within_bounds`, `the_headline_of_scripts`).
 pub fn the_headline()
-    ensures { (answers : KeeperAnswers) (members : ℕ) (keys : List (KeyDecl Kind)) (steps : List (RunStep Op)) (text : Text)
-        → 1 ≤ members → members ≤ identity_limit → AllByRecursion IsRunStep steps
-        → (report : HasReport six shown_text answers members keys steps text)
-        → TheHeadline six answers members keys steps report.lines report.last report.plays (DistinctDigests six history_byte history_spelled (start members keys)) }
+    ensures { ReportsHaveHeadline six shown_text (λ members keys. DistinctDigests six history_byte history_spelled (start members keys)) }
 {}
 
 /// Bytes that spell a script spell one within the bounds that the headline asks for: it begins with 1 to 8 members, and the
@@ -44,9 +35,7 @@ pub fn scripts_are_within_bounds()
 /// The headline of a script that bytes spell, and of a text that is the report of a run of it: this is what the clause `done`
 /// of `replicate` says of a report, with the answers that the keepers gave.
 pub fn the_headline_of_scripts()
-    ensures { (clients : Clients) (bytes : List ℕ) (script : Script) (answers : KeeperAnswers) (text : Text)
-        → Spells clients bytes script → (report : IsReport six_kinds history_byte history_spelled answers script text)
-        → TheHeadline six answers script.members (keys_of script) (map run_step_of script.steps) report.lines report.last report.plays (DistinctOf script) }
+    ensures { OfEverySpelled HasHeadline }
 {}
 
 /// What a settle of a script that may have clients tells is so, whatever the schedule and whatever the keepers answer.
@@ -56,24 +45,15 @@ pub fn the_headline_of_scripts()
 ///   record and no prune of is blocked. For this no two running members have, until the settle ends, spellings of one key
 ///   that differ and have one SHA-1.
 pub fn settles_of_runs_are_so()
-    ensures here { (answers : KeeperAnswers) (members : ℕ) (keys : List (KeyDecl Kind)) (steps : List (RunStep Op))
-        → 1 ≤ members → members ≤ identity_limit → AllByRecursion IsRunStep steps
-        → (lines : Lines) (p : Playing Kind Op Shown) → PlaysAll six (opening answers members keys) steps lines p
-        → SettlesAreSo members keys p }
-    ensures told { (answers : KeeperAnswers) (members : ℕ) (keys : List (KeyDecl Kind)) (front rest : List (RunStep Op))
-        → 1 ≤ members → members ≤ identity_limit → AllByRecursion IsRunStep front
-        → (lines : Lines) (last : Playing Kind Op Shown) → PlaysAll six (opening answers members keys) (front ++ RunStep.Plain ScriptStep.Settle ∷ rest) lines last
-        → TellsSettle members keys answers front rest lines last }
+    ensures here { OfEveryRunOfSix SettlesAreSo }
+    ensures told { SettlesAreTold }
 {}
 
 /// In a run of a script that may have clients, whatever the schedule and whatever the keepers answer: while membership stays
 /// unchanged, what a majority read shows includes each earlier majority write of its key whose success was seen when the read
 /// began.
 pub fn reads_of_runs_include_writes()
-    ensures { (answers : KeeperAnswers) (members : ℕ) (keys : List (KeyDecl Kind)) (steps : List (RunStep Op))
-        → 1 ≤ members → members ≤ identity_limit → AllByRecursion IsRunStep steps
-        → (lines : Lines) (last : Playing Kind Op Shown) → PlaysAll six (opening answers members keys) steps lines last
-        → ReadsIncludeWrites members keys last.events }
+    ensures { OfEveryRunOfSix (λ members keys last. ReadsIncludeWrites members keys last.events) }
 {}
 
 /// What `trace` writes of a script with status 0, `check` finds lawful.

@@ -1,5 +1,5 @@
 -- What a line does to a member, and the text that tells of it.
-use Rattle.std.specs.Prelude.{◌≡◌, ℕ, List, Result, Ok, Err}
+use Rattle.std.specs.Prelude.{◌≡◌, ℕ, List, Result, Ok, Err, MatchResult, String, string_bytes}
 use Rattle.model_history.specs.Texts.{Text}
 use Rattle.model_kinds.specs.declared.kind.Kind.{Kind}
 use Rattle.model_kinds.specs.declared.operation.Op.{Op}
@@ -40,3 +40,7 @@ module _ {T Delta K : Type 0} {ghosts : Ghosts T Kind Op Delta} {keeping : Keepi
   pub data LeavesUntold (old : Node T K Kind Op Delta ghosts keeping) (line : List ℕ) (new : Node T K Kind Op Delta ghosts keeping) : Type 0 where
     same : new ≡ old → LeavesUntold old line new
     asked : (input : Input T Kind Op Delta ghosts) → Asks ghosts spelling deltas old.view old.id line (Ok input) → IsUntold old input new → LeavesUntold old line new
+
+  -- a text tells what the line does, or nothing is told, for want of memory
+  abbrev pub TellsLine : {A E : Type 0} → (old : Node T K Kind Op Delta ghosts keeping) → (line : List ℕ) → (new : Node T K Kind Op Delta ghosts keeping) → Result (String A) E → Type 0
+  TellsLine old line new result = MatchResult result (λ text. Answers old line new (string_bytes text)) (λ _. LeavesUntold old line new)

@@ -1,6 +1,6 @@
 ghost use Rattle.std.specs.Prelude.{◌≡◌, ◌++◌, flat_map, string_bytes, OnOk, IfOk, MatchResult};
 ghost use Rattle.top_lines.specs.Texts.{post_line, output_text, refusal_line};
-ghost use Rattle.top_lines.specs.Answering.{Makes, IsUntold, Answers, LeavesUntold};
+ghost use Rattle.top_lines.specs.Answering.{Makes, IsUntold, TellsLine};
 
 use crate::asking::asked;
 use crate::refusal::{Fault, Refusal, push_refusal};
@@ -97,7 +97,7 @@ pub fn answer_line<T: SpelledDelta<Kind = Kind, Op = Op>, K: Keeper + Drop>(
     member: &mut Node<T, K>,
     line: &[u8],
 ) -> Result<String, Memory>
-    ensures { MatchResult result (λ text. Answers T.SpelledData.own T.SpelledDelta.own member.old line.now member.new (string_bytes text)) (λ _. LeavesUntold T.SpelledData.own T.SpelledDelta.own member.old line.now member.new) }
+    ensures { TellsLine T.SpelledData.own T.SpelledDelta.own member.old line.now member.new result }
 {
     match asked(alloc, member.view(), member.id(), line) {
         Ok(input) => made(alloc, member, &input),

@@ -15,7 +15,7 @@ ghost use Rattle.trace_lines.specs.WellFormed.{IsAct};
 ghost use Rattle.trace_lines.specs.declared.trace.TraceAct.TheVariants as act;
 ghost use Rattle.trace_told.specs.Seen.{held_line};
 ghost use Rattle.trace_recorder.specs.Saw.{IsFormed};
-ghost use Rattle.trace_entries.specs.Seeing.{Sees, looked_at};
+ghost use Rattle.trace_entries.specs.Seeing.{Sees, OfWhatStands, looked_at};
 
 use crate::values::{see, see_deleted, see_value};
 use base_bytes::{Memory, Text};
@@ -104,8 +104,7 @@ pub fn see_entry<T: Replica<Kind = Kind, Op = Op>>(
     key: &Text,
     entry: &Envelope<T>,
 ) -> Result<(), Memory>
-    ensures saw { (D : Replication kinds.Kind operations.Op shown.Shown) (log : History operations.Op) (k : KeyState kinds.Kind operations.Op) → D.data_type ≡ T.data_type → k.name ≡ key.now → k.kind ≡ T.kind_of entry.now.value
-        → StandsFor T.IsDataOf (parts_of entry.now) log k.entry → OnOk result (Sees recorder.old recorder.new (looked_at D look at k)) }
+    ensures saw { OfWhatStands T.Replica key.now entry.now (λ D k. OnOk result (Sees recorder.old recorder.new (looked_at D look at k))) }
     ensures formed { OnOk result (IsFormed recorder.old → IsFormed recorder.new) }
 {
     match look {

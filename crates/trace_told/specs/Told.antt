@@ -1,15 +1,19 @@
 -- What a recorder tells of what it sees: what is news, of declared keys.
 --     Counts, count_lines         how many records of each identity each member holds of each key, by the lines so far
 --     is_told, told_of         a line that is told, and those of many lines
-use Rattle.std.specs.Prelude.{ℕ, suc, List, [], ◌∷◌, Bool, true, not, ◌&&◌, if◌then◌else◌, is_some, find}
+--     TellsTrace         what is told of all that is seen of a run is its trace
+use Rattle.std.specs.Prelude.{◌≡◌, ℕ, suc, List, [], ◌∷◌, Bool, true, not, ◌&&◌, if◌then◌else◌, is_some, find}
 use Rattle.std.specs.Str.{bytes_eq}
 use Rattle.model_history.specs.Table.{with_at}
 use Rattle.model_history.specs.Texts.{Text}
 use Rattle.model_history.specs.Vector.{VersionVector, none_counted}
+use Rattle.model_members.specs.DataType.{Replication}
 use Rattle.model_members.specs.Node.{KeyDecl, with_text_at}
+use Rattle.model_members.specs.Script.{ScriptStep, KeeperAnswers}
 use Rattle.model_traces.specs.Traces.{Act, TraceLine}
 use Rattle.model_traces.specs.Traces.Act.{Records, Holds, Shows}
-use Rattle.model_traces.specs.Runs.{counts_alike}
+use Rattle.model_traces.specs.Runs.{counts_alike, trace_of}
+use Rattle.trace_told.specs.Seen.{seen_of}
 
 abbrev pub Counts : Type 0
 Counts = ℕ → Text → VersionVector
@@ -51,3 +55,7 @@ module _ {Op : Type 0} where
     abbrev pub told_of : Counts → List (TraceLine Op) → List (TraceLine Op)
     told_of counts [] = []
     told_of counts (line ∷ lines) = if is_told counts line then line ∷ told_of (count_line counts line) lines else told_of counts lines
+
+-- what is told of all that is seen of a script's run is its trace
+abbrev pub TellsTrace : {Kind Op Shown : Type 0} → Replication Kind Op Shown → (Shown → Text) → ℕ → List (KeyDecl Kind) → KeeperAnswers → List (ScriptStep Op) → Type 0
+TellsTrace D value_text members keys answers steps = told_of keys none_told (seen_of D value_text answers members keys steps) ≡ (trace_of D value_text answers members keys steps).lines

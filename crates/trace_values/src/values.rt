@@ -1,4 +1,4 @@
-ghost use Rattle.std.specs.Prelude.{◌≡◌, ◌<◌, ◌≤◌, ◌+◌, false, length, IfOk, OnOk, pos, neg_ℤ, ◌+ℤ◌};
+ghost use Rattle.std.specs.Prelude.{◌≡◌, ◌<◌, ◌≤◌, IfOk, OnOk, pos, neg_ℤ, ◌+ℤ◌};
 ghost use Rattle.model_history.specs.Table.{identity_limit};
 ghost use Rattle.model_history.specs.History.{History, versions, no_records, IsHistory};
 ghost use Rattle.model_history.specs.Log.{IsTakenFrom};
@@ -6,12 +6,9 @@ ghost use Rattle.model_kinds.specs.SixKinds as kinds;
 ghost use Rattle.model_kinds.specs.declared.operation.Op as operations;
 ghost use Rattle.model_kinds.specs.declared.kind.Kind.TheVariants.{GCounter, PnCounter, GSet, OrSet, Flag, LwwRegister};
 ghost use Rattle.model_kinds.specs.declared.shown.Shown.TheVariants.{Signed};
-ghost use Rattle.model_meanings.specs.Growing.{has_operation};
-ghost use Rattle.model_traces.specs.Traces.{recorded};
 ghost use Rattle.base_vectors.specs.Vectors.{number_at};
-ghost use Rattle.data_meaning.specs.Records.{action_of};
 ghost use Rattle.trace_values.specs.Rows.{AreRows};
-ghost use Rattle.trace_values.specs.Standing.{StandForValues};
+ghost use Rattle.trace_values.specs.Standing.{StandForValues, KeepsOneMore, OfWhatIsCounted};
 
 use crate::sets::{Element, added, live, push_elements};
 use crate::sums::{Sums, push_sums, sums_of};
@@ -78,8 +75,7 @@ impl Values {
     ) -> Result<(), Memory>
         requires member { id < identity_limit }
         requires number { 1 ≤ number }
-        ensures { OnOk result ((made H : History operations.Op) → StandForValues self.old made → AreRows rows.now made → IsHistory made → IsTakenFrom made H → H id ≡ made id → number_at past.now ≡ versions H → number ≡ length (made id) + 1
-            → StandForValues self.new (recorded made id H (action_of action.now))) }
+        ensures { OnOk result (KeepsOneMore self.old self.new rows.now past.now id number action.now) }
     {
         push_sums(&mut self.sums, alloc, id, number, action)?;
         push_write(&mut self.writes, alloc, id, number, past, action)?;
@@ -150,8 +146,7 @@ impl Values {
         rows: &[Items<Record>],
         known: &VersionVector,
     ) -> Result<Shown, Memory>
-        ensures { (made H : History operations.Op) → StandForValues self.now made → AreRows rows.now made → IsHistory made → IsTakenFrom made H → number_at known.now ≡ versions H → has_operation kinds.is_delete H ≡ false
-            → IfOk result (λ shown. shown ≡ kinds.six_kinds.shown kind H) }
+        ensures { OfWhatIsCounted self.now rows.now known.now (λ H. IfOk result (λ shown. shown ≡ kinds.six_kinds.shown kind H)) }
     {
         match kind {
             Kind::GCounter => self.count(known),
