@@ -1,6 +1,6 @@
 -- What an envelope stands for after each change.
 use Rattle.std.proofs.Common.{◌≡◌, ◌≢◌, ℕ, Bool, true, false, Option, Some, None, refl, ap, sym, ◌∙◌, subst, inl, inr}
-use Rattle.std.specs.Prelude.{if◌then◌else◌, length}
+use Rattle.std.specs.Prelude.{if◌then◌else◌, length, Result, Ok}
 use Rattle.std.specs.FinMap as map
 use Rattle.std.proofs.lemmas.Bool.{cases_eq, cases_Bool, or_parts}
 use Rattle.model_history.specs.Table.{with_at}
@@ -24,7 +24,6 @@ use Rattle.data_markers.proofs.Meaning.{begun-merged}
 use Rattle.model_meanings.specs.Refusal.{Shares}
 use Rattle.data_lattice.specs.Refusals.{IsPruneRefusal}
 use Rattle.data_lattice.specs.declared.answers.PruneError.TheVariants as refusal
-use Rattle.std.specs.Prelude.{Result, Ok}
 use Rattle.base_bytes.specs.declared.memory.Memory.{Memory}
 use Rattle.data_envelope.specs.declared.outcomes.Perform.{Perform}
 use Rattle.data_envelope.specs.declared.outcomes.Perform.TheVariants as outcome

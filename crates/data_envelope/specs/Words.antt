@@ -3,8 +3,7 @@ use Rattle.std.specs.Prelude.{◌≡◌, ℕ, ◌<◌, ◌≤◌, Bool, ◌&&◌
 use Rattle.model_history.specs.Table.{identity_limit, with_at}
 use Rattle.model_history.specs.Vector.{VersionVector, alone}
 use Rattle.model_history.specs.History.{at, is_pruned}
-use Rattle.model_members.specs.Entry.{Entry, Mark, is_same_mark}
-use Rattle.model_members.specs.Entry.{Judgement as Meant}
+use Rattle.model_members.specs.Entry.{Entry, Mark, is_same_mark, Judgement as Meant}
 use Rattle.model_members.specs.Entry.Judgement.{Wanted, Stale, Missing}
 use Rattle.data_envelope.specs.declared.envelope.Envelope.{Envelope}
 use Rattle.data_envelope.specs.declared.group.Group.{Group}

@@ -1,6 +1,6 @@
 -- The place of a text in a list, found by comparing it with one text after the other.
-use Rattle.std.proofs.Common.{◌≡◌, ℕ, ◌+◌, ◌<◌, ◌≤◌, List, [], ◌∷◌, ◌++◌, length, get_or, take, drop, if◌then◌else◌, refl, ap, sym, ◌∙◌, arith}
-use Rattle.std.specs.List.{insert}
+use Rattle.std.proofs.Common.{◌≡◌, ℕ, ◌+◌, ◌<◌, ◌≤◌, List, [], ◌∷◌, ◌++◌, length, get_or, take, drop, if◌then◌else◌, refl, ap, sym, ◌∙◌, arith, Option, None, Some}
+use Rattle.std.specs.List.{insert, filter_map, fold, cons_option}
 use Rattle.std.proofs.lemmas.List.{drop_more, drop_all, append_assoc, take_more, take-append-drop}
 use Rattle.std.specs.declared.cmp.Ordering.{Ordering}
 use Rattle.std.specs.declared.cmp.Ordering.TheVariants.{Less, Equal, Greater}
@@ -9,11 +9,9 @@ use Rattle.std.specs.Cmp.Lexicographic.{texts_ties}
 use Rattle.base_bytes.proofs.TextLaws.{lt_is}
 use Rattle.base_bytes.specs.TextOrder.{text_order}
 use Rattle.model_history.specs.Texts.{Text, text_lt, with_text, text_set}
-use Rattle.std.specs.List.{filter_map, fold, cons_option}
 use Rattle.std.specs.Option.{option_to_list}
 use Rattle.std.proofs.lemmas.List.Elements.{filter_map-append}
 use Rattle.std.proofs.lemmas.List.Sums.{fold-append}
-use Rattle.std.proofs.Common.{Option, None, Some}
 
 -- A TEXT BESIDE THE FIRST OF A LIST
 

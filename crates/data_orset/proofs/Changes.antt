@@ -16,13 +16,11 @@ use Rattle.model_kinds.specs.declared.operation.Op.TheVariants.{Remove}
 use Rattle.data_growing.specs.Bits.{same_bits}
 use Rattle.base_bytes.proofs.TextLaws.{eq_texts, texts_eq}
 use Rattle.data_growing.specs.TextSetLaws.{same_texts, contains_set, rising_set}
-use Rattle.data_orset.specs.Placing.{Placed}
-use Rattle.data_orset.specs.Placing.{key, key_of}
+use Rattle.data_orset.specs.Placing.{Placed, key, key_of, at_dot}
 use Rattle.data_orset.specs.Dots.{Dots, contained, element_of, is_element, is_of, is_dot_of, has_dot_of, is_touched, moved, set_joined, set_applied, set_delta_of, set_pruned, set_mentioned, shown_elements}
 use Rattle.data_orset.specs.DotLaws.{alike, same_dots, same_item, itself, some_dot, dot_of_any, contains-joined, contains-pruned}
 use Rattle.data_orset.specs.PruneLaws.{moved_from, moved_to}
 use Rattle.data_orset.specs.Keeping.{set_of, stays, set_merged, texts_of, is_other_key}
-use Rattle.data_orset.specs.Placing.{at_dot}
 
 -- LISTS AND THEIR SETS
 

@@ -13,8 +13,7 @@ use Rattle.model_history.specs.Texts.{Text, text_lt, with_text, text_set, contai
 use Rattle.base_bytes.specs.TextOrder.{text_order, IsBelowAll, IsRising}
 use Rattle.base_bytes.proofs.TextLaws.{order_less, order_equal, lt_trans, lt_never, eq_texts, texts_eq}
 use Rattle.data_growing.specs.TextSetLaws.{contains_append, contains_set, rising_set, is_set}
-use Rattle.data_orset.specs.Placing.{Placed}
-use Rattle.data_orset.specs.Placing.{placed_order, IsBeforeAll, AreDots}
+use Rattle.data_orset.specs.Placing.{Placed, placed_order, IsBeforeAll, AreDots}
 use Rattle.data_orset.specs.Keeping.{texts_of, IsFirstOf}
 
 -- HOW ELEMENTS FOLLOW EACH OTHER

@@ -5,8 +5,7 @@ use Rattle.std.specs.List.{filter, list_any}
 use Rattle.std.specs.declared.cmp.Ordering.{Ordering}
 use Rattle.std.specs.declared.cmp.Ordering.TheVariants.{Less, Equal, Greater}
 use Rattle.std.proofs.lemmas.List.{drop_all, drop_more, append-nil}
-use Rattle.data_orset.specs.Placing.{Placed}
-use Rattle.data_orset.specs.Placing.{placed_order, IsBeforeAll, AreDots}
+use Rattle.data_orset.specs.Placing.{Placed, placed_order, IsBeforeAll, AreDots}
 use Rattle.data_orset.specs.Keeping.{stays}
 use Rattle.data_orset.proofs.Placings.{before_all, before_if, dots_if, before_filter, dots_filter, placed_same, greater_less, IsOfOne, absent_before}
 

@@ -12,10 +12,8 @@ use Rattle.base_bytes.specs.TextOrder.{text_order, IsBelowAll, IsRising}
 use Rattle.base_bytes.proofs.TextLaws.{order_less, order_equal, order_greater, less_order, texts_eq, lt_differ_too}
 use Rattle.data_growing.specs.TextSetLaws.{absent_before}
 use Rattle.data_growing.proofs.Merging.{drop_here, rising_drop}
-use Rattle.data_orset.specs.Placing.{Placed}
-use Rattle.data_orset.specs.Placing.{IsBeforeAll, AreDots}
+use Rattle.data_orset.specs.Placing.{Placed, IsBeforeAll, AreDots, at_dot}
 use Rattle.data_orset.specs.Keeping.{is_other}
-use Rattle.data_orset.specs.Placing.{at_dot}
 use Rattle.data_orset.proofs.Placings.{dots_drop}
 use Rattle.data_orset.proofs.ElementsInOrder.{before_upto, lt_upto}
 

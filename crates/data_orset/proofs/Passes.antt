@@ -2,7 +2,7 @@
 use Rattle.std.proofs.Common.{◌≡◌, ℕ, ◌+◌, ◌-◌, ◌<◌, ◌≤◌, zero, suc, List, [], ◌∷◌, ◌++◌, length, take, drop, Bool, true, false, cond, not, ◌||◌, refl, ap, sym, ◌∙◌, arith, append_assoc}
 use Rattle.std.specs.Prelude.{if◌then◌else◌, map}
 use Rattle.std.specs.List.{filter, list_any, flat_map}
-use Rattle.std.proofs.lemmas.List.{drop_all, drop_more, append-nil, length-map}
+use Rattle.std.proofs.lemmas.List.{drop_all, drop_more, append-nil, length-map, length-drop, length-take-le}
 use Rattle.std.specs.Str.{bytes_eq}
 use Rattle.model_history.specs.Texts.{Text}
 use Rattle.base_bytes.specs.Spelling.{text_spelled, number_spelled}
@@ -64,20 +64,10 @@ spelled_next ps i end bytes more whole l le new so_far =
 dots_end : (ps : List Placed) (i end : ℕ) → end ≤ i → dots_from ps i end ≡ []
 dots_end ps i end le = let none : end - i ≡ 0 = omega arith in ap (λ n. map dot_at (take n (drop i ps))) none
 
-length_taken : (n : ℕ) (ps : List Placed) → n ≤ length ps → length (take n ps) ≡ n
-length_taken zero ps le = refl
-length_taken (suc n) [] le = absurd (omega arith)
-length_taken (suc n) (p ∷ ps) le = ap suc (length_taken n ps (omega arith))
-
-length_dropped : (n : ℕ) (ps : List Placed) → n ≤ length ps → length (drop n ps) + n ≡ length ps
-length_dropped zero ps le = omega arith
-length_dropped (suc n) [] le = absurd (omega arith)
-length_dropped (suc n) (p ∷ ps) le = let e = length_dropped n ps (omega arith) in omega arith
-
 length_dots : (ps : List Placed) (start end : ℕ) → start ≤ end → end ≤ length ps → length (dots_from ps start end) ≡ end - start
 length_dots ps start end le within =
-    let left = length_dropped start ps (omega arith) in
-    length-map (take (end - start) (drop start ps)) dot_at ∙ length_taken (end - start) (drop start ps) (omega arith)
+    let left = length-drop start ps in
+    length-map (take (end - start) (drop start ps)) dot_at ∙ length-take-le (end - start) (drop start ps) (omega arith)
 
 -- the text, how many dots, and these
 pub element_is : (ps : List Placed) (start end i : ℕ) (e : Text) (old text number done : List ℕ) → start < end → end ≤ length ps → end ≤ i → text ≡ old ++ text_spelled e → number ≡ text ++ number_spelled (end - start)

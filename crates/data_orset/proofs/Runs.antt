@@ -1,7 +1,7 @@
 -- The dots of a list, element by element: these are the elements of its set.
 use Rattle.std.proofs.Common.{◌≡◌, ℕ, zero, suc, ◌+◌, ◌-◌, ◌^◌, ◌<◌, ◌≤◌, Bool, true, false, cond, ◌||◌, nat_lt, List, [], ◌∷◌, ◌++◌, length, take, drop, get_or, refl, ap, sym, ◌∙◌, subst, append_assoc, ⊎_elim, inl, inr, ◌⊎◌, arith}
 use Rattle.std.proofs.lemmas.Bool.{lt-ltb, or_right}
-use Rattle.std.proofs.lemmas.List.{drop_more, drop_all}
+use Rattle.std.proofs.lemmas.List.{drop_more, drop_all, drop-drop, length-drop}
 use Rattle.std.proofs.lemmas.List.Elements.{recursion_from_All}
 use Rattle.std.specs.Prelude.{map}
 use Rattle.std.specs.List.{All, AllByRecursion, flat_map}
@@ -19,16 +19,13 @@ use Rattle.base_bytes.specs.Spelling.{IsText}
 use Rattle.base_bytes.proofs.TextLaws.{eq_texts, texts_eq, less_order}
 use Rattle.data_growing.specs.TextSetLaws.{below_all_of_less}
 use Rattle.base_vectors.specs.declared.id.Dot.{Dot}
-use Rattle.data_orset.specs.Placing.{Placed}
+use Rattle.data_orset.specs.Placing.{Placed, placed_order, IsBeforeAll, IsNumbered, AreDots, at_dot, dot_at}
 use Rattle.data_orset.specs.declared.element.Element.{Element}
-use Rattle.data_orset.specs.Placing.{placed_order, IsBeforeAll, IsNumbered, AreDots}
 use Rattle.data_orset.specs.Dots.{Dots}
 use Rattle.data_orset.specs.Keeping.{set_of}
-use Rattle.data_orset.specs.Placing.{at_dot}
 use Rattle.data_orset.specs.Elements.{AreRising, IsDot, IsPlaced, IsElement, AreElements, IsSoundSet, placed_of, texts_in, elements_of, element_spelled, elements_spelled, set_spelled}
 use Rattle.data_orset.specs.ElementLaws.{by_parts, of_parts, elements_back}
 use Rattle.data_orset.specs.Runs.{with_dot, grouped, run, first_run}
-use Rattle.data_orset.specs.Placing.{dot_at}
 use Rattle.data_orset.proofs.Placings.{before_all}
 use Rattle.data_orset.proofs.ElementsInOrder.{before_upto}
 
@@ -65,17 +62,6 @@ pub first_run_within : (ps : List Placed) → first_run ps ≤ length ps
 first_run_within [] = omega arith
 first_run_within (p ∷ ps) = let le = run_within p.element ps in omega arith
 
-length_drop : {X : Type 0} (n : ℕ) (xs : List X) → n ≤ length xs → length (drop n xs) + n ≡ length xs
-length_drop zero xs le = omega arith
-length_drop (suc n) [] le = absurd (omega arith)
-length_drop (suc n) (x ∷ xs) le = let e = length_drop n xs (omega arith) in omega arith
-
-drop_twice : {X : Type 0} (m n : ℕ) (xs : List X) → drop n (drop m xs) ≡ drop (m + n) xs
-drop_twice zero n xs = let e : n ≡ 0 + n = omega arith in ap (λ k. drop k xs) e
-drop_twice (suc m) zero [] = let e : suc m + 0 ≡ suc (m + 0) = omega arith in ap (λ k. drop k []) (sym e)
-drop_twice (suc m) (suc n) [] = let e : suc m + suc n ≡ suc (m + suc n) = omega arith in ap (λ k. drop k []) (sym e)
-drop_twice (suc m) n (x ∷ xs) = let e : suc m + n ≡ suc (m + n) = omega arith in drop_twice m n xs ∙ ap (λ k. drop k (x ∷ xs)) (sym e)
-
 -- from a dot on: how many are of its element, and these
 pub record IsRun (ps : List Placed) (start : ℕ) (p : Placed) (n : ℕ) : Type 0 where
   pub some : 1 ≤ n
@@ -84,13 +70,13 @@ pub record IsRun (ps : List Placed) (start : ℕ) (p : Placed) (n : ℕ) : Type 
 
 run_from : (ps : List Placed) (start : ℕ) (p : Placed) (qs : List Placed) → start < length ps → drop start ps ≡ p ∷ qs → IsRun ps start p (first_run (drop start ps))
 run_from ps start p qs inside more =
-    let left = length_drop start ps (omega arith) in
+    let left = length-drop start ps in
     let le = first_run_within (drop start ps) in
     record {
       some = subst (λ (rs : List Placed). 1 ≤ first_run rs) (sym more) (omega arith);
       within = omega arith;
       first = subst (λ (rs : List Placed). grouped rs ≡ first_of p rs (first_run rs) ∷ grouped (drop (first_run rs) rs)) (sym more) (first_is p qs)
-          ∙ ap (λ (rs : List Placed). first_of p (drop start ps) (first_run (drop start ps)) ∷ grouped rs) (drop_twice start (first_run (drop start ps)) ps);
+          ∙ ap (λ (rs : List Placed). first_of p (drop start ps) (first_run (drop start ps)) ∷ grouped rs) (drop-drop (first_run (drop start ps)) start ps);
     }
 
 pub run_at : (ps : List Placed) (start : ℕ) (p : Placed) → start < length ps → p ≡ get_or ps start p → IsRun ps start p (first_run (drop start ps))
@@ -100,7 +86,7 @@ pub some_run : (ps : List Placed) (start : ℕ) → start < length ps → (p : P
 some_run ps start inside = go (drop start ps) refl
   where
     go : (rs : List Placed) → drop start ps ≡ rs → (p : Placed) × IsRun ps start p (first_run (drop start ps))
-    go [] none = absurd (let left = length_drop start ps (omega arith) in let e = ap length none in omega arith)
+    go [] none = absurd (let left = length-drop start ps in let e = ap length none in omega arith)
     go (p ∷ qs) more = (p, run_from ps start p qs inside more)
 
 -- the end of a run, dot by dot

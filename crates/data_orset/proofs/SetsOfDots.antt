@@ -7,8 +7,7 @@ use Rattle.std.specs.Cmp.{Equal-is}
 use Rattle.std.specs.Cmp.Lexicographic.{slice_cmp, nat_list_cmp_total}
 use Rattle.std.specs.FinSet as set
 use Rattle.std.proofs.lemmas.Map.Lookups.{exact_bytes}
-use Rattle.data_orset.specs.Placing.{Placed}
-use Rattle.data_orset.specs.Placing.{key_of, AreDots}
+use Rattle.data_orset.specs.Placing.{Placed, key_of, AreDots}
 use Rattle.data_orset.specs.Dots.{Dots}
 use Rattle.data_orset.specs.Keeping.{set_of, stays, set_merged, AreMerged}
 use Rattle.data_orset.proofs.Placings.{IsOfOne, dots_filter}

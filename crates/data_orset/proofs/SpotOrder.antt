@@ -1,6 +1,6 @@
 -- The order of a table's spots, and where one of them stands or belongs.
 use Rattle.std.proofs.Common.{◌≡◌, ℕ, zero, suc, ◌+◌, ◌-◌, ◌<◌, ◌≤◌, inl, inr, List, [], ◌∷◌, ◌++◌, take, drop, length, get_or, Bool, true, false, ◌||◌, Result, Ok, Err, refl, ap, sym, ◌∙◌, subst, arith, ⊎_elim}
-use Rattle.std.specs.Prelude.{nat_lt}
+use Rattle.std.specs.Prelude.{nat_lt, is_ok}
 use Rattle.std.specs.List.{AllByRecursion, list_any}
 use Rattle.std.specs.List.Sorted.{IsNonDecreasingBy, IsBinarySearchResult, IsSearchInRange, IsPartitionedBy, IsPartitionPoint}
 use Rattle.std.specs.Ordering.{nat_cmp, ordering_then, ordering_reverse, ordering_index}
@@ -24,7 +24,6 @@ use Rattle.data_orset.specs.Spots.{placed_in, dots_in, ArePlacesBelow, AreSpots,
 use Rattle.data_orset.specs.Keeping.{set_of, IsRunOf}
 use Rattle.data_growing.specs.Texts.{IsPlace}
 use Rattle.std.specs.FinSet as set
-use Rattle.std.specs.Prelude.{is_ok}
 use Rattle.data_orset.specs.DotLaws.{itself}
 use Rattle.data_orset.proofs.Between.{upto_nth, upto_lt, unnamed_run, none_named, has_at}
 use Rattle.data_orset.proofs.Changes.{any_map}

@@ -5,6 +5,7 @@ use Rattle.std.specs.List.{filter, list_any, insert}
 use Rattle.std.specs.Str.{bytes_eq}
 use Rattle.std.specs.declared.cmp.Ordering.{Ordering}
 use Rattle.std.proofs.lemmas.List.{get_or_default, drop_all, take_all, append-nil, length-map}
+use Rattle.std.proofs.lemmas.List.Edits.{length-insert, get_or-insert_below, get_or-insert_above}
 use Rattle.std.proofs.lemmas.Bool.{or_parts}
 use Rattle.std.proofs.lemmas.Bool.Decides.{nat_tests}
 use Rattle.model_history.specs.Texts.{Text}
@@ -45,20 +46,6 @@ same_place (x ∷ xs) (suc p) (suc q) h l m = next_alike p q ∙ same_place xs p
 abbrev pub after_one : ℕ → ℕ → ℕ
 after_one from place = if nat_le from place then place + 1 else place
 
-get_from : (xs : List Text) (k : ℕ) (e : Text) (p : ℕ) → k ≤ p → p < length xs → get_or (insert xs k e) (p + 1) [] ≡ get_or xs p []
-get_from [] k e p le l = absurd (omega arith)
-get_from (x ∷ xs) zero e p le l = let next : p + 1 ≡ suc p = omega arith in ap (λ i. get_or (e ∷ x ∷ xs) i []) next
-get_from (x ∷ xs) (suc k) e zero le l = absurd (omega arith)
-get_from (x ∷ xs) (suc k) e (suc p) le l =
-    let next : suc p + 1 ≡ suc (p + 1) = omega arith in
-    ap (λ i. get_or (x ∷ insert xs k e) i []) next ∙ get_from xs k e p (omega arith) (omega arith)
-
-get_before : (xs : List Text) (k : ℕ) (e : Text) (p : ℕ) → p < k → k ≤ length xs → get_or (insert xs k e) p [] ≡ get_or xs p []
-get_before xs zero e p l le = absurd (omega arith)
-get_before [] (suc k) e p l le = absurd (omega arith)
-get_before (x ∷ xs) (suc k) e zero l le = refl
-get_before (x ∷ xs) (suc k) e (suc p) l le = get_before xs k e p (omega arith) (omega arith)
-
 at_or_after : (from p : ℕ) → nat_le from p ≡ true → from ≤ p
 at_or_after from p e = grind (arith, nat_tests)
 
@@ -69,20 +56,8 @@ get_after : (xs : List Text) (k : ℕ) (e : Text) (p : ℕ) → k ≤ length xs 
 get_after xs k e p le l = go (nat_le k p) refl
   where
     go : (b : Bool) → nat_le k p ≡ b → get_or (insert xs k e) (cond b (p + 1) p) [] ≡ get_or xs p []
-    go true is = get_from xs k e p (at_or_after k p is) l
-    go false is = get_before xs k e p (before_one k p is) le
-
-pub get_new : (xs : List Text) (k : ℕ) (e : Text) → k ≤ length xs → (k < length (insert xs k e)) × (get_or (insert xs k e) k [] ≡ e)
-get_new [] zero e le = (omega arith, refl)
-get_new [] (suc k) e le = absurd (omega arith)
-get_new (x ∷ xs) zero e le = (omega arith, refl)
-get_new (x ∷ xs) (suc k) e le = let h = get_new xs k e (omega arith) in let l = h.0 in (omega arith, h.1)
-
-length_more : (xs : List Text) (k : ℕ) (e : Text) → length (insert xs k e) ≡ suc (length xs)
-length_more [] zero e = refl
-length_more [] (suc k) e = refl
-length_more (x ∷ xs) zero e = refl
-length_more (x ∷ xs) (suc k) e = ap suc (length_more xs k e)
+    go true is = get_or-insert_above xs k e [] p (at_or_after k p is) le
+    go false is = get_or-insert_below xs k e [] p (before_one k p is) le
 
 after_below : (from p n : ℕ) → p < n → after_one from p < suc n
 after_below from p n l = go (nat_le from p)
@@ -106,7 +81,7 @@ placed_after xs k e (s ∷ spots) le h =
 pub spots_after : (xs : List Text) (k : ℕ) (e : Text) (spots : List Spot) → IsPlace xs e k → AreSpots xs spots → AreSpots (insert xs k e) (map (shifted k) spots)
 spots_after xs k e spots place h = record {
   rising = rising_of_set (insert xs k e) (xs ++ e ∷ []) place.sorted;
-  within = subst (λ n. ArePlacesBelow n (map (shifted k) spots)) (sym (length_more xs k e)) (places_after k (length xs) spots h.within);
+  within = subst (λ n. ArePlacesBelow n (map (shifted k) spots)) (sym (length-insert xs k e place.within ∙ omega arith)) (places_after k (length xs) spots h.within);
 }
 
 pub same_after : (xs : List Text) (k : ℕ) (e : Text) (spots : List Spot) → IsPlace xs e k → AreSpots xs spots → map (placed_in (insert xs k e)) (map (shifted k) spots) ≡ map (placed_in xs) spots

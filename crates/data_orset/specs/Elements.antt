@@ -15,11 +15,10 @@ use Rattle.base_bytes.specs.Spelling.{IsText, text_spelled, number_spelled}
 use Rattle.model_kinds.specs.SixKinds.{set_operations}
 use Rattle.model_kinds.specs.declared.operation.Op.{Op}
 use Rattle.base_vectors.specs.declared.id.Dot.{Dot}
-use Rattle.data_orset.specs.Placing.{Placed}
+use Rattle.data_orset.specs.Placing.{Placed, at_dot}
 use Rattle.data_orset.specs.declared.element.Element.{Element}
 use Rattle.data_orset.specs.Dots.{Dots, is_element, shown_elements}
 use Rattle.data_orset.specs.Keeping.{set_of}
-use Rattle.data_orset.specs.Placing.{at_dot}
 
 -- THE ELEMENTS OF A SET
 

@@ -2,8 +2,7 @@
 use Rattle.std.specs.Prelude.{◌≡◌, ℕ, ◌<◌, ◌≤◌, length, Bool, true, false, not, List, ◌∷◌, map, take, get_or}
 use Rattle.std.specs.FinSet as set
 use Rattle.model_history.specs.Texts.{Text, text_lt, contains_text}
-use Rattle.data_orset.specs.Placing.{Placed}
-use Rattle.data_orset.specs.Placing.{key_of, nth, AreDots}
+use Rattle.data_orset.specs.Placing.{Placed, key_of, nth, AreDots}
 use Rattle.data_orset.specs.Dots.{Dots}
 
 -- the set of a list

@@ -5,7 +5,7 @@
 -- Groups and entries that a member takes, one after another.
 -- Entries that are asked for by name.
 use Rattle.std.proofs.Common.{◌≡◌, zero, suc, List, [], ◌∷◌, ◌++◌, refl, sym, ap, ◌∙◌, subst, Some, None, ◌≢◌, ℕ, ◌<◌, length, get_or, set, subst₂, arith, false, not, Option, inl, inr, map, find, option_map, IfSome, bytes_eq, get_or-set_same, get_or-set_other, length-set, true, if◌then◌else◌, Bool, filter, ◌&&◌, append-nil}
-use Rattle.std.specs.List.{AllZip}
+use Rattle.std.specs.List.{AllZip, list_any}
 use Rattle.std.proofs.lemmas.Bool.{cases_eq}
 use Rattle.std.proofs.lemmas.List.{get_or_default, length-map, map-append}
 use Rattle.std.proofs.lemmas.List.Elements.{filter-append}
@@ -34,7 +34,6 @@ use Rattle.member_node.specs.Entries.{is_changed_at}
 use Rattle.member_node.specs.declared.change.ChangeAt.{ChangeAt}
 use Rattle.member_node.specs.declared.change.Change.TheVariants.{Entry}
 use Rattle.member_node.proofs.Sparse.{stands_at, sparse_at}
-use Rattle.std.specs.List.{list_any}
 use Rattle.std.proofs.lemmas.List.Folds.{list_any_none}
 use Rattle.member_node.specs.Taking.{put_at, KeepsOwn, AreHeldBy, judged_for, entry_after, lacking_in, gaps_at}
 use Rattle.member_node.specs.declared.groups.GroupTaken.{GroupTaken}

@@ -5,8 +5,7 @@ use Rattle.std.specs.Str.{bytes_eq}
 use Rattle.std.proofs.lemmas.Bool.Decides.{nat_tests, Decides-eqb}
 use Rattle.std.proofs.lemmas.Slice.Eq.{slice_eq-Decides}
 use Rattle.model_history.specs.Texts.{Text}
-use Rattle.model_members.specs.Node.{Level, with_text_at, needed}
-use Rattle.model_members.specs.Node.{Stepped}
+use Rattle.model_members.specs.Node.{Level, with_text_at, needed, Stepped}
 
 pub bytes_eq-same : (xs : Text) → bytes_eq xs xs ≡ true
 bytes_eq-same xs = (slice_eq-Decides Decides-eqb xs xs _ refl).1 refl

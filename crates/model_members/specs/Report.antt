@@ -17,8 +17,7 @@ use Rattle.model_members.specs.Node.{KeyDecl, KeyState, Node, key_states, Result
 use Rattle.model_members.specs.Node.Result.{Wrote, ReadValue, ReadDeleted, ReadNothing}
 use Rattle.model_members.specs.Node.Reply.{Done, Pending, Value, Deleted, NotFound, UnknownKey, WrongKind, TooFew, Refused, NotStored, Taken, Already, Gap, NotFromMember, Installed, OldView, NotAPeer, Ticked, TickedNotStored, NotLeader, TimedOut, NoSuchOp}
 use Rattle.model_members.specs.World.{World}
-use Rattle.model_members.specs.Script.{Told, Head, Answer, ScriptStep, KeeperAnswers, opening, played_all, lines_of}
-use Rattle.model_members.specs.Script.{Ask as ask}
+use Rattle.model_members.specs.Script.{Told, Head, Answer, ScriptStep, KeeperAnswers, opening, played_all, lines_of, Ask as ask}
 use Rattle.model_members.specs.Script.Head.{Asked, DeliverHead, RoundHead, LoseHead, TimeoutHead, RemoveHead, JoinHead, RestartHead, SettleHead}
 use Rattle.model_members.specs.Script.Answer.{Replied, Gone, HistoryFull, NoSuchView, NoSuchMessage, Lost, Nothing, LastMember, PlaceTaken, TooManyIdentities, ClearFailed, LoadFailed, Stopped, NewView, NewIdentity, Settled}
 

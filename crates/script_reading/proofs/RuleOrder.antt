@@ -1,12 +1,11 @@
 -- Which rules a reader tells, and that none of a script is told before another that is broken.
 use Rattle.std.proofs.Common.{◌≡◌, ℕ, zero, suc, ◌+◌, ◌≤◌, List, [], ◌∷◌, ◌++◌, length, Bool, true, false, ◌&&◌, Option, None, Some, Result, Ok, Err, refl, sym, ap, subst, arith}
-use Rattle.std.specs.Prelude.{codes, not, if◌then◌else◌, nat_le, ⊤}
+use Rattle.std.specs.Prelude.{codes, not, if◌then◌else◌, nat_le, ⊤, option_and_then}
 use Rattle.std.specs.List.{list_any}
 use Rattle.std.specs.Str.{bytes_eq}
 use Rattle.std.proofs.lemmas.List.{length-append}
 use Rattle.serde_json.specs.Data.{Data, Items, no_items, item}
 use Rattle.serde_json.specs.Find.{get, as_bool, as_str, as_array, as_number, as_u64}
-use Rattle.std.specs.Prelude.{option_and_then}
 use Rattle.model_kinds.specs.declared.kind.Kind.{Kind}
 use Rattle.script_reading.specs.declared.fault.Rule.{Rule}
 use Rattle.script_reading.specs.declared.clients.RunStep.{RunStep}

@@ -7,13 +7,12 @@ use Rattle.std.specs.Prelude.{is_some, option_map, ◌||◌, ◌&&◌, IsTrue, I
 use Rattle.std.specs.List.{list_all}
 use Rattle.model_history.specs.Texts.{Text}
 use Rattle.model_members.specs.DataType.{Replication}
-use Rattle.model_members.specs.Entry.{Entry, Group}
+use Rattle.model_members.specs.Entry.{Entry, Group, has_records}
 use Rattle.model_members.specs.Message.{Keyed, Message, part_of}
 use Rattle.model_members.specs.Message.Message.{Deltas, Nack, Status, Gossip, Write, WriteAck, WriteNack, Read, ReadAnswer}
 use Rattle.model_members.specs.Node.{KeyDecl, KeyState, Node, OpenOperation, Fate, state_of, keyed_entry}
 use Rattle.model_members.specs.Node.Reply.{Taken}
 use Rattle.model_members.specs.Step.{step_of_take, sent, gossip_to, named_digest, is_digest, digest_of, news_for, wanted_from, is_answered_by, took}
-use Rattle.model_members.specs.Entry.{has_records}
 use Rattle.model_members.proofs.Cases.{counted_for}
 use Rattle.model_members.proofs.Steps.{bytes_eq-same, bytes_eq-tells}
 use Rattle.theorem_declaring.specs.Parts.{knows}

@@ -8,7 +8,7 @@ use Rattle.model_history.specs.Texts.{Text}
 use Rattle.model_history.specs.Table.{identity_limit, with_at}
 use Rattle.model_members.specs.View.{View}
 use Rattle.model_history.specs.History.{History, at, IsPartOf, IsHistory}
-use Rattle.model_members.specs.Entry.{Entry, Group, empty_entry, seen_by}
+use Rattle.model_members.specs.Entry.{Entry, Group, empty_entry, seen_by, IsGroupOf}
 use Rattle.model_members.specs.DataType.{Replication}
 use Rattle.model_members.specs.Message.{Keyed, Message, Post, entries_in, groups_in}
 use Rattle.model_members.specs.Message.Message.{Deltas, Nack, Status, Gossip, Write, WriteAck, WriteNack, Read, ReadAnswer}
@@ -19,7 +19,6 @@ use Rattle.model_members.specs.Node.Reply.{OldView, NotStored, Installed}
 use Rattle.model_members.specs.Step.{step, answered, has_failed}
 use Rattle.model_members.specs.World.{Link, Links, Store, with_link, with_post, with_posts, moved_on, after_store, with_stored}
 use Rattle.model_history.specs.Log.{IsTakenFrom}
-use Rattle.model_members.specs.Entry.{IsGroupOf}
 use Rattle.theorem_runs.specs.Logs.{IsMessageOf, HasNoPrunes}
 use Rattle.model_history.proofs.HistoryLaws.{with_at_same, with_at_other, slice_get-push}
 use Rattle.model_history.proofs.PartLaws.{take_whole, taken_grown}

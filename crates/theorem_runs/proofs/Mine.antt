@@ -6,10 +6,9 @@ use Rattle.model_history.specs.Texts.{Text}
 use Rattle.model_history.specs.Table.{identity_limit, with_at}
 use Rattle.model_members.specs.View.{View}
 use Rattle.model_history.specs.History.{Action, Record, History, at, versions, union, with_record, IsPartOf, IsHistory}
-use Rattle.model_members.specs.Entry.{Entry, Group, judged, with_group}
+use Rattle.model_members.specs.Entry.{Entry, Group, judged, with_group, IsGroupOf}
 use Rattle.model_members.specs.Entry.Judgement.{Wanted}
 use Rattle.model_history.specs.Log.{IsTakenFrom}
-use Rattle.model_members.specs.Entry.{IsGroupOf}
 use Rattle.model_history.proofs.HistoryLaws.{with_at_same, with_at_other, at-union}
 use Rattle.model_history.proofs.PartLaws.{take-take, take_whole, part-le, taken_grown, part_union, taken_union, history-with_record, taken-with_record}
 use Rattle.model_members.proofs.GroupLaws.{taken_with_group, other_rows, verdict}

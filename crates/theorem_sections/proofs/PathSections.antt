@@ -15,10 +15,9 @@ use Rattle.model_members.specs.Script.{Playing}
 use Rattle.theorem_sections.proofs.AskedInputs.{IsAsked, is_asked}
 use Rattle.theorem_sections.specs.Sections.{Command, new_client, opened, moved_all}
 use Rattle.theorem_sections.specs.Histories.{Entry, Placed, entries_at, events_of, sent_so_far, replayed, AreHistories, IsRunOrder}
-use Rattle.theorem_sections.specs.Paths.{ClientStep, IsInputOf, IsTake, IsStepOf, IsPath, ArePaths, HasEntryAt, HasSection}
+use Rattle.theorem_sections.specs.Paths.{ClientStep, IsInputOf, IsTake, IsStepOf, IsPath, ArePaths, HasEntryAt, HasSection, answered_in, calls_after, HaveAnswered}
 use Rattle.theorem_sections.proofs.Exploring.{some_of}
 use Rattle.theorem_sections.proofs.RunOrder.{is_same, messages_on, first_going}
-use Rattle.theorem_sections.specs.Paths.{answered_in, calls_after, HaveAnswered}
 use Rattle.theorem_sections.proofs.Along.{Along}
 use Rattle.theorem_sections.proofs.Heard.{is_not}
 use Rattle.theorem_sections.proofs.Positions.{takes, is_own, own}

@@ -12,7 +12,7 @@ use Rattle.model_members.specs.Message.Message.{WriteAck, ReadAnswer}
 use Rattle.model_members.specs.Node.{Node, OpenOperation, Finished, Input, Fate, Reply, Output, one_step_later}
 use Rattle.model_members.specs.Node.Input.{Take, Timeout}
 use Rattle.model_members.specs.Step.{with_answer, answered, step}
-use Rattle.theorem_operations.proofs.Lists.{any_in, or_left, or_right, same_number}
+use Rattle.theorem_operations.proofs.Lists.{any_in, or_left, or_right, same_number, all_first, all_last}
 use Rattle.theorem_operations.proofs.Opening.{opening_tells}
 use Rattle.theorem_operations.proofs.Operations.{Change, IsAnswer, step_tells}
 use Rattle.theorem_operations.proofs.Operations.IsAnswer.{Acked, ReadBack}
@@ -22,7 +22,6 @@ use Rattle.theorem_sections.specs.Histories.{Entry, Passed, taken_by, taken_from
 use Rattle.theorem_sections.proofs.NextDue.{same_or_not}
 use Rattle.theorem_sections.proofs.RunOrder.{is_same, is_other}
 use Rattle.theorem_sections.proofs.Asked.{NoneAnswers}
-use Rattle.theorem_operations.proofs.Lists.{all_first, all_last}
 use Rattle.theorem_sections.proofs.Questions.{number_grows, closed_stays}
 
 -- LISTS

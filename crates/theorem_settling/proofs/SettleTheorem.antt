@@ -10,7 +10,7 @@ use Rattle.model_history.specs.Texts.{Text}
 use Rattle.model_history.specs.History.{History, at, is_pruned}
 use Rattle.model_history.proofs.CutLaws.{both_ways}
 use Rattle.model_history.proofs.HistoryLaws.{append_nothing}
-use Rattle.model_history.proofs.PruneLaws.{IsIn}
+use Rattle.model_history.proofs.PruneLaws.{IsIn, found}
 use Rattle.model_members.specs.View.{View, is_member, leader, identities_of, removed_of}
 use Rattle.model_members.specs.Entry.{Entry, Mark}
 use Rattle.model_members.specs.DataType.{Replication}
@@ -23,7 +23,6 @@ use Rattle.model_members.specs.World.Event.{InputAt}
 use Rattle.theorem_runs.proofs.Keeping.{same_text}
 use Rattle.theorem_runs.proofs.Growth.{step_no_fewer}
 use Rattle.theorem_runs.proofs.RunViews.{same_some, is_or_isnt}
-use Rattle.model_history.proofs.PruneLaws.{found}
 use Rattle.theorem_runs.proofs.Happening.{all_of}
 use Rattle.theorem_settling.specs.Settling.{BlockedStays}
 use Rattle.theorem_operations.proofs.Lists.{in_any, in_filtered, map_length, to_filter}

@@ -1,6 +1,6 @@
 -- What follows an answer.
 use Rattle.std.proofs.Common.{◌≡◌, ℕ, List, [], ◌∷◌, ◌++◌, false, Option, Some, None, refl, sym, subst, inl, inr}
-use Rattle.std.specs.Prelude.{◌⊎◌}
+use Rattle.std.specs.Prelude.{◌⊎◌, Err}
 use Rattle.model_kinds.specs.declared.operation.Op.{Op}
 use Rattle.data_lattice.specs.declared.replica.Replica.{Ghosts as Data}
 use Rattle.member_keeper.specs.declared.keeper.Keeper.{Ghosts as Keeping}
@@ -11,7 +11,6 @@ use Rattle.member_node.specs.declared.reply.Reply.{Reply}
 use Rattle.member_node.specs.declared.reply.Reply.TheVariants as reply
 use Rattle.world_members.specs.declared.client_line.ClientLine.{ClientLine}
 use Rattle.world_members.specs.declared.client_line.Ended.{Ended}
-use Rattle.std.specs.Prelude.{Err}
 use Rattle.thread_cluster.specs.Knowing.{GoesOn, IsNowhere}
 use Rattle.thread_cluster.specs.declared.error.CallError.{CallError}
 use Rattle.thread_cluster.specs.declared.error.CallError.TheVariants as call

@@ -1,7 +1,6 @@
 -- What one command of a client did is a step by what the client knew.
-use Rattle.std.proofs.Common.{◌≡◌, ◌⊎◌, inl, inr, ⊎_elim, ℕ, ◌<◌, ◌≤◌, List, refl, sym, ap, subst, ◌∙◌, arith, true, false, true≢false, Option, Some, None}
+use Rattle.std.proofs.Common.{◌≡◌, ◌⊎◌, inl, inr, ⊎_elim, ℕ, ◌<◌, ◌≤◌, List, refl, sym, ap, subst, ◌∙◌, arith, true, false, true≢false, Option, Some, None, take-append-drop}
 use Rattle.std.specs.Prelude.{take, drop, slice_get, is_some, option_map, IsTrue}
-use Rattle.std.proofs.Common.{take-append-drop}
 use Rattle.model_members.specs.View.{View, is_member}
 use Rattle.model_members.specs.DataType.{Replication}
 use Rattle.model_members.specs.Node as nodes

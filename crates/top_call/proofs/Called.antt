@@ -14,8 +14,7 @@ use Rattle.script_reading.specs.Reading.{Spells, Breaks, HasNoReading}
 use Rattle.report_lines.specs.Kept.{AreKept}
 use Rattle.trace_judged.specs.declared.judging.Judgement.{Judgement}
 use Rattle.trace_judged.specs.declared.judging.Judgement.TheVariants as judged
-use Rattle.top_call.specs.Answers.{Fulfils, IsOfBytes, IsOfSource, IsOfTold, HasNoJson, TellsRule, TellsPlace, TellsLine, TellsBroken, IsTooLong, FailsAt, CannotClear, SomeRose, IsTextDue, ScriptCallsFor, CallsFor, IsUnlessRefused}
-use Rattle.top_call.specs.Answers.{ScriptCallsFor as calls, IsTextDue as text_of}
+use Rattle.top_call.specs.Answers.{Fulfils, IsOfBytes, IsOfSource, IsOfTold, HasNoJson, TellsRule, TellsPlace, TellsLine, TellsBroken, IsTooLong, FailsAt, CannotClear, SomeRose, IsTextDue, ScriptCallsFor, CallsFor, IsUnlessRefused, ScriptCallsFor as calls, IsTextDue as text_of}
 use Rattle.top_call.specs.Asking.{Reads, RunsNothing, IsAsked, AskNothing, AskToRead, AskToReadNothing, ReadsNothing, reads_in}
 use Rattle.top_call.specs.Behind.{untold}
 use Rattle.top_call.specs.Checking.{HasJudgement, judgement_status}

@@ -14,8 +14,7 @@ use Rattle.data_codec.specs.Envelopes.{IsEnvelope}
 use Rattle.data_codec.specs.Stored.{IsStored, stored_of}
 use Rattle.data_value.specs.declared.data.Data.{Data}
 use Rattle.top_call.specs.Passages.{limit}
-use Rattle.top_call.specs.Upgrading.{IsEntry, IsPlaceDue, IsUpgradeDueBy, EntryCallsFor}
-use Rattle.top_call.specs.Upgrading.{EntryCallsFor as calls}
+use Rattle.top_call.specs.Upgrading.{IsEntry, IsPlaceDue, IsUpgradeDueBy, EntryCallsFor, EntryCallsFor as calls}
 use Rattle.top_call.specs.declared.due.Due.{Due}
 use Rattle.top_call.specs.declared.due.Due.TheVariants.{NotAnEnvelope, Memory}
 use Rattle.top_call.specs.declared.status.Status.{Status}

@@ -4,8 +4,7 @@ use Rattle.trace_judged.specs.Judgements.{IsJudgement}
 use Rattle.trace_judged.specs.declared.judging.Judgement.{Judgement}
 use Rattle.trace_judged.proofs.Once.{judged_once}
 use Rattle.top_call.specs.Passages.{limit}
-use Rattle.top_call.specs.Checking.{IsJudgementDue, IsCheckDue, TraceCallsFor, judgement_status}
-use Rattle.top_call.specs.Checking.{TraceCallsFor as calls}
+use Rattle.top_call.specs.Checking.{IsJudgementDue, IsCheckDue, TraceCallsFor, judgement_status, TraceCallsFor as calls}
 use Rattle.top_call.specs.declared.due.Due.{Due}
 use Rattle.top_call.specs.declared.due.Due.TheVariants.{Memory}
 use Rattle.top_call.specs.declared.status.Status.{Status}

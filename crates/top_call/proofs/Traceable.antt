@@ -13,8 +13,7 @@ use Rattle.top_call.specs.Answers.{HasScript}
 use Rattle.top_call.specs.Asking.{Reads}
 use Rattle.top_call.specs.Due.{IsRefusal}
 use Rattle.top_call.specs.Passages.{Passage}
-use Rattle.top_call.specs.Tracing.{BreaksTraced, HasTraced, IsSettleAt, IsSettleDue, is_a_settle, settle_rule}
-use Rattle.top_call.specs.Tracing.{BreaksTraced as breaks}
+use Rattle.top_call.specs.Tracing.{BreaksTraced, HasTraced, IsSettleAt, IsSettleDue, is_a_settle, settle_rule, BreaksTraced as breaks}
 use Rattle.top_call.specs.declared.due.Due.{Due}
 use Rattle.top_call.specs.declared.due.Due.TheVariants.{NotJson, NotAScript, ReadFailed, TooLong, Memory}
 

@@ -10,8 +10,7 @@ use Rattle.script_reading.specs.declared.fault.Rule.{Rule}
 use Rattle.script_reading.specs.Reading.{HasNoReading}
 use Rattle.trace_played.specs.Traced.{HasNoSettle}
 use Rattle.top_call.specs.Passages.{limit}
-use Rattle.top_call.specs.Tracing.{BreaksTraced, SpellsTraced, TracedCallsFor}
-use Rattle.top_call.specs.Tracing.{BreaksTraced as breaks, TracedCallsFor as calls}
+use Rattle.top_call.specs.Tracing.{BreaksTraced, SpellsTraced, TracedCallsFor, BreaksTraced as breaks, TracedCallsFor as calls}
 use Rattle.top_call.specs.declared.status.Status.{Status}
 use Rattle.top_call.specs.declared.status.Status.TheVariants as status
 use Rattle.top_call.proofs.SpelledScripts.{spells_json, breaks_json, spells_breaks, spells_one}

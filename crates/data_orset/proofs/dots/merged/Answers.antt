@@ -1,9 +1,8 @@
 use Rattle.std.proofs.Common.{◌+◌, ◌++◌, List, [], ◌∷◌, drop, arith, subst, sym, ap, ◌∙◌, inl, inr}
 use Rattle.std.specs.Prelude.{if◌then◌else◌}
 use Rattle.std.specs.List.{filter}
-use Rattle.data_orset.specs.Placing.{Placed, nth}
+use Rattle.data_orset.specs.Placing.{Placed, nth, key_of}
 use Rattle.data_orset.proofs.Tables.{nth_at}
-use Rattle.data_orset.specs.Placing.{key_of}
 use Rattle.data_orset.proofs.Merging.{IsMerging, merge_less, merge_equal, merge_greater, merge_end}
 use Rattle.data_orset.proofs.SetsOfDots.{merge_is}
 use Rattle.data_orset.proofs.dots.merged.Goals as goal

@@ -1,7 +1,6 @@
-use Rattle.std.proofs.Common.{◌+◌, ◌-◌, ◌≤◌, List, length, true, sym, subst, ◌∙◌, arith}
+use Rattle.std.proofs.Common.{◌+◌, ◌-◌, ◌≤◌, List, length, true, sym, subst, ◌∙◌, arith, ◌^◌}
 use Rattle.std.proofs.lemmas.List.{take_all}
 use Rattle.base_vectors.specs.declared.id.Dot.{Dot}
-use Rattle.std.proofs.Common.{◌^◌}
 use Rattle.data_orset.specs.Placing.{Placed, AreDots}
 use Rattle.data_orset.specs.Keeping.{AreMerged}
 use Rattle.data_orset.specs.Spots.{dots_in}
