@@ -27,15 +27,15 @@ use Rattle.theorem_runs.proofs.SameShown.{same_history, means_by_history}
 use Rattle.theorem_operations.proofs.Moments.{Stands as IsReached, stands_start, stands_run}
 use Rattle.theorem_operations.proofs.Operations.{step_tells}
 use Rattle.theorem_operations.proofs.Turns.{turn_makes}
-use Rattle.theorem_sections.specs.Calls.{CallsStandOnce}
 use Rattle.theorem_sections.specs.Runs.{RunStep, IsRunStep, Plays, PlaysAll, plain_line}
 use Rattle.theorem_sections.specs.Runs.RunStep.{Plain, Threads}
 use Rattle.theorem_sections.specs.Sections.{Line}
-use Rattle.theorem_sections.specs.Seen.{stands_before}
-use Rattle.theorem_sections.proofs.Commanding.{calls_stand_once}
-use Rattle.theorem_sections.proofs.SeenMoments.{StepAt, step_at, before_runs, before_silent, lines_by}
-use Rattle.theorem_sections.proofs.SeenReads.{gets_include_seen}
 use Rattle.theorem_sections.proofs.Sectioned.{Runs, plays_runs, all_run}
+use Rattle.theorem_client_operations.specs.Calls.{CallsStandOnce}
+use Rattle.theorem_client_operations.specs.Seen.{stands_before}
+use Rattle.theorem_client_operations.proofs.Commanding.{calls_stand_once}
+use Rattle.theorem_client_operations.proofs.SeenMoments.{StepAt, step_at, before_runs, before_silent, lines_by}
+use Rattle.theorem_client_operations.proofs.SeenReads.{gets_include_seen}
 use Rattle.theorem_settling.specs.Settling.{BlockedStays, DigestsTellFrom, IsSettled, HasBlocked, settle_answer}
 use Rattle.theorem_settling.proofs.Settled.{leaves_settled, sends_few, counts_blocked}
 use Rattle.theorem_headline.specs.Headline.{IsMeaningAt, TellsMeaning, AreAlike, RefusalChangesNothing, EachSection, TellsSettle, LeavesSettled, TheHeadline}

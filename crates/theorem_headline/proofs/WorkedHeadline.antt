@@ -14,13 +14,13 @@ use Rattle.model_members.specs.Script.Answer.{Replied, Nothing, Settled}
 use Rattle.theorem_runs.proofs.Playing.{no_events}
 use Rattle.theorem_operations.specs.Quorum.{AllInstalled}
 use Rattle.theorem_operations.specs.Borders.{small_keys, the_key}
-use Rattle.theorem_sections.specs.Completing.{StoreHolds, IsUndisturbed}
 use Rattle.theorem_sections.specs.Runs.{IsRunStep, plain_line, PlaysAll}
 use Rattle.theorem_sections.specs.Sections.{Client, Section, Move, Line, IsSection, opened, moved_all, section_lines}
 use Rattle.theorem_sections.specs.Sections.Move.{NextCommand, NextMessage}
-use Rattle.theorem_sections.specs.Seen.{HadSeen, SuccessIsSeen, Stands, is_caller}
-use Rattle.theorem_sections.proofs.SeenMoments.{before_runs}
 use Rattle.theorem_sections.proofs.Sectioned.{Runs}
+use Rattle.theorem_client_operations.specs.Completing.{StoreHolds, IsUndisturbed}
+use Rattle.theorem_client_operations.specs.Seen.{HadSeen, SuccessIsSeen, Stands, is_caller}
+use Rattle.theorem_client_operations.proofs.SeenMoments.{before_runs}
 use Rattle.theorem_settling.specs.Settling.{DigestsTellFrom}
 use Rattle.base_vectors.specs.Spelling.{pairs_of, ids_spelled}
 use Rattle.base_vectors.specs.IdSets.{member_count}

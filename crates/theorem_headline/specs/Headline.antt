@@ -17,11 +17,11 @@ use Rattle.model_members.specs.World.{World, Event, Turn, IsRun, start, run, tur
 use Rattle.model_members.specs.Script.{KeeperAnswers, Playing, ScriptStep, Answer, opening}
 use Rattle.theorem_runs.specs.Logs.{AllHaveHistories}
 use Rattle.theorem_runs.specs.Pruning.{UnionsArePruned, AreRunning, HaveTakenAsMany}
-use Rattle.theorem_sections.specs.Calls.{CallsStandOnce}
 use Rattle.theorem_sections.specs.Runs.{RunStep, IsRunStep, PlaysAll, HasReport}
 use Rattle.theorem_sections.specs.Runs.RunStep.{Plain, Threads}
 use Rattle.theorem_sections.specs.Sections.{Command, Move, Section, Line}
-use Rattle.theorem_sections.specs.Seen.{Stands, GetsIncludeSeen, stands_before}
+use Rattle.theorem_client_operations.specs.Calls.{CallsStandOnce}
+use Rattle.theorem_client_operations.specs.Seen.{Stands, GetsIncludeSeen, stands_before}
 use Rattle.theorem_settling.specs.Settling.{DigestsTellFrom, IsSettled, HasBlocked}
 
 -- WHAT MEMBERS TELL, AND WHAT CHANGES

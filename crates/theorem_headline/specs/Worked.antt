@@ -10,9 +10,9 @@ use Rattle.model_members.specs.Script.Ask.{Update, Get}
 use Rattle.theorem_operations.specs.Borders.{small_keys, the_key}
 use Rattle.theorem_sections.specs.Runs.{RunStep, PlaysAll}
 use Rattle.theorem_sections.specs.Runs.RunStep.{Plain, Threads}
-use Rattle.theorem_sections.specs.Completing.{IsUndisturbed}
 use Rattle.theorem_sections.specs.Sections.{Command, Line, Ending, Move, Section, IsSection, command_to}
-use Rattle.theorem_sections.specs.Seen.{Stands, SeenUpdate, IsSeenUntil}
+use Rattle.theorem_client_operations.specs.Completing.{IsUndisturbed}
+use Rattle.theorem_client_operations.specs.Seen.{Stands, SeenUpdate, IsSeenUntil}
 use Rattle.theorem_settling.specs.Settling.{BlockedStays, DigestsTellFrom}
 use Rattle.theorem_digests.specs.Borders.{spelled_whole}
 use Rattle.theorem_headline.specs.Headline.{TellsSettle, before_step}

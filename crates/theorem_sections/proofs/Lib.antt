@@ -31,10 +31,3 @@ pub mod InViews
 pub mod SmallPath
 pub mod SmallKnown
 pub mod CodeOrder
-pub mod Endings
-pub mod Onward
-pub mod Commanding
-pub mod SeenMoments
-pub mod SeenReads
-pub mod AtHand
-pub mod Completing

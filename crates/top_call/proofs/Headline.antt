@@ -11,8 +11,8 @@ use Rattle.model_kinds.specs.declared.shown.Shown.{Shown}
 use Rattle.data_value.specs.DataSpelled.{history_byte, history_spelled}
 use Rattle.theorem_runs.proofs.Playing.{no_events}
 use Rattle.theorem_sections.specs.Runs.{RunStep, IsRunStep, PlaysAll}
-use Rattle.theorem_sections.specs.Seen.{stands_before}
-use Rattle.theorem_sections.proofs.SeenMoments.{before_runs}
+use Rattle.theorem_client_operations.specs.Seen.{stands_before}
+use Rattle.theorem_client_operations.proofs.SeenMoments.{before_runs}
 use Rattle.theorem_digests.specs.Digests.{DistinctDigests}
 use Rattle.theorem_digests.proofs.ByDigests.{distinct_tell}
 use Rattle.theorem_digests.proofs.FewRecords.{makes_few}

@@ -14,15 +14,15 @@ use Rattle.model_members.specs.World.{World, IsRun}
 use Rattle.model_members.specs.Script.{Playing, ScriptStep, Told, Head, played, last_of}
 use Rattle.model_members.specs.Script.Head.{Asked}
 use Rattle.theorem_operations.proofs.Lists.{first_true, second_true, both_true, same_number, map_length}
-use Rattle.theorem_sections.specs.Calls.{ComesAt, CallsStandOnce, is_command_of, asked_heads, made_heads}
 use Rattle.theorem_sections.specs.Sections.{Command, Client, Made, Section, Move, Line, Ending, step_of, pending_op, world_of, opened, new_client, made_by, after_command, with_client, commanded, commanded_by, heard, timed_out, timed_out_made, timed_out_op, moved, moved_all, may_come, may_command, may_all_come, goes_on, has_ended, is_open, node_full, is_over, IsSection, client_line, ending_of}
 use Rattle.theorem_sections.specs.Sections.Move.{NextCommand, NextMessage, ItsTimeout}
-use Rattle.theorem_sections.proofs.Endings.{IsUnder, under_stays, IsOverAt, over_stays}
-use Rattle.theorem_sections.proofs.Onward.{Goes, goes_between, each_move, moved_view, moved_appends, all_view, all_appends, moved-append, OneLine, one_line}
 use Rattle.theorem_sections.proofs.NextDue.{same_or_not}
 use Rattle.theorem_sections.proofs.PathSections.{get_mapped}
 use Rattle.theorem_sections.proofs.Positions.{set_here, set_else}
 use Rattle.theorem_sections.proofs.Sectioned.{Runs, moved_runs, moved_all_runs}
+use Rattle.theorem_client_operations.specs.Calls.{ComesAt, CallsStandOnce, is_command_of, asked_heads, made_heads}
+use Rattle.theorem_client_operations.proofs.Endings.{IsUnder, under_stays, IsOverAt, over_stays}
+use Rattle.theorem_client_operations.proofs.Onward.{Goes, goes_between, each_move, moved_view, moved_appends, all_view, all_appends, moved-append, OneLine, one_line}
 
 -- LISTS
 

@@ -26,10 +26,10 @@ use Rattle.theorem_operations.proofs.Opening.{opening_tells}
 use Rattle.theorem_operations.proofs.PlayedInputs.{turn_by, input_turn, turn_taken, deliver_case}
 use Rattle.theorem_sections.specs.Sections.{Command, Client, Made, Section, Move, step_of, pending_op, world_of, commanded, commanded_by, heard, timed_out, timed_out_made, timed_out_op, moved, moved_all}
 use Rattle.theorem_sections.specs.Sections.Move.{NextCommand, NextMessage, ItsTimeout}
-use Rattle.theorem_sections.proofs.Endings.{IsUnder}
 use Rattle.theorem_sections.proofs.Givens.{given_turn, given_to, line_for}
 use Rattle.theorem_sections.proofs.Positions.{pending_reply}
 use Rattle.theorem_sections.proofs.Sectioned.{command_is_step}
+use Rattle.theorem_client_operations.proofs.Endings.{IsUnder}
 
 -- BETWEEN TWO MOMENTS
 

@@ -19,7 +19,7 @@ use Rattle.theorem_operations.specs.Quorum.{AllInstalled, HasWrite}
 use Rattle.theorem_sections.specs.Sections.{Client, Section, Line, Ending}
 use Rattle.theorem_sections.specs.Runs.{RunStep, Plays, PlaysAll}
 use Rattle.theorem_sections.specs.Runs.RunStep.{Plain, Threads}
-use Rattle.theorem_sections.specs.Calls.{ComesAt}
+use Rattle.theorem_client_operations.specs.Calls.{ComesAt}
 
 -- WHERE A LINE STANDS
 

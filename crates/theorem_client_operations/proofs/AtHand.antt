@@ -39,8 +39,8 @@ use Rattle.theorem_operations.proofs.Waiting.NodeFrom.{Unmoved, Moved}
 use Rattle.theorem_operations.proofs.Waiting.GoesOn.{Ends, StillWaits}
 use Rattle.theorem_operations.proofs.Waiting.Answers.{EndsIt, CountsIt}
 use Rattle.theorem_sections.specs.Sections.{Section, Made, answers, is_open, unheard, are_posts_heard, are_answers_heard, world_of, running}
-use Rattle.theorem_sections.proofs.Endings.{NodeThen, node_then}
-use Rattle.theorem_sections.proofs.Endings.NodeThen.{IsTheSame, HasStepped}
+use Rattle.theorem_client_operations.proofs.Endings.{NodeThen, node_then}
+use Rattle.theorem_client_operations.proofs.Endings.NodeThen.{IsTheSame, HasStepped}
 
 -- LISTS
 

@@ -32,15 +32,15 @@ use Rattle.theorem_operations.proofs.StayingFinished.{HasEnded, stays_along, fin
 use Rattle.theorem_sections.specs.Runs.{RunStep, IsRunStep, Plays, PlaysAll, plain_line}
 use Rattle.theorem_sections.specs.Runs.RunStep.{Plain, Threads}
 use Rattle.theorem_sections.specs.Sections.{Line, Ending, pending_op, finished_at, ending_of, ending_by, is_open, section_lines}
-use Rattle.theorem_sections.specs.Seen.{Place, Stands, HadSeen, StandsIn, StandsAt, stands_before, SeenUpdate, TellsDelivery, SuccessIsSeen, IsSeenUntil, IncludesSeen, GetsIncludeSeen}
-use Rattle.theorem_sections.specs.Seen.HadSeen.{EarlierStep, OwnCommand}
-use Rattle.theorem_sections.proofs.Endings.{result_at, result_stays, FinishedAmong, finish_found}
 use Rattle.theorem_sections.proofs.KnownTimeouts.{get_mapped}
-use Rattle.theorem_sections.proofs.Onward.{leads_on, lawful_on, keeps_on, rises_on}
-use Rattle.theorem_sections.proofs.SeenMoments.{lines_by, plain_by, none_of_section, before_silent, before_grows, before_runs, StepAt, step_at, EndsSo, MadeHere, made_here, SeenBefore, seen_before, nothing_more}
-use Rattle.theorem_sections.proofs.SeenMoments.EndsSo.{AsTold, AsItStands}
 use Rattle.theorem_sections.proofs.Sectioned.{Runs}
 use Rattle.theorem_sections.proofs.Unfinished.{opened_none}
+use Rattle.theorem_client_operations.specs.Seen.{Place, Stands, HadSeen, StandsIn, StandsAt, stands_before, SeenUpdate, TellsDelivery, SuccessIsSeen, IsSeenUntil, IncludesSeen, GetsIncludeSeen}
+use Rattle.theorem_client_operations.specs.Seen.HadSeen.{EarlierStep, OwnCommand}
+use Rattle.theorem_client_operations.proofs.Endings.{result_at, result_stays, FinishedAmong, finish_found}
+use Rattle.theorem_client_operations.proofs.Onward.{leads_on, lawful_on, keeps_on, rises_on}
+use Rattle.theorem_client_operations.proofs.SeenMoments.{lines_by, plain_by, none_of_section, before_silent, before_grows, before_runs, StepAt, step_at, EndsSo, MadeHere, made_here, SeenBefore, seen_before, nothing_more}
+use Rattle.theorem_client_operations.proofs.SeenMoments.EndsSo.{AsTold, AsItStands}
 
 -- the update, with what its writer's store did
 abbrev seen_write : {Op : Type 0} → SeenUpdate Op → Fate → MajorityWrite Op

@@ -17,16 +17,16 @@ use Rattle.model_members.specs.Script.{Ask, Playing, ScriptStep, IsStep, Told, H
 use Rattle.model_members.specs.Script.Head.{Asked}
 use Rattle.theorem_runs.proofs.Playing.{Appends, played_appends, appends_more}
 use Rattle.theorem_operations.proofs.Lists.{get_front, second_true}
-use Rattle.theorem_sections.specs.Calls.{ComesAt}
 use Rattle.theorem_sections.specs.Runs.{RunStep, IsRunStep, Plays, PlaysAll, plain_line}
 use Rattle.theorem_sections.specs.Runs.RunStep.{Plain, Threads}
 use Rattle.theorem_sections.specs.Sections.{Command, Client, Made, Section, Move, Line, Ending, step_of, pending_op, world_of, opened, made_by, moved, moved_all, may_come, may_all_come, client_line, client_lines, section_lines, ending_of}
 use Rattle.theorem_sections.specs.Sections.Move.{NextCommand}
-use Rattle.theorem_sections.specs.Seen.{Place, is_caller, Stands, StandsIn, StandsAt, stands_before}
-use Rattle.theorem_sections.proofs.Commanding.{NextMade, next_made, moves_make, stands_there, its_commands, end_from, may_then, may_first, lawful_there, later_made, line_stays, goes_to_end, over_there}
-use Rattle.theorem_sections.proofs.Onward.{each_move, all_appends, moved-append, OneLine, one_line}
 use Rattle.theorem_sections.proofs.PathSections.{get_mapped}
 use Rattle.theorem_sections.proofs.Sectioned.{Runs, plays_runs, moved_all_runs}
+use Rattle.theorem_client_operations.specs.Calls.{ComesAt}
+use Rattle.theorem_client_operations.specs.Seen.{Place, is_caller, Stands, StandsIn, StandsAt, stands_before}
+use Rattle.theorem_client_operations.proofs.Commanding.{NextMade, next_made, moves_make, stands_there, its_commands, end_from, may_then, may_first, lawful_there, later_made, line_stays, goes_to_end, over_there}
+use Rattle.theorem_client_operations.proofs.Onward.{each_move, all_appends, moved-append, OneLine, one_line}
 
 -- LISTS
 

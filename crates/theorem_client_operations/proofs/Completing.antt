@@ -33,22 +33,22 @@ use Rattle.theorem_operations.proofs.Opening.{Opening, opening_tells, alone_is_o
 use Rattle.theorem_operations.proofs.PlayedInputs.{turn_by, input_turn, turn_taken, given_by, deliver_by}
 use Rattle.theorem_operations.proofs.Rounds.{Later, input_later, delivery_later}
 use Rattle.theorem_operations.proofs.Waiting.{Waits}
-use Rattle.theorem_sections.specs.Completing.{StoreHolds, IsUndisturbed, AllFinish}
 use Rattle.theorem_sections.specs.Sections.{Command, Client, Made, Section, Move, Ending, step_of, pending_op, world_of, opened, new_client, made_by, after_command, with_client, commanded, commanded_by, heard, timed_out, timed_out_made, timed_out_op, moved, moved_all, may_come, may_command, may_hear, may_time_out, may_call_timeout, may_all_come, goes_on, gives_up, has_ended, has_room, is_open, node_full, some_full, are_posts_heard, are_answers_heard, running, is_over, IsSection, client_line, ending_of, ending_by, finished_at}
 use Rattle.theorem_sections.specs.Sections.Move.{NextCommand, NextMessage, ItsTimeout}
-use Rattle.theorem_sections.proofs.AtHand.{posts_come, DueAfter, Stage, IsAtHand, HasResult, StillWaiting, result_next, waiting_next, has_when_closed, result_when_heard, all_at}
-use Rattle.theorem_sections.proofs.AtHand.DueAfter.{RestsThere, GoesThere}
-use Rattle.theorem_sections.proofs.AtHand.Stage.{IsStillOpen}
-use Rattle.theorem_sections.proofs.AtHand.IsAtHand.{IsCounted, QuestionDue}
-use Rattle.theorem_sections.proofs.Commanding.{at_index, pushed_at, get_below, last_at, either, not_true, goes_moves}
-use Rattle.theorem_sections.proofs.Endings.{NodeThen, node_then}
-use Rattle.theorem_sections.proofs.Endings.NodeThen.{IsTheSame, HasStepped}
 use Rattle.theorem_sections.proofs.Exploring.{some_of}
 use Rattle.theorem_sections.proofs.Givens.{given_to, line_for}
 use Rattle.theorem_sections.proofs.NextDue.{same_or_not, table_here, table_else}
-use Rattle.theorem_sections.proofs.Onward.{Goes, each_move, lawful_on, moved_view, moved_appends, all_view, all_appends}
 use Rattle.theorem_sections.proofs.Positions.{set_here, set_else, pending_reply}
 use Rattle.theorem_sections.proofs.Sectioned.{Runs, moved_runs}
+use Rattle.theorem_client_operations.specs.Completing.{StoreHolds, IsUndisturbed, AllFinish}
+use Rattle.theorem_client_operations.proofs.AtHand.{posts_come, DueAfter, Stage, IsAtHand, HasResult, StillWaiting, result_next, waiting_next, has_when_closed, result_when_heard, all_at}
+use Rattle.theorem_client_operations.proofs.AtHand.DueAfter.{RestsThere, GoesThere}
+use Rattle.theorem_client_operations.proofs.AtHand.Stage.{IsStillOpen}
+use Rattle.theorem_client_operations.proofs.AtHand.IsAtHand.{IsCounted, QuestionDue}
+use Rattle.theorem_client_operations.proofs.Commanding.{at_index, pushed_at, get_below, last_at, either, not_true, goes_moves}
+use Rattle.theorem_client_operations.proofs.Endings.{NodeThen, node_then}
+use Rattle.theorem_client_operations.proofs.Endings.NodeThen.{IsTheSame, HasStepped}
+use Rattle.theorem_client_operations.proofs.Onward.{Goes, each_move, lawful_on, moved_view, moved_appends, all_view, all_appends}
 
 -- LISTS
 
