@@ -15,10 +15,10 @@ use Rattle.script_reading.specs.declared.clients.RunStep.{RunStep}
 use Rattle.script_reading.specs.declared.clients.RunStep.TheVariants as form
 use Rattle.theorem_watching.specs.Watching.{Watching, all_lines, beginning, watch_text, watched_all}
 use Rattle.world_members.specs.declared.world.World.{World}
-use Rattle.world_members.specs.Keeping.{Given, KeepsAt}
-use Rattle.world_members.specs.Places.{keeper_of}
+use Rattle.world_places.specs.Keeping.{Given, KeepsAt}
+use Rattle.world_places.specs.Places.{keeper_of}
 use Rattle.world_members.specs.Steps.{Foretells}
-use Rattle.world_members.proofs.Storing.{not_called_at}
+use Rattle.world_places.proofs.Storing.{not_called_at}
 use Rattle.world_desks.specs.declared.desks.Desks.{Desks}
 use Rattle.world_desks.specs.declared.seats.Seat.{Seat}
 use Rattle.world_desks.specs.Seats.{desk_of}

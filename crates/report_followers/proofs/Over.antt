@@ -25,8 +25,8 @@ use Rattle.theorem_watching.specs.Watching as watching
 use Rattle.theorem_watching.specs.Watching.{Watching, watched_all}
 use Rattle.theorem_watching.proofs.Projecting.{plays_plain_steps}
 use Rattle.world_members.specs.declared.world.World.{World}
-use Rattle.world_members.specs.Keeping.{Given, Keeps, AtEachPlace, AreKept}
-use Rattle.world_members.specs.Places.{keepers_of}
+use Rattle.world_places.specs.Keeping.{Given, Keeps, AtEachPlace, AreKept}
+use Rattle.world_places.specs.Places.{keepers_of}
 use Rattle.world_members.specs.Steps.{HaveAnswered}
 use Rattle.world_members.specs.Ways as ways
 use Rattle.world_desks.specs.declared.desks.Desks.{Desks}

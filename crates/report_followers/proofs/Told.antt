@@ -26,10 +26,10 @@ use Rattle.theorem_watching.specs.declared.followship.Followship.{Followship}
 use Rattle.world_members.specs.declared.event.Event.{Event}
 use Rattle.world_members.specs.declared.world.World.{World}
 use Rattle.world_members.specs.Lines.{IsLine}
-use Rattle.world_members.specs.Places.{keeper_of}
+use Rattle.world_places.specs.Places.{keeper_of}
 use Rattle.world_members.specs.Steps.{Plays}
 use Rattle.world_members.proofs.Onward.{throughout_earlier}
-use Rattle.world_members.proofs.Storing.{not_called_at}
+use Rattle.world_places.proofs.Storing.{not_called_at}
 use Rattle.world_desks.specs.declared.desks.Desks.{Desks}
 use Rattle.world_desks.specs.Watched.{Means, Answers, EndsWithMembers, Tells, subscribes, unsubscribes}
 use Rattle.report_lines.specs.Lines.{event_text}

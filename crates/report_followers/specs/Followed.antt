@@ -12,7 +12,7 @@ use Rattle.member_keeper.specs.declared.keeper.Keeper.{Ghosts as Keeping}
 use Rattle.member_node.specs.Replies.{spelled_groups}
 use Rattle.script_reading.specs.declared.script.Script.{Script}
 use Rattle.theorem_watching.specs.Watching.{watch_report}
-use Rattle.world_members.specs.Keeping.{Given}
+use Rattle.world_places.specs.Keeping.{Given}
 use Rattle.report_lines.specs.Kept.{EndsOver, IsRunOver, IsTheRun, NoneRose, answers_by}
 use Rattle.report_lines.specs.Run.{decl_of, in_order, ending}
 use Rattle.report_followers.specs.Steps.{watch_steps}

@@ -19,9 +19,9 @@ use Rattle.script_reading.specs.declared.clients.RunStep.TheVariants as form
 use Rattle.theorem_watching.specs.Watching.{Watching, after_flush, all_lines, beginning, flushed_by, notices_after, of_running, watch_line_text, watch_text, watched_all}
 use Rattle.world_members.specs.declared.event.Event.{Event}
 use Rattle.world_members.specs.declared.world.World.{World}
-use Rattle.world_members.specs.Keeping.{Given, KeepsAt}
+use Rattle.world_places.specs.Keeping.{Given, KeepsAt}
 use Rattle.world_members.specs.Lines.{IsLine}
-use Rattle.world_members.specs.Places.{keeper_of}
+use Rattle.world_places.specs.Places.{keeper_of}
 use Rattle.world_members.specs.Steps.{Foretells, HaveAnswered, LoadsWhatItTook}
 use Rattle.world_desks.specs.declared.desks.Desks.{Desks}
 use Rattle.world_desks.specs.Watched.{Means}

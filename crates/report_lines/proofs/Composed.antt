@@ -7,7 +7,7 @@ use Rattle.thread_machine.specs.Faults.{RoseBy}
 use Rattle.model_members.specs.Script.{KeeperAnswers, answers_between}
 use Rattle.member_keeper.specs.Calls.{Becomes}
 use Rattle.member_keeper.specs.declared.keeper.Keeper.{Ghosts as Keeping}
-use Rattle.world_members.specs.Keeping.{Keeps, KeepsAt, IsKept}
+use Rattle.world_places.specs.Keeping.{Keeps, KeepsAt, IsKept}
 
 -- KEEPERS
 

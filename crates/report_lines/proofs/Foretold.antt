@@ -3,7 +3,7 @@ use Rattle.std.proofs.Common.{◌≡◌, ℕ, zero, suc, ◌+◌, ◌-◌, ◌<�
 use Rattle.std.specs.List.{range_with_len}
 use Rattle.std.proofs.lemmas.List.{get_or_append_left, get_or-append-add}
 use Rattle.model_members.specs.Script.{KeeperAnswers, answers_between}
-use Rattle.world_members.specs.Keeping.{Given}
+use Rattle.world_places.specs.Keeping.{Given}
 use Rattle.report_lines.specs.Kept.{answers_by}
 
 from_list : (f : ℕ → Bool) (xs : List Bool) (c : ℕ) → ((k : ℕ) → k < length xs → f (c + k) ≡ get_or xs k true) → map f (range_with_len c (length xs)) ≡ xs

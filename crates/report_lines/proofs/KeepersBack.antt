@@ -5,7 +5,7 @@ use Rattle.std.proofs.lemmas.Option.{slice_get_past}
 use Rattle.data_lattice.specs.declared.replica.Replica.{Ghosts}
 use Rattle.member_keeper.specs.declared.keeper.Keeper.{Ghosts as Keeping}
 use Rattle.member_node.specs.declared.node.Node.{Node}
-use Rattle.world_members.specs.Places.{item_at, first_keeper, keeper_of, keepers_of}
+use Rattle.world_places.specs.Places.{item_at, first_keeper, keeper_of, keepers_of}
 
 module _ {T K Kind Op Delta : Type 0} {ghosts : Ghosts T Kind Op Delta} {keeping : Keeping K} where
   -- no keeper is behind the places

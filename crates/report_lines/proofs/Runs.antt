@@ -43,14 +43,14 @@ use Rattle.script_reading.specs.Meant.{step_of}
 use Rattle.script_reading.specs.WellFormed as script_rules
 use Rattle.script_reading.specs.WellFormed.{HasNoClients, IsAllowed, IsRunStep, IsWellFormed}
 use Rattle.world_members.specs.declared.world.World.{World}
-use Rattle.world_members.specs.Places.{item_at, first_keeper, keeper_of, keepers_of}
-use Rattle.world_members.specs.Keeping.{Given, Keeps, KeepsAt, IsKept, AtEachPlace, AreKept, IsNotCleared}
-use Rattle.world_members.specs.Standing.{TellsStore}
+use Rattle.world_places.specs.Places.{item_at, first_keeper, keeper_of, keepers_of}
+use Rattle.world_places.specs.Keeping.{Given, Keeps, KeepsAt, IsKept, AtEachPlace, AreKept, IsNotCleared}
+use Rattle.world_places.specs.Standing.{TellsStore}
 use Rattle.world_members.specs.Steps.{Starts, HaveAnswered}
 use Rattle.world_members.specs.Threads.{run_step_of, GivesBack}
 use Rattle.world_members.specs.Ways.{Means}
-use Rattle.world_members.proofs.StoredNames.{run_stores_declared, any_in}
-use Rattle.world_members.proofs.Storing.{not_called, not_called_at}
+use Rattle.world_places.proofs.StoredNames.{run_stores_declared, any_in}
+use Rattle.world_places.proofs.Storing.{not_called, not_called_at}
 use Rattle.report_lines.specs.declared.playing.Ending.{Ending}
 use Rattle.report_lines.specs.declared.playing.Ending.TheVariants.{Told, NotCleared, Memory}
 use Rattle.report_lines.specs.Finals.{IsBlockOf}

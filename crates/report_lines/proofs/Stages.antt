@@ -29,12 +29,12 @@ use Rattle.script_reading.specs.declared.script.Step.TheVariants as form
 use Rattle.script_reading.specs.Meant.{step_of}
 use Rattle.world_members.specs.declared.event.Event.{Event}
 use Rattle.world_members.specs.declared.world.World.{World}
-use Rattle.world_members.specs.Places.{keeper_of}
-use Rattle.world_members.specs.Keeping.{Given, KeepsAt}
+use Rattle.world_places.specs.Places.{keeper_of}
+use Rattle.world_places.specs.Keeping.{Given, KeepsAt}
 use Rattle.world_members.specs.Steps.{Foretells, HaveAnswered, LoadsWhatItTook, Plays, Reaches}
 use Rattle.world_members.specs.Threads.{run_step_of, GivesBack}
 use Rattle.world_members.specs.Ways.{Means}
-use Rattle.world_members.proofs.Storing.{not_called_at}
+use Rattle.world_places.proofs.Storing.{not_called_at}
 use Rattle.report_lines.specs.Finals.{IsBlockOf}
 use Rattle.report_lines.specs.Lines.{event_text}
 use Rattle.report_lines.specs.Run.{Lines, is_restart, until_restart, BeginsRun}

@@ -19,7 +19,8 @@ use Rattle.report_replies.proofs.Words.{spaced, words_spaced, some_spaced, finis
 use Rattle.script_reading.specs.declared.ask.Ask.{Ask}
 use Rattle.script_reading.specs.declared.ask.Ask.TheVariants as asked
 use Rattle.script_reading.specs.Meant.{ask_of}
-use Rattle.world_members.specs.Lines.{sketched, sketched_post, IsHead, IsAnswer, IsLine}
+use Rattle.world_members.specs.Lines.{IsHead, IsAnswer, IsLine}
+use Rattle.world_places.specs.Sketched.{sketched, sketched_post}
 use Rattle.world_members.specs.declared.event.Answer.{Answer}
 use Rattle.world_members.specs.declared.event.Answer.TheVariants as answer
 use Rattle.world_members.specs.declared.event.Event.{Event}

@@ -6,7 +6,7 @@ use Rattle.base_outside.specs.Causes.{Rose}
 use Rattle.thread_machine.specs.Faults.{RoseBy}
 use Rattle.model_members.specs.Script.{none_fails}
 use Rattle.member_keeper.specs.declared.keeper.Keeper.{Ghosts as Keeping}
-use Rattle.world_members.specs.Keeping.{Given, Keeps, AtEachPlace}
+use Rattle.world_places.specs.Keeping.{Given, Keeps, AtEachPlace}
 use Rattle.report_lines.specs.Kept.{answers_by, NoneRose}
 
 count_by_not-cons : (b : Bool) (bs : List Bool) → count_by not (b ∷ bs) ≡ cond (not b) 1 0 + count_by not bs

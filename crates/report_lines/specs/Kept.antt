@@ -16,8 +16,8 @@ use Rattle.model_kinds.specs.declared.shown.Shown.{Shown}
 use Rattle.data_codec.specs.Stored.{entry_stored}
 use Rattle.member_keeper.specs.Tables.{Table}
 use Rattle.member_keeper.specs.declared.keeper.Keeper.{Ghosts as Keeping}
-use Rattle.world_members.specs.Keeping.{Given, Keeps}
-pub use Rattle.world_members.specs.Keeping.{AtEachPlace, AreKept, IsNotCleared}
+use Rattle.world_places.specs.Keeping.{Given, Keeps}
+pub use Rattle.world_places.specs.Keeping.{AtEachPlace, AreKept, IsNotCleared}
 use Rattle.script_reading.specs.declared.script.Script.{Script}
 use Rattle.script_reading.specs.declared.script.ScriptKey.{ScriptKey}
 use Rattle.script_reading.specs.WellFormed.{HasNoClients}

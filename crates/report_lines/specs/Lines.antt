@@ -18,7 +18,7 @@ use Rattle.world_members.specs.declared.event.Answer.TheVariants as answer
 use Rattle.world_members.specs.declared.event.Event.{Event}
 use Rattle.world_members.specs.declared.event.Head.{Head}
 use Rattle.world_members.specs.declared.event.Head.TheVariants as head
-use Rattle.world_members.specs.declared.event.SentTo.{SentTo}
+use Rattle.world_places.specs.declared.sent.SentTo.{SentTo}
 
 abbrev pub kind_text : MessageKind → ℕ → ℕ → Text
 kind_text Deltas first second = slashed (codes "deltas") (first ∷ second ∷ [])

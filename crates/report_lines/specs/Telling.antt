@@ -28,8 +28,8 @@ use Rattle.script_reading.specs.declared.script.ScriptKey.{ScriptKey}
 use Rattle.world_members.specs.declared.client_line.ClientLine.{ClientLine}
 use Rattle.world_members.specs.declared.event.Event.{Event}
 use Rattle.world_members.specs.declared.world.World.{World}
-use Rattle.world_members.specs.Places.{keeper_of}
-use Rattle.world_members.specs.Keeping.{Given, KeepsAt, IsKept}
+use Rattle.world_places.specs.Places.{keeper_of}
+use Rattle.world_places.specs.Keeping.{Given, KeepsAt, IsKept}
 use Rattle.world_members.specs.Steps.{Foretells, HaveAnswered, Plays, Starts}
 use Rattle.world_members.specs.Threads.{run_step_of, PlaysSection}
 use Rattle.world_members.specs.Ways.{Means}

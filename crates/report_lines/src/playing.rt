@@ -2,7 +2,7 @@ ghost use Rattle.std.specs.Prelude.{◌≡◌, ◌≢◌, ◌≤◌, [], length,
 ghost use Rattle.script_reading.specs.declared.clients.Clients.{Clients};
 ghost use Rattle.script_reading.specs.declared.clients.RunStep.TheVariants as form;
 ghost use Rattle.script_reading.specs.WellFormed.{HasNoClients, IsAllowed, IsStep, IsRunStep, IsWellFormed};
-ghost use Rattle.world_members.specs.Places.{keepers_of};
+ghost use Rattle.world_places.specs.Places.{keepers_of};
 ghost use Rattle.report_lines.specs.Kept.{IsPlayed, IsUnplayed, IsReportOver, IsSummaryOver};
 ghost use Rattle.report_lines.specs.Telling.{AreAllKept, Opens, TellsStep, TellsSteps, PassesSteps, AddsBlock, EndsWithBlock};
 

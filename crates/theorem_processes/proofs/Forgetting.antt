@@ -35,7 +35,7 @@ use Rattle.member_node.specs.Members.{StandsForNode}
 use Rattle.member_node.specs.Replies.{meant_fate}
 use Rattle.member_node.specs.Steps.{IsImage, KeepsTable, StandsForOutput}
 use Rattle.world_members.proofs.Answering.{names_apart, all_fine}
-use Rattle.world_members.proofs.Storing.{NamesApart, IsFine}
+use Rattle.world_places.proofs.Storing.{NamesApart, IsFine}
 use Rattle.theorem_declaring.specs.Parts.{knows, with_keys, stepped_with, IsPart, UsesOnly, SpeaksOf, StoresNoOthers}
 use Rattle.theorem_declaring.proofs.Growing.{grown}
 use Rattle.theorem_declaring.proofs.Loading.{new_uses, new_alike}

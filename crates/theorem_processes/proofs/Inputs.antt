@@ -40,7 +40,7 @@ use Rattle.member_node.specs.Operations.{finished_meant}
 use Rattle.member_node.specs.Replies.{meant_fate}
 use Rattle.member_node.specs.Steps.{StandsForOutput}
 use Rattle.world_members.specs.Entering.{IsGivenFrom}
-use Rattle.world_members.proofs.Lists.{zip_at, pair_some, pair_both}
+use Rattle.world_places.proofs.Lists.{zip_at, pair_some, pair_both}
 use Rattle.theorem_declaring.specs.Parts.{knows, with_keys, SpeaksOf, IsForAnother}
 use Rattle.theorem_declaring.proofs.Stores.{speaks_of_part, unknown_command, nothing_instead}
 use Rattle.theorem_processes.specs.Declaring.{declared_keys, known_to, is_unknown}

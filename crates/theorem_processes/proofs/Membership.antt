@@ -36,10 +36,10 @@ use Rattle.member_node.specs.Limits.{IsLimited}
 use Rattle.member_node.specs.Members.{StandsForNode}
 use Rattle.member_node.specs.Steps.{IsUnchanged}
 use Rattle.member_node.specs.Stores.{SpellsStore}
-use Rattle.world_members.specs.Standing.{TellsStore}
-use Rattle.world_members.proofs.Lists.{at_each}
+use Rattle.world_places.specs.Standing.{TellsStore}
+use Rattle.world_places.proofs.Lists.{at_each}
 use Rattle.world_members.proofs.Standings.{last_is, still_stands}
-use Rattle.world_members.proofs.Storing.{spells_nothing, store_stays}
+use Rattle.world_places.proofs.Storing.{spells_nothing, store_stays}
 use Rattle.theorem_processes.specs.Declaring.{declared_keys, HasDeclared}
 use Rattle.theorem_processes.specs.Forgetting.{HasForgotten, StandsInPart, StandsForProcess}
 use Rattle.theorem_processes.specs.Processes.{Processes, IsMade, IsMaybeLimited, IsBack, with_view, with_member, happened, next_identity, now_of}

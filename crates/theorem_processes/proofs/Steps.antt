@@ -35,11 +35,11 @@ use Rattle.member_node.specs.Limits.{highest_limit}
 use Rattle.member_node.specs.Members.{IsSafe, StandsForMessage, StandsForPosts}
 use Rattle.member_node.specs.Replies.{meant_fate}
 use Rattle.member_node.proofs.Fates.{entries_same}
-use Rattle.world_members.specs.Sending.{messages_to}
-use Rattle.world_members.specs.Standing.{TellsStore}
-use Rattle.world_members.proofs.Linking.{sent_to, posts_here, posts_elsewhere, messages_stand}
-use Rattle.world_members.proofs.Lists.{zip_append}
-use Rattle.world_members.proofs.Storing.{store_stands}
+use Rattle.world_places.specs.Sending.{messages_to}
+use Rattle.world_places.specs.Standing.{TellsStore}
+use Rattle.world_places.proofs.Linking.{sent_to, posts_here, posts_elsewhere, messages_stand}
+use Rattle.world_places.proofs.Lists.{zip_append}
+use Rattle.world_places.proofs.Storing.{store_stands}
 use Rattle.theorem_declaring.specs.Parts.{with_keys, SpeaksOf}
 use Rattle.theorem_processes.specs.Declaring.{declared_keys}
 use Rattle.theorem_processes.specs.Forgetting.{StandsInPart, StandsForProcess}

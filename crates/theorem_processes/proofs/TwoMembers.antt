@@ -14,7 +14,7 @@ use Rattle.member_node.specs.declared.key.KeyDecl.{KeyDecl}
 use Rattle.member_node.specs.declared.node.Node.{Node}
 use Rattle.member_node.specs.declared.input.Input.TheVariants as input
 use Rattle.member_quorum.specs.declared.level.Level.TheVariants.{All}
-use Rattle.world_members.specs.Sending.{messages_to}
+use Rattle.world_places.specs.Sending.{messages_to}
 use Rattle.theorem_processes.specs.Declaring.{HasDeclared}
 use Rattle.theorem_processes.specs.Forgetting.{HasForgotten}
 use Rattle.theorem_processes.specs.Processes.{IsMade, Begin}

@@ -34,8 +34,8 @@ use Rattle.member_node.specs.declared.node.Node.{Node}
 use Rattle.member_node.specs.Keys.{AreOfKinds, declared}
 use Rattle.member_node.specs.Members.{StandsForMessage}
 use Rattle.member_node.specs.Stores.{SpellsStore}
-use Rattle.world_members.specs.Standing.{TellsStore}
-use Rattle.world_members.proofs.Storing.{spells_nothing}
+use Rattle.world_places.specs.Standing.{TellsStore}
+use Rattle.world_places.proofs.Storing.{spells_nothing}
 use Rattle.theorem_processes.specs.Forgetting.{StandsForProcess}
 use Rattle.theorem_processes.specs.Processes.{Processes, Happening, Begin, IsSpelledBy, MayHappen, AllHappen, happened, after_all}
 use Rattle.theorem_processes.specs.Processes.Happening.{Steps, Takes, Refuses, Forgets, Limits, Declares, Leaves, Joins, Returns}

@@ -28,7 +28,7 @@ use Rattle.member_node.specs.Loading.{AreSound}
 use Rattle.member_node.specs.Members.{IsNewMember}
 use Rattle.member_node.specs.Steps.{IsStepOf, IsUnchanged}
 use Rattle.world_members.specs.Entering.{IsGivenFrom}
-use Rattle.world_members.specs.Sending.{messages_to}
+use Rattle.world_places.specs.Sending.{messages_to}
 use Rattle.theorem_processes.specs.Declaring.{ArePart, HasDeclared}
 use Rattle.theorem_processes.specs.Forgetting.{HasForgotten}
 

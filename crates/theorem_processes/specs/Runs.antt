@@ -40,7 +40,7 @@ use Rattle.member_node.specs.Members.{StandsForMessage, StandsForEntry}
 use Rattle.member_node.specs.Operations.{finished_meant}
 use Rattle.member_node.specs.Replies.{meant, meant_fate}
 use Rattle.member_node.specs.Steps.{replication}
-use Rattle.world_members.specs.Standing.{TellsStore}
+use Rattle.world_places.specs.Standing.{TellsStore}
 use Rattle.theorem_processes.specs.Declaring.{known_to, is_unknown}
 use Rattle.theorem_processes.specs.Forgetting.{StandsForProcess}
 use Rattle.theorem_processes.specs.Keys.{is_whole}

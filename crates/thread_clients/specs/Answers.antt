@@ -19,7 +19,7 @@ use Rattle.world_members.specs.declared.client_line.Ended.{Ended}
 use Rattle.world_members.specs.declared.event.Answer.{Answer}
 use Rattle.world_members.specs.declared.event.Answer.TheVariants as answer
 use Rattle.world_members.specs.declared.event.Head.TheVariants.{Asked}
-use Rattle.world_members.specs.Sending.{told_of}
+use Rattle.world_places.specs.Sending.{told_of}
 use Rattle.thread_cluster.specs.Knowing.{Sees, IsNowhere}
 use Rattle.thread_cluster.specs.declared.error.CallError.{CallError}
 use Rattle.thread_cluster.specs.declared.error.CallError.TheVariants as call

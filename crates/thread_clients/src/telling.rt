@@ -1,5 +1,5 @@
 ghost use Rattle.std.specs.Prelude.{◌≡◌, map, IfOk};
-ghost use Rattle.world_members.specs.Sending.{told_of};
+ghost use Rattle.world_places.specs.Sending.{told_of};
 ghost use Rattle.thread_clients.specs.Commands.{has_turn};
 
 use base_bytes::{Items, Memory};

@@ -35,8 +35,8 @@ use Rattle.member_node.specs.declared.reply.Fate.{Fate}
 use Rattle.member_node.specs.declared.reply.Output.{Output}
 use Rattle.member_node.specs.declared.reply.StepError.{StepError}
 use Rattle.world_members.specs.declared.world.World.{World}
-use Rattle.world_members.specs.Places.{item_at, identity_at}
-use Rattle.world_members.specs.Sending.{messages_to}
+use Rattle.world_places.specs.Places.{item_at, identity_at}
+use Rattle.world_places.specs.Sending.{messages_to}
 use Rattle.thread_run_order.specs.Images.{EntryOf}
 use Rattle.thread_run_order.specs.Section.{takes_of, IsGiven, posts_to, takes_from, AreHeard, IsSection}
 

@@ -18,9 +18,9 @@ use Rattle.member_node.specs.declared.input.Input.{Input}
 use Rattle.member_node.specs.declared.input.Input.TheVariants as form
 use Rattle.member_views.specs.Sound.{IsView}
 use Rattle.member_views.proofs.Others.{pairs_head, pairs_tail}
-use Rattle.world_members.specs.Channels.{Channel, Channels, channel_at, extended, due_from, next_on, count_on, ChangesOne}
-use Rattle.world_members.specs.Places.{seat_of}
-use Rattle.world_members.specs.Sending.{messages_to, Sends}
+use Rattle.world_places.specs.Channels.{Channel, Channels, channel_at, extended, due_from, next_on, count_on, ChangesOne}
+use Rattle.world_places.specs.Places.{seat_of}
+use Rattle.world_places.specs.Sending.{messages_to, Sends}
 use Rattle.thread_run_order.specs.Images.{EntryOf}
 use Rattle.thread_run_order.specs.Section.{takes_of, sent_to, taken_from, history_of, TakesNothing}
 use Rattle.thread_run_order.specs.Finishing.{after_taken, is_id, IsSent, AreSentByAll, ArePassedTo, ArePassed}

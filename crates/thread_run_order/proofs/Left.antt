@@ -21,10 +21,10 @@ use Rattle.member_node.specs.declared.reply.Output.{Output}
 use Rattle.member_node.specs.declared.reply.StepError.{StepError}
 use Rattle.world_members.specs.declared.parts.Parts.{Parts}
 use Rattle.world_members.specs.declared.world.World.{World}
-use Rattle.world_members.specs.Channels.{Channel, Channels, channel_at, extended}
-use Rattle.world_members.specs.Parts.{ArePlaced}
-use Rattle.world_members.specs.Places.{item_at, identity_at, seat_of, keepers_of}
-use Rattle.world_members.proofs.Seats.{no_seat, identity_seated, few_places}
+use Rattle.world_places.specs.Channels.{Channel, Channels, channel_at, extended}
+use Rattle.world_places.specs.Parts.{ArePlaced}
+use Rattle.world_places.specs.Places.{item_at, identity_at, seat_of, keepers_of}
+use Rattle.world_places.proofs.Seats.{no_seat, identity_seated, few_places}
 use Rattle.thread_run_order.specs.Images.{EntryOf}
 use Rattle.thread_run_order.specs.Section.{takes_of, IsGiven, sent_to, taken_from, history_of, after_section}
 use Rattle.thread_run_order.specs.Finishing.{after_taken, AreSentByAll, ArePassed, IsLeftOf, members_in}

@@ -4,7 +4,7 @@ use Rattle.std.specs.Prelude.{◌==◌, if◌then◌else◌, slice_get, option_m
 use Rattle.std.proofs.lemmas.Bool.Decides.{eqb_tells}
 use Rattle.std.proofs.lemmas.Bool.{eq-eqb}
 use Rattle.std.proofs.lemmas.List.{append-nil}
-use Rattle.world_members.specs.Channels.{Channel, Channels, channel_at, passed, extended}
+use Rattle.world_places.specs.Channels.{Channel, Channels, channel_at, passed, extended}
 
 abbrev pub map_from : {X Y : Type 0} → (ℕ → X → Y) → ℕ → List X → List Y
 map_from f n [] = []

@@ -9,8 +9,8 @@ use Rattle.model_members.specs.View.{View, Member, is_member, place_of}
 use Rattle.member_views.specs.Sound.{IsView}
 use Rattle.member_views.proofs.Others.{All-find, pairs_head, pairs_tail}
 use Rattle.model_history.specs.Table.{identity_limit}
-use Rattle.world_members.specs.Places.{identity_at, seat_of}
-use Rattle.world_members.proofs.Seats.{with_identity, with_place, few_places, place_seated}
+use Rattle.world_places.specs.Places.{identity_at, seat_of}
+use Rattle.world_places.proofs.Seats.{with_identity, with_place, few_places, place_seated}
 
 -- the member found by its place is found by its identity
 found_by_place : (k : ℕ) (ms : List Member) (m : Member) → AllPairs (λ (a b : Member). a.identity < b.identity) ms → with_place k ms ≡ Some m → with_identity m.identity ms ≡ Some m

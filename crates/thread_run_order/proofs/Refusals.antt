@@ -20,9 +20,9 @@ use Rattle.member_node.specs.declared.reply.Output.{Output}
 use Rattle.member_node.specs.declared.reply.StepError.{StepError}
 use Rattle.member_node.specs.Steps.{IsUnchanged}
 use Rattle.world_members.specs.declared.world.World.{World}
-use Rattle.world_members.specs.Places.{item_at, identity_at, seat_of}
+use Rattle.world_places.specs.Places.{item_at, identity_at, seat_of}
 use Rattle.world_members.specs.Ways.{Means}
-use Rattle.world_members.proofs.Seats.{item-set_same, item-set_other}
+use Rattle.world_places.proofs.Seats.{item-set_same, item-set_other}
 use Rattle.world_members.proofs.Entering.{refused_world, refused_means, same_id, same_limit, changes_with, links_with}
 use Rattle.thread_run_order.specs.Images.{EntryOf}
 use Rattle.thread_run_order.proofs.Forward.{Goes}

@@ -45,14 +45,15 @@ use Rattle.member_node.specs.Members.{AreOfKinds, declared}
 use Rattle.member_node.specs.Replies.{meant_fate}
 use Rattle.member_node.specs.Steps.{replication, IsStepOf, IsUnchanged}
 use Rattle.world_members.specs.declared.world.World.{World}
-use Rattle.world_members.specs.Channels.{Channel, channel_at, count_on, next_on}
-use Rattle.world_members.specs.Places.{item_at, identity_at, seat_of, member_of, keeper_of, first_keeper}
-use Rattle.world_members.specs.Sending.{messages_to}
-use Rattle.world_members.specs.Standing.{StandsForLink, StandsForRunning, StandsForWorld, TellsStore}
+use Rattle.world_places.specs.Channels.{Channel, channel_at, count_on, next_on}
+use Rattle.world_places.specs.Places.{item_at, identity_at, seat_of, member_of, keeper_of, first_keeper}
+use Rattle.world_places.specs.Sending.{messages_to}
+use Rattle.world_members.specs.Standing.{StandsForWorld}
+use Rattle.world_places.specs.Standing.{StandsForLink, StandsForRunning, TellsStore}
 use Rattle.world_members.specs.Ways.{Throughout, Means}
-use Rattle.world_members.proofs.Seats.{some_seat, identity_seated}
+use Rattle.world_places.proofs.Seats.{some_seat, identity_seated}
 use Rattle.world_members.proofs.Entering.{item_within}
-use Rattle.world_members.proofs.Linking.{link_next, link_count}
+use Rattle.world_places.proofs.Linking.{link_next, link_count}
 use Rattle.world_members.proofs.Onward.{way_logs, throughout_same, stands_before}
 use Rattle.world_members.proofs.Standings.{present_runs, last_is}
 use Rattle.thread_run_order.specs.Orders.{AtPlace, entries_of, ComesBefore, AreSorted, IsRunOrder}

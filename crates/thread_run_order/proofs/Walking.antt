@@ -51,18 +51,18 @@ use Rattle.member_node.specs.Members.{StandsForMessage, IsSafe}
 use Rattle.member_node.specs.Replies.{meant_fate}
 use Rattle.member_node.specs.Steps.{replication, IsStepOf, IsUnchanged}
 use Rattle.world_members.specs.declared.world.World.{World}
-use Rattle.world_members.specs.Channels.{Channel, channel_at, message_on, passed, extended}
+use Rattle.world_places.specs.Channels.{Channel, channel_at, message_on, passed, extended}
 use Rattle.world_members.specs.Entering.{IsGivenFrom}
 use Rattle.world_members.specs.Giving.{ChangesAt}
-use Rattle.world_members.specs.Lines.{sketched, sketched_post}
-use Rattle.world_members.specs.Places.{item_at, identity_at, seat_of}
-use Rattle.world_members.specs.Sending.{messages_to, told_of}
+use Rattle.world_places.specs.Sketched.{sketched, sketched_post}
+use Rattle.world_places.specs.Places.{item_at, identity_at, seat_of}
+use Rattle.world_places.specs.Sending.{messages_to, told_of}
 use Rattle.world_members.specs.Ways.{Throughout, Means}
 use Rattle.world_members.proofs.Entering.{with_member, changes_with, links_with, IsEntered, meant_input, input_means, input_enters, meant_message, message_there, message_sketch, take_enters}
-use Rattle.world_members.proofs.Seats.{item-set_same, item-set_other}
-use Rattle.world_members.proofs.Linking.{link_message}
+use Rattle.world_places.proofs.Seats.{item-set_same, item-set_other}
+use Rattle.world_places.proofs.Linking.{link_message}
 use Rattle.world_members.proofs.Onward.{means_same, way_logs, throughout_earlier, throughout_same, safe_now}
-use Rattle.world_members.proofs.Lists.{pair_both}
+use Rattle.world_places.proofs.Lists.{pair_both}
 use Rattle.thread_run_order.specs.Orders.{AtPlace, entries_of, AreSorted}
 use Rattle.thread_run_order.specs.Images.{EntryOf, IsMeantBy, IsImage, AreImages}
 use Rattle.thread_run_order.specs.Section.{takes_of, IsGiven}
@@ -130,7 +130,7 @@ module _ {T Kind Delta : Type 0} {ghosts : Ghosts T Kind Op Delta} where
   as_many (post ∷ posts) [] e j = absurd (cc e)
   as_many (post ∷ posts) (s ∷ sents) e j =
       let first : told_of post ≡ sketched_post s = cc e in
-      let to : post.to ≡ s.to = ap (λ (t : Rattle.world_members.specs.declared.event.SentTo.SentTo). t.to) first in
+      let to : post.to ≡ s.to = ap (λ (t : Rattle.world_places.specs.declared.sent.SentTo.SentTo). t.to) first in
       let rest = as_many posts sents (cc e) j in
       go (post.to == j) (s.to == j) (ap (λ n. n == j) to) rest
     where

@@ -13,7 +13,7 @@ use Rattle.theorem_sections.specs.Histories.{Entry, Placed, Passed, posted_to, e
 use Rattle.theorem_sections.specs.Queues.{sent, stamped}
 use Rattle.theorem_sections.proofs.NextDue.{same_or_not, table_here, table_else}
 use Rattle.theorem_sections.proofs.RunOrder.{is_same, is_other, entries_here, entries_else, posts_of, posts_are_sent, messages_on, posts_messages, moved_messages}
-use Rattle.world_members.specs.Channels.{Channel, message_on, passed, extended}
+use Rattle.world_places.specs.Channels.{Channel, message_on, passed, extended}
 
 drop_first : {Y : Type 0} (d : ℕ) (xs : List Y) (y : Y) (ys : List Y) → drop d xs ≡ y ∷ ys → slice_get xs d ≡ Some y
 drop_first zero [] y ys e = absurd (cc e)

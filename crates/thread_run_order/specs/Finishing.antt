@@ -14,7 +14,7 @@ use Rattle.member_messages.specs.declared.message.Message.{Message}
 use Rattle.member_node.specs.declared.node.Node.{Node}
 use Rattle.world_members.specs.declared.world.World.{World}
 use Rattle.world_members.specs.declared.parts.Parts.{Parts}
-use Rattle.world_members.specs.Channels.{Channel, Channels, channel_at, extended}
+use Rattle.world_places.specs.Channels.{Channel, Channels, channel_at, extended}
 use Rattle.thread_run_order.specs.Images.{EntryOf}
 use Rattle.thread_run_order.specs.Section.{sent_to, taken_from, history_of, IsLeft}
 

@@ -22,8 +22,8 @@ use Rattle.member_node.specs.declared.reply.Output.{Output}
 use Rattle.member_node.specs.declared.reply.StepError.{StepError}
 use Rattle.member_node.specs.Operations.{finished_meant}
 use Rattle.member_node.specs.Replies.{meant, meant_fate}
-use Rattle.world_members.specs.Lines.{sketched, sketched_post}
-use Rattle.world_members.specs.Sending.{told_of}
+use Rattle.world_places.specs.Sketched.{sketched, sketched_post}
+use Rattle.world_places.specs.Sending.{told_of}
 use Rattle.thread_run_order.specs.Orders.{AtPlace}
 
 abbrev pub EntryOf : {T K Kind Delta : Type 0} → Ghosts T Kind Op Delta → Keeping K → Type 0

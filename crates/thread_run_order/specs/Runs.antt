@@ -31,7 +31,7 @@ use Rattle.member_node.specs.Members.{StandsForNode}
 use Rattle.member_node.specs.Replies.{meant_fate}
 use Rattle.member_node.specs.Steps.{replication}
 use Rattle.world_members.specs.declared.world.World.{World}
-use Rattle.world_members.specs.Places.{item_at, identity_at}
+use Rattle.world_places.specs.Places.{item_at, identity_at}
 use Rattle.world_members.specs.Ways.{Throughout, Means}
 use Rattle.thread_run_order.specs.Orders.{AtPlace, IsRunOrder}
 use Rattle.thread_run_order.specs.Images.{EntryOf, AreImages}

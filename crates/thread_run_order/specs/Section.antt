@@ -21,9 +21,9 @@ use Rattle.member_node.specs.declared.reply.Fate.{Fate}
 use Rattle.member_node.specs.declared.reply.Output.{Output}
 use Rattle.member_node.specs.declared.reply.StepError.{StepError}
 use Rattle.world_members.specs.declared.world.World.{World}
-use Rattle.world_members.specs.Channels.{Channel, channel_at}
-use Rattle.world_members.specs.Places.{item_at, identity_at, seat_of}
-use Rattle.world_members.specs.Sending.{messages_to}
+use Rattle.world_places.specs.Channels.{Channel, channel_at}
+use Rattle.world_places.specs.Places.{item_at, identity_at, seat_of}
+use Rattle.world_places.specs.Sending.{messages_to}
 use Rattle.thread_run_order.specs.Images.{EntryOf}
 
 module _ {T Kind Delta : Type 0} {ghosts : Ghosts T Kind Op Delta} where

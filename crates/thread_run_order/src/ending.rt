@@ -6,8 +6,8 @@ ghost use Rattle.model_kinds.specs.declared.operation.Op as operation;
 ghost use Rattle.member_views.specs.Sound.{last_view};
 ghost use Rattle.member_node.specs.Members.{AreDistinct};
 ghost use Rattle.world_members.specs.declared.world.World as worlds;
-ghost use Rattle.world_members.specs.Parts.{ArePlaced};
-ghost use Rattle.world_members.specs.Places.{keepers_of};
+ghost use Rattle.world_places.specs.Parts.{ArePlaced};
+ghost use Rattle.world_places.specs.Places.{keepers_of};
 ghost use Rattle.thread_run_order.specs.Section.{IsGiven, IsLeft};
 ghost use Rattle.thread_run_order.specs.Finishing.{AreBrought, IsLeftOf, members_in};
 

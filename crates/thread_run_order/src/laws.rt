@@ -6,7 +6,7 @@ ghost use Rattle.thread_cell.specs.Closings.{AreReplayed, CellsKnew};
 ghost use Rattle.thread_cell.specs.Entries.{history_at};
 ghost use Rattle.thread_cluster.specs.Opening.{AreWholeCells, AllHear};
 ghost use Rattle.member_views.specs.Sound.{last_view};
-ghost use Rattle.world_members.specs.Places.{item_at, identity_at};
+ghost use Rattle.world_places.specs.Places.{item_at, identity_at};
 ghost use Rattle.thread_run_order.specs.Orders.{HaveRunOrder};
 ghost use Rattle.thread_run_order.specs.Section.{IsGiven, IsSection};
 ghost use Rattle.thread_run_order.specs.Runs.{SectionsAreOneRun};

@@ -1,6 +1,6 @@
 ghost use Rattle.std.specs.Prelude.{◌≡◌, ◌≤◌, ◌<◌, ◌^◌, true, false, All, length, OnOk};
 ghost use Rattle.thread_cell.specs.Entries.{history_at};
-ghost use Rattle.world_members.specs.Channels.{ChangesOne};
+ghost use Rattle.world_places.specs.Channels.{ChangesOne};
 ghost use Rattle.thread_run_order.specs.Section.{takes_of, taken_from, TakesNothing};
 ghost use Rattle.thread_run_order.specs.Finishing.{after_taken, ArePassedTo, ArePassed};
 

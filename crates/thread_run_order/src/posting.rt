@@ -1,7 +1,7 @@
 ghost use Rattle.std.specs.Prelude.{◌≡◌, Some, OnOk, option_map};
 ghost use Rattle.thread_machine.specs.Machines.{machine_at};
 ghost use Rattle.thread_cell.specs.Entries.{history_at};
-ghost use Rattle.world_members.specs.Sending.{Sends};
+ghost use Rattle.world_places.specs.Sending.{Sends};
 ghost use Rattle.thread_run_order.specs.Finishing.{IsSent, AreSentByAll};
 
 use base_bytes::Memory;

@@ -34,9 +34,9 @@ use Rattle.script_reading.specs.declared.clients.Repeated.{Repeated}
 use Rattle.member_views.specs.Sound.{IsView, AreViews, last_view}
 use Rattle.world_members.specs.declared.client_line.ClientLine.{ClientLine}
 use Rattle.world_members.specs.declared.world.World.{World}
-use Rattle.world_members.specs.Places.{item_at, identity_at}
+use Rattle.world_places.specs.Places.{item_at, identity_at}
 use Rattle.world_members.specs.Threads.{PlaysSection}
-use Rattle.world_members.proofs.Seats.{last_sound}
+use Rattle.world_places.proofs.Seats.{last_sound}
 use Rattle.thread_run_order.specs.Images.{EntryOf}
 use Rattle.thread_run_order.specs.Runs.{answers_in}
 use Rattle.thread_run_order.specs.Section.{IsGiven, IsSection, IsLeft}

@@ -38,13 +38,13 @@ use Rattle.member_views.specs.Sound.{AreViews, last_view}
 use Rattle.world_members.specs.declared.client_line.ClientLine.{ClientLine}
 use Rattle.world_members.specs.declared.client_line.Section.{Section}
 use Rattle.world_members.specs.declared.world.World.{World}
-use Rattle.world_members.specs.Keeping.{IsKept}
-use Rattle.world_members.specs.Parts.{ArePlaced}
-use Rattle.world_members.specs.Places.{item_at, identity_at, keeper_of, first_keeper}
+use Rattle.world_places.specs.Keeping.{IsKept}
+use Rattle.world_places.specs.Parts.{ArePlaced}
+use Rattle.world_places.specs.Places.{item_at, identity_at, keeper_of, first_keeper}
 use Rattle.world_members.specs.Threads.{GivesBack}
-use Rattle.world_members.proofs.Seats.{last_sound}
-use Rattle.world_members.proofs.Lists.{slice_get-last, slice_get-first}
-use Rattle.world_members.proofs.Storing.{kept_same}
+use Rattle.world_places.proofs.Seats.{last_sound}
+use Rattle.world_places.proofs.Lists.{slice_get-last, slice_get-first}
+use Rattle.world_places.proofs.Storing.{kept_same}
 use Rattle.thread_run_order.proofs.Places.{ids_apart, none_past}
 use Rattle.thread_clients.specs.declared.clients.Played.{Played}
 use Rattle.thread_clients.specs.Playing.{IsBack, AreBack, AreAllPlayed}

@@ -52,7 +52,7 @@ use Rattle.world_members.specs.declared.event.Answer.{Answer}
 use Rattle.world_members.specs.declared.event.Answer.TheVariants as answer
 use Rattle.world_members.specs.ClientLines.{ending_meant}
 use Rattle.world_members.specs.Threads.{command_of}
-use Rattle.world_members.proofs.Lists.{IsPair, both, neither, pair_both, pair_some}
+use Rattle.world_places.proofs.Lists.{IsPair, both, neither, pair_both, pair_some}
 use Rattle.world_members.specs.Asking.{input_of}
 use Rattle.thread_cluster.specs.Knowing.{IsReceipt}
 use Rattle.thread_cluster.proofs.Lists.{get_within}

@@ -16,9 +16,9 @@ use Rattle.member_messages.specs.declared.message.Post.{Post}
 use Rattle.member_node.specs.declared.input.Input.{Input}
 use Rattle.member_node.specs.declared.input.Input.TheVariants as form
 use Rattle.member_node.specs.declared.reply.Output.{Output}
-use Rattle.world_members.specs.declared.event.SentTo.{SentTo}
-use Rattle.world_members.specs.Lines.{sketched_post}
-use Rattle.world_members.specs.Sending.{told_of}
+use Rattle.world_places.specs.declared.sent.SentTo.{SentTo}
+use Rattle.world_places.specs.Sketched.{sketched_post}
+use Rattle.world_places.specs.Sending.{told_of}
 use Rattle.thread_cluster.specs.Messages.{messages_to, messages_of}
 use Rattle.thread_cluster.specs.Passing.{stamped, posts, takes}
 use Rattle.thread_cluster.proofs.Posts.{length-stamped}

@@ -30,7 +30,7 @@ use Rattle.member_node.specs.declared.reply.Output.{Output}
 use Rattle.member_node.specs.declared.reply.StepError.{StepError}
 use Rattle.script_reading.specs.declared.clients.Repeated.{Repeated}
 use Rattle.world_members.specs.declared.client_line.ClientLine.{ClientLine}
-use Rattle.world_members.specs.Places.{identity_at}
+use Rattle.world_places.specs.Places.{identity_at}
 use Rattle.thread_run_order.specs.Images.{EntryOf}
 use Rattle.thread_run_order.specs.Section.{IsGiven}
 use Rattle.thread_clients.specs.Commands as given

@@ -36,8 +36,8 @@ use Rattle.world_members.specs.declared.client_line.ClientLine.{ClientLine}
 use Rattle.world_members.specs.declared.client_line.Section.{Section}
 use Rattle.world_members.specs.declared.parts.EmptySeats.{EmptySeats}
 use Rattle.world_members.specs.declared.parts.Parts.{Parts}
-use Rattle.world_members.specs.Parts.{ArePlaced}
-use Rattle.world_members.specs.Places.{item_at, identity_at, keepers_of, first_keeper}
+use Rattle.world_places.specs.Parts.{ArePlaced}
+use Rattle.world_places.specs.Places.{item_at, identity_at, keepers_of, first_keeper}
 use Rattle.world_members.specs.Threads.{PlaysSection}
 use Rattle.thread_run_order.specs.Finishing.{members_in, IsLeftOf}
 use Rattle.thread_run_order.specs.Images.{EntryOf}

@@ -30,7 +30,7 @@ use Rattle.world_members.specs.declared.client_line.ClientLine.{ClientLine}
 use Rattle.world_members.specs.declared.client_line.Ended.{Ended}
 use Rattle.world_members.specs.declared.event.Answer.{Answer}
 use Rattle.world_members.specs.declared.event.Answer.TheVariants as answer
-use Rattle.world_members.specs.Places.{identity_at}
+use Rattle.world_places.specs.Places.{identity_at}
 use Rattle.world_members.specs.Asking.{input_of}
 use Rattle.thread_cluster.specs.Messages.{messages_of}
 use Rattle.thread_cluster.specs.Knowing.{GoesOn, Sees, Turns, IsReceipt}

@@ -21,11 +21,11 @@ use Rattle.member_node.specs.declared.reply.StepError.{StepError}
 use Rattle.member_node.specs.Replies.{meant_fate}
 use Rattle.member_node.specs.Steps.{IsStepOf, IsUnchanged}
 use Rattle.world_members.specs.declared.world.World.{World}
-use Rattle.world_members.specs.Keeping.{Keeps, KeepsAt}
-use Rattle.world_members.specs.Places.{item_at, keeper_of, first_keeper}
+use Rattle.world_places.specs.Keeping.{Keeps, KeepsAt}
+use Rattle.world_places.specs.Places.{item_at, keeper_of, first_keeper}
 use Rattle.world_members.proofs.Answering.{tells_keeps, called_keeps, answers_of}
 use Rattle.world_members.proofs.Sequences.{kept_then}
-use Rattle.world_members.proofs.Storing.{not_called}
+use Rattle.world_places.proofs.Storing.{not_called}
 use Rattle.world_members.proofs.Entering.{item_within}
 use Rattle.thread_run_order.specs.Images.{EntryOf}
 use Rattle.thread_run_order.specs.Section.{IsSection, IsLeft}

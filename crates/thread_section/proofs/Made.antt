@@ -37,8 +37,9 @@ use Rattle.world_members.specs.declared.client_line.Ended.{Ended}
 use Rattle.world_members.specs.declared.event.Answer.{Answer}
 use Rattle.world_members.specs.declared.event.Answer.TheVariants as answer
 use Rattle.world_members.specs.ClientLines.{ending_meant, IsClientLine}
-use Rattle.world_members.specs.Lines.{IsHead, IsAnswer, sketched_post}
-use Rattle.world_members.specs.Sending.{told_of}
+use Rattle.world_members.specs.Lines.{IsHead, IsAnswer}
+use Rattle.world_places.specs.Sketched.{sketched_post}
+use Rattle.world_places.specs.Sending.{told_of}
 use Rattle.world_members.specs.Threads.{command_of}
 use Rattle.world_members.proofs.Asking.{asked_some, asked_none}
 use Rattle.thread_cluster.specs.Knowing.{GoesOn, IsNowhere}

@@ -37,7 +37,7 @@ use Rattle.script_reading.specs.declared.clients.Repeated.{Repeated}
 use Rattle.world_members.specs.declared.client_line.ClientLine.{ClientLine}
 use Rattle.world_members.specs.declared.world.World.{World}
 use Rattle.world_members.specs.ClientLines.{IsClientLine}
-use Rattle.world_members.specs.Places.{item_at, identity_at}
+use Rattle.world_places.specs.Places.{item_at, identity_at}
 use Rattle.world_members.specs.Steps.{Foretells}
 use Rattle.world_members.specs.Threads as given
 use Rattle.world_members.specs.Threads.{EndsSection}

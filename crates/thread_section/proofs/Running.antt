@@ -26,11 +26,11 @@ use Rattle.member_node.specs.declared.reply.Output.{Output}
 use Rattle.member_node.specs.declared.reply.StepError.{StepError}
 use Rattle.member_node.specs.Steps.{IsStepOf, IsUnchanged}
 use Rattle.world_members.specs.declared.world.World.{World}
-use Rattle.world_members.specs.Keeping.{IsKept}
-use Rattle.world_members.specs.Parts.{ArePlaced}
-use Rattle.world_members.specs.Places.{item_at, keeper_of, keepers_of, first_keeper}
+use Rattle.world_places.specs.Keeping.{IsKept}
+use Rattle.world_places.specs.Parts.{ArePlaced}
+use Rattle.world_places.specs.Places.{item_at, keeper_of, keepers_of, first_keeper}
 use Rattle.world_members.specs.Threads.{GivesBack}
-use Rattle.world_members.proofs.Storing.{not_called_at}
+use Rattle.world_places.proofs.Storing.{not_called_at}
 use Rattle.thread_run_order.specs.Images.{EntryOf}
 use Rattle.thread_run_order.specs.Runs.{answers_in}
 use Rattle.thread_section.specs.declared.giving.Rest.{Rest}

@@ -36,9 +36,9 @@ use Rattle.member_node.specs.declared.reply.StepError.{StepError}
 use Rattle.member_node.specs.Replies.{program_steps}
 use Rattle.member_node.specs.Steps.{replication, IsStepOf, IsUnchanged}
 use Rattle.world_members.specs.declared.world.World.{World}
-use Rattle.world_members.specs.Places.{item_at, identity_at}
+use Rattle.world_places.specs.Places.{item_at, identity_at}
 use Rattle.world_members.specs.Ways.{Means}
-use Rattle.world_members.proofs.Seats.{some_seat, identity_seated}
+use Rattle.world_places.proofs.Seats.{some_seat, identity_seated}
 use Rattle.world_members.proofs.Telling.{view_of}
 use Rattle.world_members.proofs.Entering.{item_within}
 use Rattle.thread_run_order.specs.Orders.{AtPlace, IsRunOrder}

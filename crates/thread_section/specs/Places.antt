@@ -2,7 +2,7 @@
 use Rattle.std.specs.Prelude.{◌≡◌}
 use Rattle.model_members.specs.View.{View}
 use Rattle.thread_cluster.specs.declared.places.Identities.{Identities}
-use Rattle.world_members.specs.Places.{identity_at}
+use Rattle.world_places.specs.Places.{identity_at}
 
 pub record AreIdentities (view : View) (ids : Identities) : Type 0 where
   pub p0 : ids.p0 ≡ identity_at view 0

@@ -18,7 +18,7 @@ use Rattle.member_node.specs.declared.node.Node.{Node}
 use Rattle.script_reading.specs.declared.clients.Repeated.{Repeated}
 use Rattle.world_members.specs.declared.client_line.Section.{Section}
 use Rattle.world_members.specs.declared.world.World.{World}
-use Rattle.world_members.specs.Places.{item_at}
+use Rattle.world_places.specs.Places.{item_at}
 use Rattle.world_members.specs.Threads.{PlaysSection, GivesBack}
 use Rattle.thread_section.specs.declared.giving.Rest.{Rest}
 

@@ -3,8 +3,8 @@ ghost use Rattle.std.specs.List.{All};
 ghost use Rattle.thread_machine.specs.Machines.{machine_at};
 ghost use Rattle.thread_cell.specs.Closings.{IsWhole};
 ghost use Rattle.member_node.specs.Members.{AreDistinct};
-ghost use Rattle.world_members.specs.Parts.{ArePlaced};
-ghost use Rattle.world_members.specs.Places.{item_at, first_keeper};
+ghost use Rattle.world_places.specs.Parts.{ArePlaced};
+ghost use Rattle.world_places.specs.Places.{item_at, first_keeper};
 ghost use Rattle.thread_section.specs.Worlds.{HasRun, HaveRun, AreGivenBack};
 
 use data_lattice::SpelledData;

@@ -1,5 +1,5 @@
 ghost use Rattle.std.specs.Prelude.{◌≡◌};
-ghost use Rattle.world_members.specs.Places.{identity_at};
+ghost use Rattle.world_places.specs.Places.{identity_at};
 ghost use Rattle.thread_section.specs.Places.{AreIdentities};
 
 use base_vectors::Id;

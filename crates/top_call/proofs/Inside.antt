@@ -24,7 +24,7 @@ use Rattle.member_keeper.specs.Tables.{Table, put, put_all}
 use Rattle.member_keeper.specs.Calls.{Becomes}
 use Rattle.member_write_behind.specs.Gathering.{Gathered, table_of}
 use Rattle.data_value.specs.DataSpelled.{history_byte, history_spelled}
-use Rattle.world_members.specs.Keeping.{Given, Keeps, IsCleared}
+use Rattle.world_places.specs.Keeping.{Given, Keeps, IsCleared}
 use Rattle.script_reading.specs.declared.script.Script.{Script}
 use Rattle.script_reading.specs.WellFormed.{HasNoClients}
 use Rattle.report_lines.specs.Kept as kept

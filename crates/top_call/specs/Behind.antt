@@ -13,7 +13,7 @@ use Rattle.model_members.specs.Script.{Playing}
 use Rattle.member_keeper.specs.Tables.{Table}
 use Rattle.member_keeper.specs.declared.keeper.Keeper.{Ghosts as Keeping}
 use Rattle.data_value.specs.DataSpelled.{history_byte, history_spelled}
-use Rattle.world_members.specs.Keeping.{Given, Keeps, IsCleared}
+use Rattle.world_places.specs.Keeping.{Given, Keeps, IsCleared}
 use Rattle.script_reading.specs.declared.script.Script.{Script}
 use Rattle.report_lines.specs.Kept as kept
 use Rattle.report_lines.specs.Kept.{AtEachPlace, AreKept, HoldsStore, answers_by}

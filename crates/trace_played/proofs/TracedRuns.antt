@@ -37,8 +37,8 @@ use Rattle.script_reading.specs.declared.script.Step.TheVariants as form
 use Rattle.script_reading.specs.Meant.{step_of}
 use Rattle.script_reading.specs.WellFormed.{HasNoClients, IsWellFormed}
 use Rattle.world_members.specs.declared.world.World.{World}
-use Rattle.world_members.specs.Places.{keepers_of}
-use Rattle.world_members.specs.Keeping.{Given}
+use Rattle.world_places.specs.Places.{keepers_of}
+use Rattle.world_places.specs.Keeping.{Given}
 use Rattle.report_lines.specs.declared.playing.Ending.{Ending}
 use Rattle.report_lines.specs.declared.playing.Ending.TheVariants.{Told, NotCleared, Memory}
 use Rattle.report_lines.specs.Kept.{answers_by, EndsOver, IsTheRun, EndsSo, IsPlayed}

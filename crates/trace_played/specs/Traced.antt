@@ -17,7 +17,7 @@ use Rattle.script_reading.specs.declared.clients.RunStep.{RunStep}
 use Rattle.script_reading.specs.declared.clients.RunStep.TheVariants.{Plain}
 use Rattle.script_reading.specs.declared.script.Script.{Script}
 use Rattle.script_reading.specs.declared.script.Step.TheVariants.{Settle}
-use Rattle.world_members.specs.Keeping.{Given}
+use Rattle.world_places.specs.Keeping.{Given}
 use Rattle.report_lines.specs.Kept.{answers_by, NoneRose, EndsOver, IsTheRun, IsRunOver}
 use Rattle.report_lines.specs.Run.{decl_of, in_order, steps_of, ending}
 use Rattle.trace_lines.specs.Meant.{trace_meant}

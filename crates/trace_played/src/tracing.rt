@@ -2,7 +2,7 @@ ghost use Rattle.std.specs.Prelude.{◌≡◌, length, true, string_bytes, All, 
 ghost use Rattle.script_reading.specs.declared.clients.Clients.{Clients};
 ghost use Rattle.script_reading.specs.Fields.{is_key_name};
 ghost use Rattle.script_reading.specs.WellFormed.{HasNoClients, IsAllowed, IsStep, IsRunStep, IsWellFormed};
-ghost use Rattle.world_members.specs.Places.{keepers_of};
+ghost use Rattle.world_places.specs.Places.{keepers_of};
 ghost use Rattle.report_lines.specs.Kept.{IsPlayed};
 ghost use Rattle.report_lines.specs.Telling.{AreAllKept};
 ghost use Rattle.trace_recorder.specs.Saw.{IsFormed};

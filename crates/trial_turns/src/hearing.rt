@@ -1,7 +1,7 @@
 ghost use Rattle.std.specs.Prelude.{◌≡◌};
 ghost use Rattle.member_views.specs.Sound.{last_view};
-ghost use Rattle.world_members.specs.Parts.{ArePlaced};
-ghost use Rattle.world_members.specs.Places.{identity_at};
+ghost use Rattle.world_places.specs.Parts.{ArePlaced};
+ghost use Rattle.world_places.specs.Places.{identity_at};
 
 use base_bytes::Text;
 use base_vectors::Id;

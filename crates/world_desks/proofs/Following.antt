@@ -35,8 +35,8 @@ use Rattle.theorem_watching.specs.Watching.{Watching, WatchStep, watched, answer
 use Rattle.theorem_watching.specs.declared.followship.Followship.{Followship}
 use Rattle.theorem_watching.specs.declared.followship.Followship.TheVariants.{Gone, UnknownKey, Subscribed, AlreadySubscribed, Unsubscribed, NotSubscribed}
 use Rattle.world_members.specs.declared.world.World.{World}
-use Rattle.world_members.specs.Places.{member_of}
-use Rattle.world_members.specs.Standing.{StandsForRunning}
+use Rattle.world_places.specs.Places.{member_of}
+use Rattle.world_places.specs.Standing.{StandsForRunning}
 use Rattle.world_members.specs.Ways.{Throughout}
 use Rattle.world_desks.specs.declared.desks.Desks.{Desks}
 use Rattle.world_desks.specs.Seats.{desk_of, ChangesAt}

@@ -31,8 +31,8 @@ use Rattle.member_views.specs.Sound.{last_view}
 use Rattle.theorem_watching.specs.Watching.{declared_in, notices_at, of_running, shows_in, told_at}
 use Rattle.theorem_watching.specs.Watching.WatchLine.{NoticeLine}
 use Rattle.world_members.specs.declared.world.World.{World}
-use Rattle.world_members.specs.Places.{member_of}
-use Rattle.world_members.specs.Standing.{StandsForRunning}
+use Rattle.world_places.specs.Places.{member_of}
+use Rattle.world_places.specs.Standing.{StandsForRunning}
 use Rattle.world_desks.specs.declared.desks.Desks.{Desks}
 use Rattle.world_desks.specs.declared.seats.Seat.{Seat}
 use Rattle.world_desks.specs.Seats.{desk_of, ChangesAt}

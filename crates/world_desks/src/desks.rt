@@ -5,7 +5,7 @@ ghost use Rattle.member_desk.specs.Members.{IsToldBy};
 ghost use Rattle.member_desk.specs.Subscriptions.{is_subscribed, with_subscription, without_subscription};
 ghost use Rattle.member_views.specs.Sound.{last_view};
 ghost use Rattle.theorem_watching.specs.Watching.WatchStep.{Subscribe, Unsubscribe};
-ghost use Rattle.world_members.specs.Places.{member_of};
+ghost use Rattle.world_places.specs.Places.{member_of};
 ghost use Rattle.world_desks.specs.Seats.{desk_of, ChangesAt, IsSame};
 ghost use Rattle.world_desks.specs.Watched.{Answers, EndsWithMembers, Tells, subscribes, unsubscribes};
 

@@ -62,25 +62,26 @@ use Rattle.script_reading.specs.declared.script.Step.{Step}
 use Rattle.world_members.specs.declared.event.Answer.TheVariants as answer
 use Rattle.world_members.specs.declared.event.Event.{Event as Line}
 use Rattle.world_members.specs.declared.event.Head.{Head}
-use Rattle.world_members.specs.declared.sending.Answered.{Answered}
+use Rattle.world_places.specs.declared.sending.Answered.{Answered}
 use Rattle.world_members.specs.declared.world.World.{World}
-use Rattle.world_members.specs.Channels.{Channels, channel_at, message_on}
-use Rattle.world_members.specs.Giving.{RunsAt, ChangesAt, Refuses, Gives, full, made, IsSame, Makes, gone, IsAsBefore, Does}
-use Rattle.world_members.specs.Sending.{IsToldAs, IsStepOnLinks, TakesOnLinks, told_of, AreFew}
-use Rattle.world_members.specs.declared.event.SentTo.{SentTo}
-use Rattle.world_members.specs.Keeping.{Given, Keeps, KeepsAt, AreSeated}
+use Rattle.world_places.specs.Channels.{Channels, channel_at, message_on}
+use Rattle.world_members.specs.Giving.{IsToldAs, RunsAt, ChangesAt, Refuses, Gives, full, made, IsSame, Makes, gone, IsAsBefore, Does}
+use Rattle.world_places.specs.Sending.{IsStepOnLinks, TakesOnLinks, told_of, AreFew}
+use Rattle.world_places.specs.declared.sent.SentTo.{SentTo}
+use Rattle.world_places.specs.Keeping.{Given, Keeps, KeepsAt, AreSeated}
 use Rattle.world_members.specs.Lines.{IsHead, IsLine, is_damage, are_damaged}
-use Rattle.world_members.specs.Standing.{StandsForLink, StandsForWorld, TellsStore}
+use Rattle.world_members.specs.Standing.{StandsForWorld}
+use Rattle.world_places.specs.Standing.{StandsForLink, TellsStore}
 use Rattle.world_members.specs.Steps.{Foretells, HaveAnswered, Reaches, Plays, Remains, RemainsSo}
 use Rattle.world_members.specs.Ways.{IsPrefix, Throughout, Means}
-use Rattle.world_members.specs.Places.{item_at, seat_of, keeper_of}
-use Rattle.world_members.proofs.FewSent.{few_posts, few_sent}
-use Rattle.world_members.proofs.Lists.{at_one}
-use Rattle.world_members.proofs.Seats.{item_found, seated_set}
-use Rattle.world_members.proofs.Linking.{same_told, links_sent}
+use Rattle.world_places.specs.Places.{item_at, seat_of, keeper_of}
+use Rattle.world_places.proofs.FewSent.{few_posts, few_sent}
+use Rattle.world_places.proofs.Lists.{at_one}
+use Rattle.world_places.proofs.Seats.{item_found, seated_set}
+use Rattle.world_places.proofs.Linking.{same_told, links_sent}
 use Rattle.world_members.proofs.Onward.{safe_now, stands_before, way_logs}
 use Rattle.world_members.proofs.Standings.{IsAtWork, at_work_there, place_there, stands_after, keeper_before, gone_there, stands_kept, kept_alike, stays_same, keeper_after, keeper_other, limit_before}
-use Rattle.world_members.proofs.Storing.{NamesApart, IsFine, apart_filtered, states_apart, store_stands, not_called_at, becomes_none, not_called}
+use Rattle.world_places.proofs.Storing.{NamesApart, IsFine, apart_filtered, states_apart, store_stands, not_called_at, becomes_none, not_called}
 use Rattle.world_members.proofs.Telling.{IsEventAt, reaches_told, plays_does, input_at}
 
 -- what is owed of an error

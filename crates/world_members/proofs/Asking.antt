@@ -25,7 +25,7 @@ use Rattle.script_reading.specs.declared.ask.Ask.TheVariants.{Update, Get, Flush
 use Rattle.world_members.specs.declared.world.World.{World}
 use Rattle.world_members.specs.Asking.{input_of}
 use Rattle.world_members.specs.Ways.{Means}
-use Rattle.world_members.proofs.Lists.{IsPair, both, neither, pair_both, pair_some, pair_none}
+use Rattle.world_places.proofs.Lists.{IsPair, both, neither, pair_both, pair_some, pair_none}
 use Rattle.world_members.proofs.Onward.{way_logs}
 
 module _ {T Kind Delta : Type 0} {ghosts : Ghosts T Kind Op Delta} where

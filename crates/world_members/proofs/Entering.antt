@@ -49,21 +49,23 @@ use Rattle.world_members.specs.declared.world.World.{World}
 use Rattle.world_members.specs.declared.event.Head.{Head}
 use Rattle.world_members.specs.declared.event.Head.TheVariants as head
 use Rattle.world_members.specs.Asking.{input_of}
-use Rattle.world_members.specs.Channels.{Channel, Channels, channel_at, message_on, passed, extended}
+use Rattle.world_places.specs.Channels.{Channel, Channels, channel_at, message_on, passed, extended}
 use Rattle.world_members.specs.Entering.{IsGivenFrom}
 use Rattle.world_members.specs.Giving.{ChangesAt}
-use Rattle.world_members.specs.Keeping.{AreSeated}
-use Rattle.world_members.specs.Lines.{IsHead, sketched, sketched_post}
-use Rattle.world_members.specs.Places.{item_at, seat_of}
-use Rattle.world_members.specs.Sending.{messages_to, told_of, AreFew}
-use Rattle.world_members.specs.Standing.{StandsForLink, StandsForWorld}
+use Rattle.world_places.specs.Keeping.{AreSeated}
+use Rattle.world_members.specs.Lines.{IsHead}
+use Rattle.world_places.specs.Sketched.{sketched, sketched_post}
+use Rattle.world_places.specs.Places.{item_at, seat_of}
+use Rattle.world_places.specs.Sending.{messages_to, told_of, AreFew}
+use Rattle.world_members.specs.Standing.{StandsForWorld}
+use Rattle.world_places.specs.Standing.{StandsForLink}
 use Rattle.world_members.specs.Steps.{Foretells, Reaches}
 use Rattle.world_members.specs.Ways.{IsPrefix, Throughout, Means}
 use Rattle.world_members.proofs.Answering.{means_refused, given_at, has_room, image, next_is, reaches_made, answers_of, taken_with, world_taken, events_taken}
 use Rattle.world_members.proofs.Asking.{StandsAlways, asked_some, asks_so}
-use Rattle.world_members.proofs.Seats.{seated_set}
+use Rattle.world_places.proofs.Seats.{seated_set}
 use Rattle.world_members.proofs.Steps.{sent, stands_in, is_head, at_delivery, run_handing, more_handing}
-use Rattle.world_members.proofs.Linking.{links_sent, links_moved, same_told, same_sketch}
+use Rattle.world_places.proofs.Linking.{links_sent, links_moved, same_told, same_sketch}
 use Rattle.world_members.proofs.Onward.{means_same, stands_before, way_logs}
 use Rattle.world_members.proofs.Standings.{IsAtWork, at_work_there}
 use Rattle.world_members.proofs.Telling.{IsEventAt, input_at}

@@ -35,15 +35,16 @@ use Rattle.world_members.specs.declared.event.Head.TheVariants as head
 use Rattle.world_members.specs.declared.event.Answer.TheVariants as answer
 use Rattle.world_members.specs.declared.world.World.{World}
 use Rattle.world_members.specs.declared.event.Event.{Event}
-use Rattle.world_members.specs.Keeping.{AreSeated, IsCleared, Keeps, KeepsAt, FailsToClear}
-use Rattle.world_members.specs.Places.{item_at, identity_at, seat_of, member_of, keeper_of, first_keeper}
-use Rattle.world_members.specs.Seating.{IsNewMember, SeatsAnew, ActsAt}
-use Rattle.world_members.specs.Standing.{StandsForRunning, StandsForWorld, TellsStore}
+use Rattle.world_places.specs.Keeping.{AreSeated, IsCleared, Keeps, KeepsAt, FailsToClear}
+use Rattle.world_places.specs.Places.{item_at, identity_at, seat_of, member_of, keeper_of, first_keeper}
+use Rattle.world_places.specs.Seating.{IsNewMember, SeatsAnew, ActsAt}
+use Rattle.world_members.specs.Standing.{StandsForWorld}
+use Rattle.world_places.specs.Standing.{StandsForRunning, TellsStore}
 use Rattle.world_members.specs.Steps.{Plays, LeadsTo, Remains}
 use Rattle.world_members.specs.Giving.{IsSame}
-use Rattle.world_members.proofs.Seats.{identity_seated, seated, last_sound, seat_joined, new_seat}
-use Rattle.world_members.proofs.Lists.{at_each, some_there, at_one, for_this}
-use Rattle.world_members.proofs.Storing.{tells_nothing}
+use Rattle.world_places.proofs.Seats.{identity_seated, seated, last_sound, seat_joined, new_seat}
+use Rattle.world_places.proofs.Lists.{at_each, some_there, at_one, for_this}
+use Rattle.world_places.proofs.Storing.{tells_nothing}
 use Rattle.world_members.proofs.Answering.{given_at, answer_told, one_call, kept_one}
 use Rattle.world_members.proofs.Standings.{IsReseated, member_elsewhere, member_here, keeper_elsewhere, still_seated, last_pushed, stands_in, stores_still}
 use Rattle.world_members.proofs.Telling.{view_of, reaches_did, reaches_said, plays_told}

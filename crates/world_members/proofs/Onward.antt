@@ -42,7 +42,8 @@ use Rattle.member_node.specs.Steps.{replication}
 use Rattle.member_node.specs.Members.{IsSafe, StandsForKey, StandsForNode}
 use Rattle.member_node.specs.declared.key.KeyState.{KeyState}
 use Rattle.world_members.specs.declared.world.World.{World}
-use Rattle.world_members.specs.Standing.{StandsForWorld, StandsForRunning}
+use Rattle.world_members.specs.Standing.{StandsForWorld}
+use Rattle.world_places.specs.Standing.{StandsForRunning}
 use Rattle.world_members.specs.Ways.{Throughout, IsPrefix, Means}
 use Rattle.world_members.specs.Gone.{IsHeld, HasPruned, IsWithout}
 

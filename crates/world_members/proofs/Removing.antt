@@ -28,17 +28,18 @@ use Rattle.world_members.specs.declared.world.World.{World}
 use Rattle.world_members.specs.declared.event.Head.TheVariants as head
 use Rattle.world_members.specs.declared.event.Answer.TheVariants as answer
 use Rattle.world_members.specs.declared.event.Event.{Event}
-use Rattle.world_members.specs.Keeping.{AreSeated, KeepsAt}
-use Rattle.world_members.specs.Places.{item_at, identity_at, seat_of, member_of, keeper_of, first_keeper}
-use Rattle.world_members.specs.Seating.{IsLeft}
-use Rattle.world_members.specs.Standing.{StandsForRunning, StandsForWorld, TellsStore}
+use Rattle.world_places.specs.Keeping.{AreSeated, KeepsAt}
+use Rattle.world_places.specs.Places.{item_at, identity_at, seat_of, member_of, keeper_of, first_keeper}
+use Rattle.world_places.specs.Seating.{IsLeft}
+use Rattle.world_members.specs.Standing.{StandsForWorld}
+use Rattle.world_places.specs.Standing.{StandsForRunning, TellsStore}
 use Rattle.world_members.specs.Steps.{Plays, LeadsTo}
-use Rattle.world_members.proofs.Seats.{seats_apart, seat_without, no_seat_without, no_identity_at, no_member}
-use Rattle.world_members.proofs.Lists.{at_one, at_each, for_none}
+use Rattle.world_places.proofs.Seats.{seats_apart, seat_without, no_seat_without, no_identity_at, no_member}
+use Rattle.world_places.proofs.Lists.{at_one, at_each, for_none}
 use Rattle.world_members.proofs.Standings.{stands_in, IsReseated, member_elsewhere, member_here, still_seated}
 use Rattle.world_members.proofs.Telling.{view_of, reaches_did, plays_told}
 use Rattle.world_members.specs.Giving.{IsSame}
-use Rattle.world_members.proofs.Storing.{not_called_at}
+use Rattle.world_places.proofs.Storing.{not_called_at}
 
 -- THE SCRIPT
 

@@ -39,26 +39,27 @@ use Rattle.member_node.specs.Loading.{ComesBack, IsRefusedLoad}
 use Rattle.script_reading.specs.declared.script.Step.TheVariants as form
 use Rattle.world_members.specs.declared.event.Head.TheVariants as head
 use Rattle.world_members.specs.declared.event.Answer.TheVariants as answer
-use Rattle.world_members.specs.Keeping.{AreSeated, Keeps, KeepsAt}
-use Rattle.world_members.specs.Places.{item_at, seat_of, member_of, keeper_of, first_keeper}
+use Rattle.world_places.specs.Keeping.{AreSeated, Keeps, KeepsAt}
+use Rattle.world_places.specs.Places.{item_at, seat_of, member_of, keeper_of, first_keeper}
 use Rattle.world_members.specs.declared.world.World.{World}
 use Rattle.world_members.specs.declared.event.Event.{Event as Line}
 use Rattle.world_members.specs.Reloading.{IsReloaded, IsUnfit, Reloads, ReloadsSo}
-use Rattle.world_members.specs.Standing.{StandsForRunning, StandsForWorld, TellsStore}
+use Rattle.world_members.specs.Standing.{StandsForWorld}
+use Rattle.world_places.specs.Standing.{StandsForRunning, TellsStore}
 use Rattle.world_members.specs.Steps.{Plays, LeadsTo, LoadsWhatItTook, HaveAnswered, Remains, Stays}
 use Rattle.world_members.specs.Ways.{Means}
 use Rattle.world_members.specs.Giving.{IsSame}
 use Rattle.world_members.specs.declared.event.Answer.{Answer}
-use Rattle.world_members.specs.Seating.{ActsAt}
-use Rattle.world_members.proofs.Seats.{identity_seated, seats_apart, place_seated, seated_as, seat_without, no_seat_without, seat_joined, new_seat, no_member}
+use Rattle.world_places.specs.Seating.{ActsAt}
+use Rattle.world_places.proofs.Seats.{identity_seated, seats_apart, place_seated, seated_as, seat_without, no_seat_without, seat_joined, new_seat, no_member}
 use Rattle.world_members.proofs.Joining.{seat_given}
 use Rattle.world_members.proofs.Standings.{still_seated, stands_in, stores_still, IsReseated, member_elsewhere, member_here, keeper_elsewhere, running_still}
 use Rattle.world_members.proofs.Onward.{well_now, way_logs}
 use Rattle.world_members.proofs.Answering.{given_at, answer_told, one_call, kept_one}
 use Rattle.world_members.proofs.Telling.{view_of, reaches_did, plays_told, reaches_said}
-use Rattle.world_members.proofs.Lists.{some_there, at_each, for_this}
-use Rattle.world_members.proofs.StoredNames.{stores_fit}
-use Rattle.world_members.proofs.Storing.{becomes_none}
+use Rattle.world_places.proofs.Lists.{some_there, at_each, for_this}
+use Rattle.world_places.proofs.StoredNames.{stores_fit}
+use Rattle.world_places.proofs.Storing.{becomes_none}
 
 module _ (view : View) (id place : ℕ) (seat : seat_of view id ≡ Some place) (sound : IsView view) where
   pub given_apart : id ≢ view.given

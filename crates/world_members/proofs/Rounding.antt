@@ -35,15 +35,16 @@ use Rattle.script_reading.specs.declared.script.Step.TheVariants as form
 use Rattle.world_members.specs.declared.event.Head.TheVariants as head
 use Rattle.world_members.specs.declared.event.Answer.TheVariants as answer
 use Rattle.world_members.specs.declared.world.World.{World}
-use Rattle.world_members.specs.Channels.{Channel, channel_at, next_on, count_on}
+use Rattle.world_places.specs.Channels.{Channel, channel_at, next_on, count_on}
 use Rattle.world_members.specs.Rounds.{due_between, dues_from, dues_of, meant_due, delivered_upto, delivers_due, delivers_all, DoesMore, Halts}
-use Rattle.world_members.specs.Standing.{StandsForLink, StandsForWorld}
+use Rattle.world_members.specs.Standing.{StandsForWorld}
+use Rattle.world_places.specs.Standing.{StandsForLink}
 use Rattle.world_members.specs.declared.rounds.Due.{Due}
 use Rattle.world_members.specs.Giving.{delivers, Does, IsAsBefore}
 use Rattle.world_members.specs.Ways.{IsPrefix, Means}
 use Rattle.world_members.specs.declared.event.Event.{Event}
 use Rattle.world_members.specs.Steps.{Plays, Remains}
-use Rattle.world_members.proofs.Linking.{link_next, link_count}
+use Rattle.world_places.proofs.Linking.{link_next, link_count}
 use Rattle.world_members.proofs.Standings.{last_is, as_it_was, same_itself}
 use Rattle.world_members.proofs.Sequences.{GoesOn, goes_fold, goes_deliver, goes_nowhere, does_none, does_then, does_as, halts_after, halts_within, halts_as}
 use Rattle.world_members.proofs.Telling.{plays_does, plays_told}

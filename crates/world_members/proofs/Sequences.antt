@@ -29,15 +29,15 @@ use Rattle.member_keeper.specs.Calls.{Becomes}
 use Rattle.world_members.specs.declared.event.Event as line
 use Rattle.world_members.specs.declared.world.World.{World}
 use Rattle.world_members.specs.Giving.{Does, IsAsBefore}
-use Rattle.world_members.specs.Keeping.{Given, Keeps, KeepsAt, IsKept}
+use Rattle.world_places.specs.Keeping.{Given, Keeps, KeepsAt, IsKept}
 use Rattle.world_members.specs.Lines.{are_damaged, IsLine}
-use Rattle.world_members.specs.Places.{keeper_of}
+use Rattle.world_places.specs.Places.{keeper_of}
 use Rattle.world_members.specs.Rounds.{Halts}
 use Rattle.world_members.specs.Steps.{Foretells, Reaches}
 use Rattle.world_members.specs.Ways.{IsPrefix, Means}
 use Rattle.world_members.proofs.Onward.{prefix_same, prefix_trans}
-use Rattle.world_members.proofs.Lists.{zip_append}
-use Rattle.world_members.proofs.Storing.{not_called_at}
+use Rattle.world_places.proofs.Lists.{zip_append}
+use Rattle.world_places.proofs.Storing.{not_called_at}
 
 -- THE MODEL
 

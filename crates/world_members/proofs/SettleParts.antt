@@ -33,16 +33,17 @@ use Rattle.world_members.specs.declared.event.Answer.{Answer}
 use Rattle.world_members.specs.declared.event.Event.{Event}
 use Rattle.world_members.specs.declared.world.World.{World}
 use Rattle.world_members.specs.Giving.{Does, IsAsBefore}
-use Rattle.world_members.specs.Keeping.{Given}
-use Rattle.world_members.specs.Lines.{IsLine, IsAnswer, sketched_post}
-use Rattle.world_members.specs.Places.{keeper_of}
+use Rattle.world_places.specs.Keeping.{Given}
+use Rattle.world_members.specs.Lines.{IsLine, IsAnswer}
+use Rattle.world_places.specs.Sketched.{sketched_post}
+use Rattle.world_places.specs.Places.{keeper_of}
 use Rattle.world_members.specs.Settling.{is_full, met_full, sent_in, blocked_in, last_blocked, Arrives, Settles, HaltsIn, SettlesOr, gossips, installs, sweeps_twice}
 use Rattle.world_members.specs.Steps.{Foretells}
 use Rattle.world_members.specs.Ways.{IsPrefix, Means}
 use Rattle.world_members.proofs.Onward.{prefix_same, prefix_trans}
-use Rattle.world_members.proofs.Lists.{zip_append}
+use Rattle.world_places.proofs.Lists.{zip_append}
 use Rattle.world_members.proofs.Sequences.{GoesOn, given_then, foretells_first, foretells_second, kept_then, kept_after, Goes, goes_nowhere, goes_more, goes_then, goes_fold, given_goes, goes_deliver}
-use Rattle.world_members.proofs.Storing.{not_called_at}
+use Rattle.world_places.proofs.Storing.{not_called_at}
 use Rattle.world_members.proofs.Telling.{view_of}
 
 -- WHAT THE LINES SAY

@@ -38,15 +38,15 @@ use Rattle.world_members.specs.declared.event.Answer.TheVariants as answer
 use Rattle.world_members.specs.declared.event.Head.TheVariants as head
 use Rattle.world_members.specs.declared.event.Event.{Event}
 use Rattle.world_members.specs.declared.world.World.{World}
-use Rattle.world_members.specs.Channels.{channel_at, count_on}
+use Rattle.world_places.specs.Channels.{channel_at, count_on}
 use Rattle.world_members.specs.Giving.{Does, IsAsBefore, delivers}
 use Rattle.world_members.specs.Lines.{is_damage, IsLine, IsAnswer}
-use Rattle.world_members.specs.Places.{member_of}
+use Rattle.world_places.specs.Places.{member_of}
 use Rattle.world_members.specs.Settling.{met_full, sent_in, is_behind, gossips, Settles, HaltsIn, SettlesOr, exchanges, last_blocked, installs, sweeps_twice}
-use Rattle.world_members.specs.Standing.{StandsForRunning}
+use Rattle.world_places.specs.Standing.{StandsForRunning}
 use Rattle.world_members.specs.Steps.{Plays, Remains, Foretells, Reaches}
 use Rattle.world_members.specs.Ways.{Means, IsPrefix}
-use Rattle.world_members.specs.Keeping.{Given}
+use Rattle.world_places.specs.Keeping.{Given}
 use Rattle.world_members.specs.declared.event.Answer.{Answer}
 use Rattle.world_members.proofs.Telling.{view_of, plays_does}
 use Rattle.world_members.proofs.Steps.{same_count}

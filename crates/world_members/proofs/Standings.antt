@@ -28,16 +28,17 @@ use Rattle.member_node.specs.Members.{StandsForNode, AreOfKinds, declared}
 use Rattle.member_node.specs.Replies.{program_steps}
 use Rattle.member_node.specs.Steps.{IsOtherwiseSame, IsUnchanged, replication}
 use Rattle.world_members.specs.declared.world.World.{World}
-use Rattle.world_members.specs.Channels.{channel_at}
-use Rattle.world_members.specs.Places.{item_at, seat_of, member_of, keeper_of, first_keeper, identity_at}
-use Rattle.world_members.specs.Standing.{StandsForLink, StandsForRunning, StandsForWorld, TellsStore}
+use Rattle.world_places.specs.Channels.{channel_at}
+use Rattle.world_places.specs.Places.{item_at, seat_of, member_of, keeper_of, first_keeper, identity_at}
+use Rattle.world_members.specs.Standing.{StandsForWorld}
+use Rattle.world_places.specs.Standing.{StandsForLink, StandsForRunning, TellsStore}
 use Rattle.world_members.specs.Giving.{IsSame, IsAlikeButLinks, ChangesAt, IsAsBefore}
 use Rattle.world_members.specs.Steps.{Stays}
-use Rattle.world_members.specs.Keeping.{KeepsAt, AreSeated}
+use Rattle.world_places.specs.Keeping.{KeepsAt, AreSeated}
 use Rattle.world_members.specs.Ways.{Means}
-use Rattle.world_members.proofs.Seats.{member_changed, member_stays, member_seated, keeper_changed, keeper_stays, place_seated, no_seat, some_seat, never_empty, same_identity, few_places}
-use Rattle.world_members.proofs.Lists.{at_one, at_each, for_same}
-use Rattle.world_members.proofs.Storing.{store_stays, not_called_at}
+use Rattle.world_places.proofs.Seats.{member_changed, member_stays, member_seated, keeper_changed, keeper_stays, place_seated, no_seat, some_seat, never_empty, same_identity, few_places}
+use Rattle.world_places.proofs.Lists.{at_one, at_each, for_same}
+use Rattle.world_places.proofs.Storing.{store_stays, not_called_at}
 use Rattle.world_members.proofs.Onward.{way_logs}
 
 last_at : (views : List View) (view other : View) → slice_index_or (views ++ view ∷ []) (length views) other ≡ view

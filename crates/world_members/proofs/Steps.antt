@@ -51,24 +51,25 @@ use Rattle.world_members.specs.declared.event.Answer.TheVariants as answer
 use Rattle.world_members.specs.declared.world.World.{World}
 use Rattle.world_members.specs.declared.event.Head.{Head}
 use Rattle.world_members.specs.declared.event.Event.{Event}
-use Rattle.world_members.specs.declared.sending.Answered.{Answered}
-use Rattle.world_members.specs.Channels.{Channel, channel_at, count_on, message_on, passed, extended, ChangesOne, next_on}
+use Rattle.world_places.specs.declared.sending.Answered.{Answered}
+use Rattle.world_places.specs.Channels.{Channel, channel_at, count_on, message_on, passed, extended, ChangesOne, next_on}
 use Rattle.world_members.specs.Asking.{input_of}
 use Rattle.world_members.specs.Lines.{IsHead, IsAnswer, is_damage}
-use Rattle.world_members.specs.Places.{seat_of}
-use Rattle.world_members.specs.Sending.{messages_to, AreFew}
-use Rattle.world_members.specs.Standing.{StandsForLink, StandsForWorld}
+use Rattle.world_places.specs.Places.{seat_of}
+use Rattle.world_places.specs.Sending.{messages_to, AreFew}
+use Rattle.world_members.specs.Standing.{StandsForWorld}
+use Rattle.world_places.specs.Standing.{StandsForLink}
 use Rattle.world_members.specs.Steps.{Foretells, Reaches, Plays, Remains}
 use Rattle.world_members.specs.Ways.{IsPrefix, Means}
 use Rattle.world_members.specs.Giving.{IsSame, IsAlikeButLinks, ChangesAt, Refuses, Makes, Gives, Hands, gone, full, made, Does, delivers, IsAsBefore}
 use Rattle.world_members.specs.declared.event.Answer.{Answer}
-use Rattle.world_members.proofs.Seats.{last_sound}
+use Rattle.world_places.proofs.Seats.{last_sound}
 use Rattle.world_members.proofs.Answering.{reaches_gone, reaches_full, kept_changed, called_keeps, kept_refused, given_at, reaches_made, answers_of, step_does, outcome_given, IsWhole, remains_as, ask as whole_ask, timeout, deliver as whole_deliver}
-use Rattle.world_members.proofs.Linking.{link_message, links_sent, links_moved, passed_first, same_sketch, link_next, link_count}
+use Rattle.world_places.proofs.Linking.{link_message, links_sent, links_moved, passed_first, same_sketch, link_next, link_count}
 use Rattle.world_members.proofs.Onward.{way_logs, stands_before}
 use Rattle.world_members.proofs.Standings.{absent_gone, present_runs, same_itself, but_links, kept_alike, stands_with_links, kept_with_links}
 use Rattle.world_members.proofs.Asking.{asked_some, asked_none, asks_so}
-use Rattle.world_members.proofs.Lists.{IsPair, pair_both, pair_some, pair_none}
+use Rattle.world_places.proofs.Lists.{IsPair, pair_both, pair_some, pair_none}
 use Rattle.world_members.proofs.Telling.{IsEventAt, delivery_at, does_told, plays_does, plays_told}
 
 pub sent_within : {M : Type 0} (o : Option (Channel M)) (index : ℕ) (message : M) → message_on o index ≡ Some message → index < count_on o

@@ -35,7 +35,7 @@ use Rattle.world_members.specs.Lines.{IsHead, IsAnswer, is_damage}
 use Rattle.world_members.specs.Ways.{Means}
 use Rattle.world_members.specs.Steps.{Reaches, HaveAnswered, Plays}
 use Rattle.world_members.specs.Standing.{StandsForWorld}
-use Rattle.world_members.specs.Keeping.{Given}
+use Rattle.world_places.specs.Keeping.{Given}
 use Rattle.world_members.specs.declared.event.Event.{Event as Line}
 use Rattle.world_members.specs.Giving.{IsSame, Does}
 use Rattle.world_members.proofs.Onward.{means_same, stands_before, way_logs}

@@ -7,7 +7,8 @@ use Rattle.theorem_sections.specs.Sections.{Ending, Line}
 use Rattle.world_members.specs.declared.client_line.ClientLine.{ClientLine}
 use Rattle.world_members.specs.declared.client_line.Ended.{Ended}
 use Rattle.world_members.specs.declared.client_line.Ended.TheVariants as ended
-use Rattle.world_members.specs.Lines.{IsHead, IsAnswer, sketched_post}
+use Rattle.world_members.specs.Lines.{IsHead, IsAnswer}
+use Rattle.world_places.specs.Sketched.{sketched_post}
 
 abbrev pub ending_meant : Ended → Ending Shown
 ending_meant (ended.Finished finished) = Ending.Ended (finished_meant finished)

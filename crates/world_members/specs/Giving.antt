@@ -2,10 +2,11 @@
 --     IsSame, IsAlikeButLinks        nothing is changed, or the links alone
 --     RunsAt        where the member of an identity runs
 --     ChangesAt        the member at one place is changed, and of the rest at most the links
+--     IsToldAs        the event of what a member answered
 --     Gives, Hands        no member has the identity, or the member is full, or it made its step
 --     Refuses        memory was wanted
 --     Does, IsAsBefore, DoesOr        what a call of one event does to a world, and what it leaves after want of memory
-use Rattle.std.specs.Prelude.{◌≡◌, ◌≢◌, ℕ, ◌<◌, false, List, [], ◌∷◌, length, set, Some, None, Result, MatchResult}
+use Rattle.std.specs.Prelude.{◌≡◌, ◌≢◌, ℕ, ◌<◌, false, List, [], ◌∷◌, length, set, Some, None, Result, Ok, Err, MatchResult}
 use Rattle.data_lattice.specs.declared.replica.Replica.{Ghosts}
 use Rattle.data_lattice.specs.declared.spelled.SpelledData.{Ghosts as Spelling}
 use Rattle.member_keeper.specs.declared.keeper.Keeper.{Ghosts as Keeping}
@@ -14,21 +15,29 @@ use Rattle.member_node.specs.declared.node.Node.{Node}
 use Rattle.member_messages.specs.declared.message.Message.{Message}
 use Rattle.member_node.specs.declared.input.Input.{Input}
 use Rattle.member_node.specs.declared.input.Input.TheVariants as input
+use Rattle.member_node.specs.declared.reply.StepError.{StepError}
+use Rattle.member_node.specs.declared.reply.StepError.TheVariants.{HistoryFull, Memory}
 use Rattle.member_node.specs.Steps.{replication, IsUnchanged}
 use Rattle.world_members.specs.declared.event.Head.{Head}
 use Rattle.world_members.specs.declared.event.Answer.TheVariants as answer
 use Rattle.world_members.specs.declared.event.Event.{Event}
-use Rattle.world_members.specs.declared.sending.Answered.{Answered}
+use Rattle.world_places.specs.declared.sending.Answered.{Answered}
 use Rattle.world_members.specs.declared.world.World.{World}
-use Rattle.world_members.specs.Channels.{channel_at, message_on}
-use Rattle.world_members.specs.Keeping.{Given, KeepsAt, IsKept}
+use Rattle.world_places.specs.Channels.{channel_at, message_on}
+use Rattle.world_places.specs.Keeping.{Given, KeepsAt, IsKept}
 use Rattle.world_members.specs.Lines.{are_damaged}
-use Rattle.world_members.specs.Places.{item_at, seat_of, keeper_of}
+use Rattle.world_places.specs.Places.{item_at, seat_of, keeper_of}
 use Rattle.world_members.specs.Steps.{LeadsTo, Stays}
 use Rattle.model_members.specs.Script.{Playing, deliver}
 use Rattle.model_kinds.specs.declared.operation.Op.{Op}
 use Rattle.model_kinds.specs.declared.shown.Shown.{Shown}
-use Rattle.world_members.specs.Sending.{IsStepOnLinks}
+use Rattle.world_places.specs.Sending.{IsStepOnLinks}
+
+-- the event of what a member answered, unless memory was wanted
+abbrev pub IsToldAs : Head → Result Answered StepError → Event → Type 0
+IsToldAs head (Ok answered) event = event ≡ record { head = head; answer = answer.Reply answered.reply; sent = answered.sent; finished = answered.finished }
+IsToldAs head (Err HistoryFull) event = event ≡ record { head = head; answer = answer.HistoryFull; sent = []; finished = None }
+IsToldAs head (Err Memory) event = ⊥
 
 module _ {T K Kind Op Delta : Type 0} {ghosts : Ghosts T Kind Op Delta} {keeping : Keeping K} where
   -- all that tells of a world is the same

@@ -17,7 +17,7 @@ use Rattle.member_views.specs.Sound.{last_view}
 use Rattle.member_node.specs.declared.key.KeyState.{KeyState}
 use Rattle.member_node.specs.declared.node.Node.{Node}
 use Rattle.world_members.specs.declared.world.World.{World}
-use Rattle.world_members.specs.Places.{member_of}
+use Rattle.world_places.specs.Places.{member_of}
 use Rattle.world_members.specs.Ways.{IsPrefix, Means}
 
 module _ {T K Kind Op Delta : Type 0} {ghosts : Ghosts T Kind Op Delta} {keeping : Keeping K} where

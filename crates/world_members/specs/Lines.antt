@@ -1,5 +1,5 @@
 -- Which lines of the model's report events are.
-use Rattle.std.specs.Prelude.{◌≡◌, List, ◌∷◌, [], ◌++◌, map, length, Bool, true, false, Option, option_map}
+use Rattle.std.specs.Prelude.{◌≡◌, List, ◌∷◌, [], ◌++◌, map, Bool, true, false, Option, option_map}
 use Rattle.std.specs.List.{AllZip}
 use Rattle.model_kinds.specs.declared.operation.Op.{Op}
 use Rattle.model_kinds.specs.declared.shown.Shown.{Shown}
@@ -8,30 +8,13 @@ use Rattle.model_members.specs.Script as script
 use Rattle.model_members.specs.Script.{Told, Playing}
 use Rattle.member_node.specs.Members.{meant}
 use Rattle.member_node.specs.Operations.{finished_meant}
-use Rattle.member_messages.specs.declared.sketch.MessageKind.TheVariants as kind
-use Rattle.member_messages.specs.declared.sketch.Sketch.{Sketch}
 use Rattle.script_reading.specs.Meant.{ask_of}
 use Rattle.world_members.specs.declared.event.Head.{Head}
 use Rattle.world_members.specs.declared.event.Head.TheVariants as head
 use Rattle.world_members.specs.declared.event.Answer.{Answer}
 use Rattle.world_members.specs.declared.event.Answer.TheVariants as answer
-use Rattle.world_members.specs.declared.event.SentTo.{SentTo}
 use Rattle.world_members.specs.declared.event.Event.{Event}
-
--- what is printed of a message
-abbrev pub sketched : {Op : Type 0} → model.Message Op → Sketch
-sketched (model.Message.Deltas groups entries) = record { kind = kind.Deltas; first = length groups; second = length entries }
-sketched (model.Message.Nack keys) = record { kind = kind.Nack; first = length keys; second = 0 }
-sketched (model.Message.Status digests) = record { kind = kind.Status; first = length digests; second = 0 }
-sketched (model.Message.Gossip entries wants) = record { kind = kind.Gossip; first = length entries; second = length wants }
-sketched (model.Message.Write op key entry) = record { kind = kind.Write; first = 0; second = 0 }
-sketched (model.Message.WriteAck op) = record { kind = kind.WriteAck; first = 0; second = 0 }
-sketched (model.Message.WriteNack op) = record { kind = kind.WriteNack; first = 0; second = 0 }
-sketched (model.Message.Read op key) = record { kind = kind.Read; first = 0; second = 0 }
-sketched (model.Message.ReadAnswer op key entry) = record { kind = kind.ReadAnswer; first = 0; second = 0 }
-
-abbrev pub sketched_post : {Op : Type 0} → model.Post Op → SentTo
-sketched_post post = record { to = post.to; sketch = sketched post.message }
+use Rattle.world_places.specs.Sketched.{sketched, sketched_post}
 
 -- the model has no word for what is damaged
 abbrev pub IsAnswer : Answer → script.Answer Shown → Type 0

@@ -18,10 +18,10 @@ use Rattle.member_node.specs.Steps.{replication}
 use Rattle.world_members.specs.declared.event.Event.{Event}
 use Rattle.world_members.specs.declared.rounds.Due.{Due}
 use Rattle.world_members.specs.declared.world.World.{World}
-use Rattle.world_members.specs.Channels.{Channel, Channels, channel_at, next_on, count_on}
+use Rattle.world_places.specs.Channels.{Channel, Channels, channel_at, next_on, count_on}
 use Rattle.world_members.specs.Giving.{Does}
-use Rattle.world_members.specs.Keeping.{IsKept}
-use Rattle.world_members.specs.Places.{keeper_of}
+use Rattle.world_places.specs.Keeping.{IsKept}
+use Rattle.world_places.specs.Places.{keeper_of}
 use Rattle.world_members.specs.Steps.{Stops}
 
 module _ {M : Type 0} where

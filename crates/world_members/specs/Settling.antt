@@ -23,9 +23,9 @@ use Rattle.world_members.specs.declared.event.Answer.{Answer}
 use Rattle.world_members.specs.declared.event.Answer.TheVariants as answer
 use Rattle.world_members.specs.declared.event.Event.{Event}
 use Rattle.world_members.specs.declared.world.World.{World}
-use Rattle.world_members.specs.Keeping.{Given, KeepsAt, IsKept}
+use Rattle.world_places.specs.Keeping.{Given, KeepsAt, IsKept}
 use Rattle.world_members.specs.Lines.{IsLine}
-use Rattle.world_members.specs.Places.{keeper_of}
+use Rattle.world_places.specs.Places.{keeper_of}
 use Rattle.world_members.specs.Steps.{Foretells, HaveAnswered}
 use Rattle.world_members.specs.Ways.{IsPrefix, Means}
 

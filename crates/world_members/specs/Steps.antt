@@ -24,8 +24,8 @@ use Rattle.world_members.specs.declared.world.World.{World}
 use Rattle.world_members.specs.declared.start.StartError.{StartError}
 use Rattle.world_members.specs.declared.start.StartError.TheVariants.{ClearFailed, Memory}
 use Rattle.world_members.specs.Lines.{are_damaged, AreNextLines}
-use Rattle.world_members.specs.Places.{item_at, keeper_of}
-use Rattle.world_members.specs.Keeping.{Given, KeepsAt, IsKept, AreKept, IsNotCleared}
+use Rattle.world_places.specs.Places.{item_at, keeper_of}
+use Rattle.world_places.specs.Keeping.{Given, KeepsAt, IsKept, AreKept, IsNotCleared}
 use Rattle.world_members.specs.Ways.{IsPrefix, Means}
 
 -- THE KEEPERS' ANSWERS

@@ -24,8 +24,8 @@ use Rattle.theorem_sections.specs.Runs as runs
 use Rattle.world_members.specs.declared.client_line.ClientLine.{ClientLine}
 use Rattle.world_members.specs.declared.world.World.{World}
 use Rattle.world_members.specs.ClientLines.{IsClientLine}
-use Rattle.world_members.specs.Places.{keeper_of}
-use Rattle.world_members.specs.Keeping.{Given, KeepsAt, IsKept}
+use Rattle.world_places.specs.Places.{keeper_of}
+use Rattle.world_places.specs.Keeping.{Given, KeepsAt, IsKept}
 use Rattle.world_members.specs.Steps.{Foretells, HaveAnswered}
 use Rattle.world_members.specs.Ways.{Means}
 

@@ -1,9 +1,10 @@
-use crate::event::{Answer, Head, Sketches};
+use crate::event::{Answer, Head};
 use crate::world::World;
 use base_bytes::Items;
 use data_lattice::Replica;
 use member_keeper::Keeper;
 use member_node::Finished;
+use world_places::Sketches;
 
 /// How an operation ended that a client's command opened.
 #[derive(Drop)]

@@ -2,6 +2,7 @@ use base_bytes::{Items, Text};
 use base_vectors::Id;
 use member_node::{Finished, Reply, Sketch};
 use script_reading::Ask;
+use world_places::Sketches;
 
 /// What was done.
 #[derive(Drop)]
@@ -85,16 +86,6 @@ pub enum Answer {
     /// A member that was to agree has made as many steps as it may.
     Stopped,
 }
-
-/// A message that was sent: to whom, and what is printed of it.
-#[derive(Clone, Copy, Debug, PartialEq, Eq)]
-pub struct SentTo {
-    pub to: Id,
-    pub sketch: Sketch,
-}
-
-/// The messages that a step sent, in the order of their receivers.
-pub type Sketches = Items<SentTo>;
 
 /// One line of a report: what was done and what came of it, the messages that were sent, and the operation of the member that
 /// ended by it.

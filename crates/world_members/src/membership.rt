@@ -2,13 +2,12 @@ ghost use Rattle.std.specs.Prelude.{◌≡◌, ◌≢◌, ℕ, ◌<◌, true, []
 ghost use Rattle.model_members.specs.View.{is_member};
 ghost use Rattle.member_node.specs.Members.{AreDistinct};
 ghost use Rattle.member_views.specs.Sound.{last_view, AreViews};
-ghost use Rattle.world_members.specs.Places.{item_at, seat_of, keeper_of};
+ghost use Rattle.world_places.specs.Places.{item_at, seat_of, keeper_of};
 ghost use Rattle.world_members.specs.Reloading.{Reloads};
-ghost use Rattle.world_members.specs.Seating.{ActsAt, IsLeft, RefusesSeat, SeatsAnew};
+ghost use Rattle.world_places.specs.Seating.{ActsAt, IsLeft, RefusesSeat, SeatsAnew};
 ghost use Rattle.script_reading.specs.declared.script.Step.TheVariants as form;
 
 use crate::event::{Answer, Event, Head};
-use crate::start::{clear_at, seat};
 use crate::world::{World, line};
 use base_bytes::Memory;
 use base_vectors::Id;
@@ -18,6 +17,7 @@ use member_node::{KeyDecl, LoadError, Node};
 use member_views::{PLACES, View, ViewError, ViewList};
 use model_kinds::Op;
 use std::alloc::Global;
+use world_places::{clear_at, seat};
 
 impl<T: SpelledData<Op = Op>, K: Keeper + Drop> World<T, K> {
     ghost use Rattle.world_members.specs.Steps.{MakesStep};

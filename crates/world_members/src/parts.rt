@@ -1,10 +1,9 @@
 ghost use Rattle.std.specs.Prelude.{◌≡◌, ◌≢◌, ℕ, ◌<◌, ◌≤◌, length, map, vec_len, vec_capacity};
 ghost use Rattle.thread_machine.specs.Machines.{machine_at};
 ghost use Rattle.member_node.specs.Members.{AreDistinct};
-ghost use Rattle.world_members.specs.Parts.{ArePlaced};
-ghost use Rattle.world_members.specs.Places.{item_at};
+ghost use Rattle.world_places.specs.Parts.{ArePlaced};
+ghost use Rattle.world_places.specs.Places.{item_at};
 
-use crate::links::Links;
 use crate::world::World;
 use data_lattice::{Replica, SpelledData};
 use member_keeper::Keeper;
@@ -12,6 +11,7 @@ use member_node::{KeyDecl, Message, Node};
 use member_views::ViewList;
 use std::alloc::Global;
 use thread_machine::machines::Machines;
+use world_places::Links;
 
 /// What is left at the eight places once the members are taken out: the spare keepers, and room for the members and for
 /// all keepers.

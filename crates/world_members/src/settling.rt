@@ -6,7 +6,7 @@ ghost use Rattle.member_node.specs.Steps.{replication};
 ghost use Rattle.script_reading.specs.declared.script.Step.TheVariants as form;
 ghost use Rattle.member_views.specs.Sound.{last_view};
 ghost use Rattle.world_members.specs.declared.event.Answer.TheVariants as answer;
-ghost use Rattle.world_members.specs.Places.{member_of};
+ghost use Rattle.world_places.specs.Places.{member_of};
 ghost use Rattle.world_members.specs.Settling.{met_full, sent_in, blocked_in, last_blocked, is_behind, installs, SettlesOr};
 ghost use Rattle.world_members.specs.Steps.{MakesStep};
 

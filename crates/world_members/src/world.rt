@@ -2,14 +2,13 @@ ghost use Rattle.std.specs.Prelude.{◌≡◌, ◌+◌, ◌<◌, ◌≤◌, ◌+
 ghost use Rattle.member_node.specs.Members.{AreDistinct};
 ghost use Rattle.member_views.specs.Sound.{last_view};
 ghost use Rattle.world_members.specs.declared.event.Head.TheVariants as head;
-ghost use Rattle.world_members.specs.Channels.{channel_at, message_on};
-ghost use Rattle.world_members.specs.Keeping.{AreSeated};
-ghost use Rattle.world_members.specs.Places.{item_at, seat_of, first_keeper, keepers_of};
+ghost use Rattle.world_places.specs.Channels.{channel_at, message_on};
+ghost use Rattle.world_places.specs.Keeping.{AreSeated};
+ghost use Rattle.world_places.specs.Places.{item_at, seat_of, first_keeper, keepers_of};
 
 use crate::event::{Answer, Event, Head};
-use crate::links::Links;
-use crate::sending::{event_of, step_on, take_on};
-use crate::start::{FirstParts, StartError, clear_all, first_parts, put_by, refusal, seat_first};
+use crate::outcomes::event_of;
+use crate::start::{StartError, refusal};
 use base_bytes::{Items, Memory};
 use base_vectors::Id;
 use data_lattice::{Replica, SpelledData};
@@ -18,6 +17,9 @@ use member_node::{Input, KeyDecl, Message, Node};
 use member_views::ViewList;
 use model_kinds::Op;
 use std::alloc::Global;
+use world_places::{
+    FirstParts, Links, clear_all, first_parts, put_by, seat_first, step_on, take_on,
+};
 
 /// Members at places 0 to 7, spare keepers at the places that have none, the views so far, and the links between all
 /// identities.
@@ -39,7 +41,7 @@ pub struct World<T: Replica, K: Keeper> {
 }
 
 impl<T: SpelledData, K: Keeper + Drop> World<T, K> {
-    ghost use Rattle.world_members.specs.Places.{member_of, keepers_of};
+    ghost use Rattle.world_places.specs.Places.{member_of, keepers_of};
     ghost use Rattle.world_members.specs.Steps.{Starts, RefusesStart};
 
     /// From 1 to 8 members, 0 and up, each at the place of its number with these keys and no record; and no message. Each of

@@ -1,7 +1,7 @@
 use Rattle.std.proofs.Common.{◌≡◌, ◌++◌, sym, subst, string_bytes}
 use Rattle.std.specs.Prelude.{OnOk}
 use Rattle.member_node.specs.Members.{delta_groups}
-use Rattle.world_members.specs.Standing.{StandsForRunning}
+use Rattle.world_places.specs.Standing.{StandsForRunning}
 use Rattle.report_lines.proofs.FinalBlocks.{running_told}
 use Rattle.report_lines.proofs.members.push_seat.Goals as goal
 

@@ -1,5 +1,5 @@
 use Rattle.std.proofs.Common.{◌≡◌, map, take}
-use Rattle.world_members.specs.Sending.{told_of}
+use Rattle.world_places.specs.Sending.{told_of}
 use Rattle.thread_clients.proofs.telling.sketches.Given as goal
 
 abbrev pub invariant-loop-post : goal.invariant-loop-post

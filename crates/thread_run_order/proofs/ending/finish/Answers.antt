@@ -1,6 +1,6 @@
 use Rattle.std.proofs.Common.{◌∙◌, subst}
 use Rattle.thread_cell.specs.Entries.{history_at}
-use Rattle.world_members.proofs.Seats.{last_sound}
+use Rattle.world_places.proofs.Seats.{last_sound}
 use Rattle.thread_run_order.specs.Finishing.{ArePassed}
 use Rattle.thread_run_order.proofs.Finishing.{ok_there}
 use Rattle.thread_run_order.proofs.Left.{left_of, keepers_left}

@@ -1,6 +1,6 @@
 use Rattle.std.proofs.Common.{◌∙◌, ap, subst}
 use Rattle.member_views.specs.Sound.{IsView, AreViews, last_view}
-use Rattle.world_members.proofs.Seats.{last_sound}
+use Rattle.world_places.proofs.Seats.{last_sound}
 use Rattle.thread_run_order.proofs.Together.{one_run}
 use Rattle.thread_run_order.proofs.laws.a_section_is_one_run.Goals as goal
 

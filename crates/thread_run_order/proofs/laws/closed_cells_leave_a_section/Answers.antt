@@ -1,6 +1,6 @@
 use Rattle.std.proofs.Common.{◌∙◌, subst}
 use Rattle.member_views.specs.Sound.{AreViews}
-use Rattle.world_members.proofs.Seats.{last_sound}
+use Rattle.world_places.proofs.Seats.{last_sound}
 use Rattle.thread_run_order.proofs.Closing.{closed_section}
 use Rattle.thread_run_order.proofs.Places.{none_past}
 use Rattle.thread_run_order.proofs.laws.closed_cells_leave_a_section.Goals as goal

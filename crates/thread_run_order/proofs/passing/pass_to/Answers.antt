@@ -1,6 +1,6 @@
 use Rattle.std.proofs.Common.{◌<◌, ◌≤◌, length, arith, subst, ap}
 use Rattle.model_members.specs.View.{Member}
-use Rattle.world_members.specs.Channels.{ChangesOne}
+use Rattle.world_places.specs.Channels.{ChangesOne}
 use Rattle.thread_run_order.specs.Section.{taken_from}
 use Rattle.thread_run_order.specs.Finishing.{after_taken}
 use Rattle.thread_run_order.proofs.Finishing.{passed_none, passed_first, passed_more, passed_whole, read_at}

@@ -2,7 +2,7 @@ use Rattle.std.proofs.Common.{◌≡◌, ◌∙◌, subst, List}
 use Rattle.std.proofs.lemmas.Iterator.Adapters.{YieldsList-from_vec}
 use Rattle.std.proofs.lemmas.Iterator.Consumers.{YieldsList-end}
 use Rattle.member_messages.specs.declared.message.Post.{Post}
-use Rattle.world_members.specs.Sending.{Sends}
+use Rattle.world_places.specs.Sending.{Sends}
 use Rattle.model_kinds.specs.declared.operation.Op.{Op}
 use Rattle.thread_run_order.proofs.Finishing.{sends_none, sends_more, all_yielded}
 use Rattle.thread_run_order.proofs.posting.post_all.Goals as goal

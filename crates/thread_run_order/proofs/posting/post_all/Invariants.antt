@@ -1,4 +1,4 @@
-use Rattle.world_members.specs.Sending.{Sends}
+use Rattle.world_places.specs.Sending.{Sends}
 use Rattle.thread_run_order.proofs.posting.post_all.Given as goal
 
 abbrev pub invariant-loop-post : goal.invariant-loop-post

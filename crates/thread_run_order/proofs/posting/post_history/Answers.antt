@@ -1,7 +1,7 @@
 use Rattle.std.proofs.Common.{◌≡◌, ◌∙◌, subst, List, Some}
 use Rattle.std.proofs.lemmas.Iterator.Adapters.{YieldsList-from_vec}
 use Rattle.std.proofs.lemmas.Iterator.Consumers.{YieldsList-end}
-use Rattle.world_members.specs.Sending.{Sends}
+use Rattle.world_places.specs.Sending.{Sends}
 use Rattle.thread_run_order.specs.Images.{EntryOf}
 use Rattle.thread_run_order.specs.Finishing.{IsSent}
 use Rattle.thread_run_order.proofs.Finishing.{sent_none, sent_more, all_yielded}

@@ -2,7 +2,7 @@ use Rattle.std.proofs.Common.{◌∙◌, sym, ap, subst, map}
 use Rattle.std.specs.Prelude.{slice_get}
 use Rattle.member_node.specs.Members.{AreDistinct}
 use Rattle.thread_machine.specs.Machines.{machine_at}
-use Rattle.world_members.specs.Places.{item_at, first_keeper}
+use Rattle.world_places.specs.Places.{item_at, first_keeper}
 use Rattle.thread_section.proofs.Running.{world_back}
 use Rattle.thread_section.proofs.giving.keepers_of.Goals as goal
 

@@ -1,7 +1,7 @@
 use Rattle.std.proofs.Common.{◌≡◌, ◌∙◌, ◌+◌, Some, refl, ap, sym, subst, arith, vec_len}
 use Rattle.std.specs.Prelude.{vec_capacity}
 use Rattle.std.specs.List.{All}
-use Rattle.world_members.specs.Parts.{ArePlaced}
+use Rattle.world_places.specs.Parts.{ArePlaced}
 use Rattle.thread_clients.proofs.Beside.{reserved}
 use Rattle.thread_section.specs.Places.{AreIdentities}
 use Rattle.thread_section.proofs.Beginning.{apart_of, are_new, as_many, all_as_begun, back_many, all_in_table, all_opened, have_done, done_same, played_back}

@@ -1,7 +1,7 @@
 use Rattle.std.proofs.Common.{◌∙◌, ap, sym, subst, map}
 use Rattle.member_node.specs.Members.{AreDistinct}
 use Rattle.thread_machine.specs.Machines.{machine_at}
-use Rattle.world_members.specs.Parts.{ArePlaced}
+use Rattle.world_places.specs.Parts.{ArePlaced}
 use Rattle.thread_section.proofs.Beginning.{placed_of, back_as_before, made_of}
 use Rattle.thread_section.proofs.playing.play_section.Goals as goal
 

@@ -1,6 +1,6 @@
 use Rattle.std.proofs.Common.{sym, subst}
 use Rattle.model_traces.specs.Runs.{of_node}
-use Rattle.world_members.specs.Standing.{StandsForRunning}
+use Rattle.world_places.specs.Standing.{StandsForRunning}
 use Rattle.trace_entries.specs.Seeing.{Sees, looked_at}
 use Rattle.trace_entries.proofs.SeenLines.{on_ok, sees_nothing}
 use Rattle.trace_members.proofs.members.see_seat.Goals as goal

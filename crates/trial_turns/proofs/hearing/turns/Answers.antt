@@ -1,5 +1,5 @@
 use Rattle.std.proofs.Common.{ap, sym, subst}
-use Rattle.world_members.specs.Parts.{ArePlaced}
+use Rattle.world_places.specs.Parts.{ArePlaced}
 use Rattle.thread_section.proofs.Beginning.{placed_of}
 use Rattle.trial_turns.proofs.hearing.turns.Goals as goal
 

@@ -1,5 +1,5 @@
 use Rattle.member_views.specs.Sound.{last_view}
-use Rattle.world_members.specs.Places.{identity_at}
+use Rattle.world_places.specs.Places.{identity_at}
 use Rattle.trial_turns.proofs.hearing.turns.Given as goal
 
 -- the table that was just made, and the members of the last view

@@ -1,6 +1,6 @@
 use Rattle.std.proofs.Common.{sym, subst}
 use Rattle.member_views.specs.Sound.{IsView}
-use Rattle.world_members.proofs.Seats.{few_seat, last_sound}
+use Rattle.world_places.proofs.Seats.{few_seat, last_sound}
 use Rattle.world_members.proofs.membership.place_in.Goals as goal
 
 pub returns-clause-within : goal.returns-clause-within

@@ -1,7 +1,7 @@
 use Rattle.std.proofs.Common.{arith, sym, subst, ◌∙◌, inl, Err, Ok, None}
 use Rattle.member_node.proofs.Standing.{becomes_same, back_same}
 use Rattle.world_members.specs.Reloading.{Reloads}
-use Rattle.world_members.proofs.Seats.{acts_at, acts_nowhere, acts_same}
+use Rattle.world_places.proofs.Seats.{acts_at, acts_nowhere, acts_same}
 use Rattle.world_members.proofs.membership.reload.Goals as goal
 
 pub returns-in-Err-clause-reloads : goal.returns-in-Err-clause-reloads

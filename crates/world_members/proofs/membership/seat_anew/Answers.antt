@@ -1,4 +1,4 @@
-use Rattle.world_members.proofs.Seats.{seats_anew}
+use Rattle.world_places.proofs.Seats.{seats_anew}
 use Rattle.world_members.proofs.membership.seat_anew.Goals as goal
 
 pub returns-in-Ok-clause-seats : goal.returns-in-Ok-clause-seats

@@ -1,5 +1,5 @@
 use Rattle.std.proofs.Common.{arith, sym, ◌∙◌}
-use Rattle.world_members.proofs.Seats.{left_at}
+use Rattle.world_places.proofs.Seats.{left_at}
 use Rattle.world_members.proofs.membership.stop.Goals as goal
 
 pub returns-in-Some-clause-left : goal.returns-in-Some-clause-left

@@ -2,7 +2,7 @@ use Rattle.std.proofs.Common.{◌≡◌, length}
 use Rattle.std.proofs.lemmas.Iterator.{YieldsList-from_zip}
 use Rattle.std.proofs.lemmas.Iterator.Adapters.{YieldsList-from_vec}
 use Rattle.std.proofs.lemmas.Iterator.Consumers.{YieldsList-end}
-use Rattle.world_members.proofs.Starting.{one_gathered, all_gathered}
+use Rattle.world_places.proofs.Starting.{one_gathered, all_gathered}
 use Rattle.world_members.proofs.world.gathered.Goals as goal
 
 pub loop-node-preserved : goal.loop-node-preserved

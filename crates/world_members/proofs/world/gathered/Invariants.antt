@@ -1,4 +1,4 @@
-use Rattle.world_members.proofs.Starting.{AreGathered}
+use Rattle.world_places.proofs.Starting.{AreGathered}
 use Rattle.world_members.proofs.world.gathered.Given as goal
 
 abbrev pub invariant-loop-node : goal.invariant-loop-node

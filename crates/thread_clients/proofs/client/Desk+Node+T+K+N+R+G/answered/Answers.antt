@@ -1,5 +1,5 @@
 use Rattle.std.proofs.Common.{◌∙◌, refl, ap, map}
-use Rattle.world_members.specs.Sending.{told_of}
+use Rattle.world_places.specs.Sending.{told_of}
 use Rattle.world_members.specs.declared.event.Head.TheVariants.{Asked}
 use Rattle.thread_cluster.proofs.Lists.{on_err_always}
 use Rattle.thread_cluster.proofs.Growing.{goes_on_self}

@@ -2,7 +2,7 @@ use Rattle.std.proofs.Common.{rules}
 use Rattle.std.specs.Prelude.{is_some}
 use Rattle.std.proofs.lemmas.Fn.{filter_same}
 use Rattle.member_views.specs.Sound.{last_view}
-use Rattle.world_members.specs.Places.{member_of}
+use Rattle.world_places.specs.Places.{member_of}
 use Rattle.world_desks.specs.declared.seats.Seat.{Seat}
 use Rattle.world_desks.proofs.Notified.{ends_with_members}
 use Rattle.world_desks.proofs.desks.Desks.end_with_members.Goals as goal

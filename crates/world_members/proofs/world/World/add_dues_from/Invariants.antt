@@ -1,7 +1,7 @@
 use Rattle.std.proofs.Common.{◌≡◌, ◌++◌, map, take}
 use Rattle.std.specs.Prelude.{flat_map}
 use Rattle.model_members.specs.View.{Member}
-use Rattle.world_members.specs.Channels.{channel_at}
+use Rattle.world_places.specs.Channels.{channel_at}
 use Rattle.world_members.specs.Rounds.{due_between}
 use Rattle.world_members.proofs.world.World.add_dues_from.Given as goal
 

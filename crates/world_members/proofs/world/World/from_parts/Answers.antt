@@ -1,5 +1,5 @@
 use Rattle.std.proofs.Common.{◌∙◌, sym, ◌≡◌, vec_len}
-use Rattle.world_members.proofs.Seats.{all_put, are_seated}
+use Rattle.world_places.proofs.Seats.{all_put, are_seated}
 use Rattle.world_members.proofs.world.World.from_parts.Goals as goal
 
 pub returns-clause-members : goal.returns-clause-members

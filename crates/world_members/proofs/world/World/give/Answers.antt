@@ -1,6 +1,6 @@
 use Rattle.std.proofs.Common.{refl}
 use Rattle.world_members.specs.Giving.{ChangesAt, gone}
-use Rattle.world_members.proofs.Seats.{same_id, same_limit}
+use Rattle.world_places.proofs.Seats.{same_id, same_limit}
 use Rattle.world_members.proofs.Answering.{match_each, never_none, was_there, still_seated, outcome_gives, outcome_refuses}
 use Rattle.world_members.proofs.world.World.give.Goals as goal
 

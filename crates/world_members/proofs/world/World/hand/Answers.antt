@@ -1,9 +1,9 @@
 use Rattle.std.proofs.Common.{refl}
 use Rattle.member_node.specs.declared.input.Input.TheVariants as input
-use Rattle.world_members.specs.Channels.{channel_at, message_on}
+use Rattle.world_places.specs.Channels.{channel_at, message_on}
 use Rattle.world_members.specs.Giving.{ChangesAt, gone}
-use Rattle.world_members.proofs.Seats.{same_id, same_limit}
-use Rattle.world_members.proofs.Lists.{some_there}
+use Rattle.world_places.proofs.Seats.{same_id, same_limit}
+use Rattle.world_places.proofs.Lists.{some_there}
 use Rattle.world_members.proofs.Answering.{match_each, never_none, was_there, still_seated, outcome_gives, outcome_refuses, taken_so}
 use Rattle.world_members.proofs.world.World.hand.Goals as goal
 

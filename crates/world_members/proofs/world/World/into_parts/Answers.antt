@@ -3,7 +3,7 @@ use Rattle.member_node.specs.declared.input.Input.{Input}
 use Rattle.member_node.specs.declared.reply.Fate.{Fate}
 use Rattle.member_node.specs.declared.reply.Output.{Output}
 use Rattle.member_node.specs.declared.reply.StepError.{StepError}
-use Rattle.world_members.proofs.Seats.{all_taken}
+use Rattle.world_places.proofs.Seats.{all_taken}
 use Rattle.world_members.proofs.world.World.into_parts.Goals as goal
 
 pub returns-clause-members : goal.returns-clause-members

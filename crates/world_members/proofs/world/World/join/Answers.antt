@@ -3,9 +3,9 @@ use Rattle.model_members.specs.View.{with_joined}
 use Rattle.member_views.specs.Sound.{last_view}
 use Rattle.member_views.specs.Changes.{RefusesJoin}
 use Rattle.member_keeper.specs.declared.keeper.KeeperError.TheVariants.{Failed, Memory}
-use Rattle.world_members.specs.Keeping.{AreSeated}
-use Rattle.world_members.specs.Seating.{ActsAt, RefusesSeat}
-use Rattle.world_members.proofs.Seats.{undone_is, two_now, sound_before}
+use Rattle.world_places.specs.Keeping.{AreSeated}
+use Rattle.world_places.specs.Seating.{ActsAt, RefusesSeat}
+use Rattle.world_places.proofs.Seats.{undone_is, two_now, sound_before}
 use Rattle.world_members.proofs.Joining.{plays_taken, plays_many, plays_failed, remains_join, seated_spared, plays_anew, seated_joined, anew_as, joined_last, is_next_view, spare_there, free_there}
 use Rattle.world_members.proofs.world.World.join.Goals as goal
 

@@ -1,6 +1,6 @@
 use Rattle.std.proofs.Common.{◌<◌, ◌≤◌, refl, arith}
 use Rattle.model_history.specs.Table.{identity_limit}
-use Rattle.world_members.specs.Channels.{channel_at, count_on}
+use Rattle.world_places.specs.Channels.{channel_at, count_on}
 use Rattle.world_members.proofs.Steps.{plays_lost, plays_none}
 use Rattle.world_members.proofs.world.World.lose.Goals as goal
 

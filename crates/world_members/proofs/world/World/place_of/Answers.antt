@@ -1,6 +1,6 @@
 use Rattle.std.proofs.Common.{◌∙◌, sym, ap, arith, Some}
 use Rattle.member_views.specs.Sound.{last_view}
-use Rattle.world_members.proofs.Seats.{few_places, seat_found, last_sound, never_empty}
+use Rattle.world_places.proofs.Seats.{few_places, seat_found, last_sound, never_empty}
 use Rattle.world_members.proofs.world.World.place_of.Goals as goal
 
 pub returns : goal.returns

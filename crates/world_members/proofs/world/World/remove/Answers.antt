@@ -1,10 +1,10 @@
 use Rattle.std.proofs.Common.{refl, sym, subst, ◌∙◌}
 use Rattle.member_views.specs.Sound.{last_view}
 use Rattle.member_views.specs.Changes.{RefusesRemoval}
-use Rattle.world_members.specs.Keeping.{AreSeated}
-use Rattle.world_members.proofs.Starting.{none_of}
+use Rattle.world_places.specs.Keeping.{AreSeated}
+use Rattle.world_places.proofs.Starting.{none_of}
 use Rattle.world_members.proofs.Standings.{same_itself}
-use Rattle.world_members.proofs.Seats.{last_sound}
+use Rattle.world_places.proofs.Seats.{last_sound}
 use Rattle.world_members.proofs.Removing.{plays_removed, plays_gone, plays_last, seated_after, some_keeper}
 use Rattle.world_members.proofs.world.World.remove.Goals as goal
 

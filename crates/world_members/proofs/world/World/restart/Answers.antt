@@ -3,9 +3,9 @@ use Rattle.std.specs.Prelude.{Ok, Err}
 use Rattle.model_members.specs.View.{with_replaced}
 use Rattle.member_views.specs.Sound.{last_view}
 use Rattle.member_views.specs.Changes.{RefusesReplacement}
-use Rattle.world_members.specs.Keeping.{AreSeated}
-use Rattle.world_members.proofs.Starting.{none_of}
-use Rattle.world_members.proofs.Seats.{last_sound, undone_is}
+use Rattle.world_places.specs.Keeping.{AreSeated}
+use Rattle.world_places.proofs.Starting.{none_of}
+use Rattle.world_places.proofs.Seats.{last_sound, undone_is}
 use Rattle.world_members.proofs.Joining.{is_next_view, joined_last}
 use Rattle.world_members.proofs.Restarting.{member_there, seated_replaced, seated_back, plays_restarted, plays_gone, plays_many, remains_restart, then_there, came_back, same_id, same_limit, plays_back}
 use Rattle.world_members.proofs.world.World.restart.Goals as goal

@@ -4,7 +4,7 @@ use Rattle.std.proofs.lemmas.Bool.{eqb-true}
 use Rattle.std.proofs.lemmas.List.{take_all, nil_from_length}
 use Rattle.world_members.specs.declared.event.Event.{Event}
 use Rattle.world_members.specs.declared.rounds.Due.{Due}
-use Rattle.world_members.proofs.Seats.{last_sound}
+use Rattle.world_places.proofs.Seats.{last_sound}
 use Rattle.world_members.proofs.Rounding.{none_turned, one_turned, halts_turn, plays_nothing, plays_round, remains_round, remains_still, some_count}
 use Rattle.world_members.proofs.Answering.{match_err}
 use Rattle.world_members.proofs.world.World.round.Goals as goal

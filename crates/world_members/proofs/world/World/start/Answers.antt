@@ -2,10 +2,11 @@ use Rattle.std.proofs.Common.{arith, refl, sym, ap, subst, ◌∙◌, map}
 use Rattle.std.specs.Prelude.{is_some}
 use Rattle.std.proofs.lemmas.List.{nil_from_length}
 use Rattle.member_node.specs.Members.{AreDistinct}
-use Rattle.world_members.specs.Keeping.{AreSeated}
-use Rattle.world_members.specs.Places.{item_at}
-use Rattle.world_members.specs.Seating.{AreFirstSeats}
-use Rattle.world_members.proofs.Starting.{none_refused, item_of_all, some_within, cleared_kept, come_back, seats_first, starts}
+use Rattle.world_places.specs.Keeping.{AreSeated}
+use Rattle.world_places.specs.Places.{item_at}
+use Rattle.world_places.specs.Seating.{AreFirstSeats}
+use Rattle.world_members.proofs.Starting.{starts}
+use Rattle.world_places.proofs.Starting.{none_refused, item_of_all, some_within, cleared_kept, come_back, seats_first}
 use Rattle.world_members.proofs.world.World.start.Goals as goal
 
 pub returns-in-Err : goal.returns-in-Err

@@ -1,5 +1,0 @@
-use Rattle.world_members.proofs.Sendings.{IsSentSoFar, IsToldSoFar}
-use Rattle.world_members.proofs.sending.send.Given as goal
-
-abbrev pub invariant-loop-post : goal.invariant-loop-post
-invariant-loop-post g l = record { row : IsSentSoFar l.initial.row l.yielded l.row; told : IsToldSoFar l.initial.sent l.yielded l.sent }

@@ -1,5 +1,0 @@
-use Rattle.world_members.proofs.Starting.{AreClearedBelow}
-use Rattle.world_members.proofs.start.clear_all.Given as goal
-
-abbrev pub invariant-loop-place : goal.invariant-loop-place
-invariant-loop-place g l = AreClearedBelow g.K.Keeper l.place l.initial.keepers.items l.keepers.items

@@ -1,0 +1,9 @@
+pub mod Lists
+pub mod Made
+pub mod Sendings
+pub mod FewSent
+pub mod Storing
+pub mod StoredNames
+pub mod Starting
+pub mod Seats
+pub mod Linking
