@@ -1,17 +1,20 @@
 -- Reading dots or elements one after the other, as loops do.
-use Rattle.std.proofs.Common.{◌≡◌, ℕ, zero, suc, length, get_or, ◌-◌, ◌+◌, ◌≤◌, ◌<◌, List, [], ◌∷◌, ◌++◌, Option, None, Some, Result, Ok, Err, refl, sym, ap, subst, ◌∙◌, append_assoc, arith}
-use Rattle.std.proofs.lemmas.List.{append-nil}
-use Rattle.std.specs.List.{last_or}
+use Rattle.std.proofs.Common.{◌≡◌, ℕ, suc, ◌-◌, ◌+◌, ◌≤◌, ◌<◌, List, [], ◌∷◌, ◌++◌, Option, None, Some, Result, Ok, Err, refl, sym, ap, subst, ◌∙◌, append_assoc, arith, map, ◌^◌}
+use Rattle.std.proofs.lemmas.List.{append-nil, map-append}
+use Rattle.std.proofs.lemmas.Grind.{flat_map-append}
+use Rattle.std.specs.List.{flat_map, last_or}
 use Rattle.model_history.specs.Texts.{Text}
 use Rattle.model_history.specs.Vector.{IdentitySet}
 use Rattle.base_bytes.specs.declared.fault.Fault.{Fault}
 use Rattle.base_bytes.specs.declared.fault.FieldError.{FieldError}
 use Rattle.base_bytes.specs.declared.fault.FieldError.TheVariants as error
-use Rattle.base_bytes.specs.Fields.{◌>>=◌, Fails}
+use Rattle.base_bytes.specs.Fields.{◌>>=◌, Fails, text_in}
+use Rattle.base_vectors.specs.Fields.{positive_in}
 use Rattle.base_vectors.specs.declared.id.Dot.{Dot}
-use Rattle.data_orset.specs.declared.element.Element.{Element}
-use Rattle.data_orset.specs.Elements.{texts_in}
-use Rattle.data_orset.specs.Reading.{dot_in, dots_in, element_in, elements_in}
+use Rattle.data_orset.specs.Placing.{Placed, at_dot}
+use Rattle.data_orset.specs.Keeping.{set_of}
+use Rattle.data_orset.specs.Elements.{Element, placed_of, set_of_elements, texts_in}
+use Rattle.data_orset.specs.Reading.{dot_in, dots_in, element_in, elements_in, listed_in, set_in}
 
 -- what was read before, and what is still read
 abbrev pub with_front : {X : Type 0} → List X → Result (List X × List ℕ) Fault → Result (List X × List ℕ) Fault
@@ -38,7 +41,8 @@ fails_then : {A B : Type 0} (e : FieldError) (r : Result A Fault) (f : A → Res
 fails_then error.Memory r f h = tt
 fails_then {A} (error.Fault d) r f h = ap (λ (x : Result A Fault). x >>= f) h
 
--- DOTS
+goes_to : {A B : Type 0} (r : Result A Fault) (x : A) (f : A → Result B Fault) → r ≡ Ok x → (r >>= f) ≡ f x
+goes_to {A} r x f is = ap (λ (s : Result A Fault). s >>= f) is
 
 module _ (barred : IdentitySet) (front : List Dot) (count i origin seq : ℕ) (bytes : List ℕ) (total : Result (List Dot × List ℕ) Fault) where
   pub dots_go_on : (n : Dot) (after : List ℕ) → i < count → dot_in barred origin seq bytes ≡ Ok (n, after)
@@ -63,7 +67,10 @@ module _ (barred : IdentitySet) (front : List Dot) (count i origin seq : ℕ) (b
       let k : count - i ≡ 0 = omega arith in
       is_done front bytes (dots_in barred (count - i) origin seq bytes) total (ap (λ m. dots_in barred m origin seq bytes) k)
 
--- ELEMENTS
+-- one more dot of an element behind those that are placed
+pub placed_more : (old all more : List Placed) (text : Text) (front : List Dot) (d : Dot) → more ≡ all ++ at_dot d text ∷ [] → all ≡ old ++ map (λ e. at_dot e text) front → more ≡ old ++ map (λ e. at_dot e text) (front ++ d ∷ [])
+placed_more old all more text front d is so_far =
+    is ∙ ap (λ (ps : List Placed). ps ++ at_dot d text ∷ []) so_far ∙ append_assoc old (map (λ e. at_dot e text) front) (at_dot d text ∷ []) ∙ ap (λ (ps : List Placed). old ++ ps) (sym (map-append (λ (e : Dot). at_dot e text) front (d ∷ [])))
 
 last_more : {X : Type 0} (o : Option X) (xs : List X) (x : X) → last_or o (xs ++ x ∷ []) ≡ Some x
 last_more o [] x = refl
@@ -73,21 +80,37 @@ texts_push : (xs : List Element) (x : Element) → texts_in (xs ++ x ∷ []) ≡
 texts_push [] x = refl
 texts_push (y ∷ xs) x = ap (λ es. y.text ∷ es) (texts_push xs x)
 
+-- the text, the number of its dots and these, as an element
+abbrev as_element : Text → List Dot × List ℕ → Result (Element × List ℕ) Fault
+as_element text x = Ok (record { text = text; dots = x.0 }, x.1)
+
+abbrev after_count : IdentitySet → Text → ℕ × List ℕ → Result (Element × List ℕ) Fault
+after_count barred text x = dots_in barred x.0 0 0 x.1 >>= as_element text
+
+abbrev after_text : IdentitySet → Text × List ℕ → Result (Element × List ℕ) Fault
+after_text barred x = positive_in (2 ^ 64 - 1) x.1 >>= after_count barred x.0
+
+pub element_read : (barred : IdentitySet) (before : Option Text) (bytes : List ℕ) (text : Text) (behind : List ℕ) (count : ℕ) (rest : List ℕ) (x : List Dot × List ℕ)
+    → text_in before bytes ≡ Ok (text, behind) → positive_in (2 ^ 64 - 1) behind ≡ Ok (count, rest) → dots_in barred count 0 0 rest ≡ Ok x
+    → element_in barred before bytes ≡ Ok (record { text = text; dots = x.0 }, x.1)
+unfolding element_in
+element_read barred before bytes text behind count rest x texts counts dots =
+    goes_to (text_in before bytes) (text, behind) (after_text barred) texts
+    ∙ goes_to (positive_in (2 ^ 64 - 1) behind) (count, rest) (after_count barred text) counts
+    ∙ goes_to (dots_in barred count 0 0 rest) x (as_element text) dots
+
+pub set_read : (barred : IdentitySet) (bytes : List ℕ) (x : List Element × List ℕ) (dots : List Placed) (rest : List ℕ) → listed_in barred bytes ≡ Ok x → ◌≡◌ {A = List Placed × List ℕ} (dots, rest) (flat_map placed_of x.0, x.1) → set_in barred bytes ≡ Ok (set_of dots, rest)
+unfolding set_in
+set_read barred bytes x dots rest is same =
+    goes_to (listed_in barred bytes) x (λ y. Ok (set_of_elements y.0, y.1)) is
+    ∙ ap (λ (p : List Placed × List ℕ). Ok (set_of p.0, p.1)) (sym same)
+
 -- the text of the last element
 abbrev pub last_of : List Element → Option Text
 last_of xs = last_or None (texts_in xs)
 
 last_push : (xs : List Element) (x : Element) → last_of (xs ++ x ∷ []) ≡ Some x.text
 last_push xs x = ap (last_or None) (texts_push xs x) ∙ last_more None (texts_in xs) x.text
-
-last_at : (o : Option Text) (xs : List Element) (x : Element) (k : ℕ) → k + 1 ≡ length xs → x ≡ get_or xs k x → Some x.text ≡ last_or o (texts_in xs)
-last_at o [] x k e at = absurd (omega arith)
-last_at o (y ∷ []) x zero e at = ap (λ (z : Element). Some z.text) at
-last_at o (y ∷ z ∷ xs) x zero e at = absurd (omega arith)
-last_at o (y ∷ xs) x (suc k) e at = last_at (Some y.text) xs x k (omega arith) at
-
-pub the_last : (xs : List Element) (x : Element) → 1 ≤ length xs → x ≡ get_or xs (length xs - 1) x → Some x.text ≡ last_of xs
-the_last xs x some at = last_at None xs x (length xs - 1) (omega arith) at
 
 module _ (barred : IdentitySet) (front : List Element) (count i : ℕ) (bytes : List ℕ) (total : Result (List Element × List ℕ) Fault) where
   pub elements_go_on : (n : Element) (after : List ℕ) → i < count → element_in barred (last_of front) bytes ≡ Ok (n, after)
@@ -111,3 +134,18 @@ module _ (barred : IdentitySet) (front : List Element) (count i : ℕ) (bytes : 
   elements_done le =
       let k : count - i ≡ 0 = omega arith in
       is_done front bytes (elements_in barred (count - i) (last_of front) bytes) total (ap (λ m. elements_in barred m (last_of front) bytes) k)
+
+  pub elements_step : (before : Option Text) (x : Element × List ℕ) (text : Text) (after : List ℕ) → i < count → element_in barred before bytes ≡ Ok x → before ≡ last_of front → ◌≡◌ {A = Text × List ℕ} (text, after) (x.0.text, x.1)
+      → with_front front (elements_in barred (count - i) (last_of front) bytes) ≡ total → with_front (front ++ x.0 ∷ []) (elements_in barred (count - (i + 1)) (last_of (front ++ x.0 ∷ [])) after) ≡ total
+  elements_step before x text after lt is last same so_far =
+      subst (λ a. with_front (front ++ x.0 ∷ []) (elements_in barred (count - (i + 1)) (last_of (front ++ x.0 ∷ [])) a) ≡ total) (sym (ap (λ (p : Text × List ℕ). p.1) same))
+      (elements_go_on x.0 x.1 lt (ap (λ (o : Option Text). element_in barred o bytes) (sym last) ∙ is) so_far)
+
+-- the last text, and the dots, of one more element
+pub last_step : (front : List Element) (x : Element × List ℕ) (text : Text) (after : List ℕ) → ◌≡◌ {A = Text × List ℕ} (text, after) (x.0.text, x.1) → Some text ≡ last_of (front ++ x.0 ∷ [])
+last_step front x text after same = ap (λ (p : Text × List ℕ). Some p.0) same ∙ sym (last_push front x.0)
+
+pub dots_step : (front : List Element) (x : Element) (all more : List Placed) → all ≡ flat_map placed_of front → more ≡ all ++ placed_of x → more ≡ flat_map placed_of (front ++ x ∷ [])
+dots_step front x all more so_far is =
+    is ∙ ap (λ (ps : List Placed). ps ++ placed_of x) so_far
+    ∙ sym (flat_map-append placed_of front (x ∷ []) ∙ ap (λ (ps : List Placed). flat_map placed_of front ++ ps) (append-nil (placed_of x)))

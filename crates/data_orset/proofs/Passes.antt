@@ -1,6 +1,5 @@
 -- Going over the dots of a list by their indexes.
-use Rattle.std.proofs.Common.{◌≡◌, ℕ, ◌+◌, ◌-◌, ◌<◌, ◌≤◌, zero, suc, List, [], ◌∷◌, ◌++◌, length, take, drop, Bool, true, false, cond, not, ◌||◌, refl, ap, sym, ◌∙◌, arith, append_assoc}
-use Rattle.std.specs.Prelude.{if◌then◌else◌, map}
+use Rattle.std.proofs.Common.{◌≡◌, ℕ, ◌+◌, ◌-◌, ◌<◌, ◌≤◌, zero, suc, List, [], ◌∷◌, ◌++◌, length, take, drop, Bool, true, false, cond, not, ◌||◌, refl, ap, sym, ◌∙◌, arith, append_assoc, if◌then◌else◌, map}
 use Rattle.std.specs.List.{filter, list_any, flat_map}
 use Rattle.std.proofs.lemmas.List.{drop_all, drop_more, append-nil, length-map, length-drop, length-take-le}
 use Rattle.std.specs.Str.{bytes_eq}

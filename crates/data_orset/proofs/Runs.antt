@@ -1,9 +1,8 @@
 -- The dots of a list, element by element: these are the elements of its set.
-use Rattle.std.proofs.Common.{◌≡◌, ℕ, zero, suc, ◌+◌, ◌-◌, ◌^◌, ◌<◌, ◌≤◌, Bool, true, false, cond, ◌||◌, nat_lt, List, [], ◌∷◌, ◌++◌, length, take, drop, get_or, refl, ap, sym, ◌∙◌, subst, append_assoc, ⊎_elim, inl, inr, ◌⊎◌, arith}
+use Rattle.std.proofs.Common.{◌≡◌, ℕ, suc, ◌+◌, ◌-◌, ◌^◌, ◌<◌, ◌≤◌, Bool, true, false, cond, ◌||◌, nat_lt, List, [], ◌∷◌, ◌++◌, length, take, drop, get_or, refl, ap, sym, ◌∙◌, subst, append_assoc, ⊎_elim, inl, inr, ◌⊎◌, arith, map}
 use Rattle.std.proofs.lemmas.Bool.{lt-ltb, or_right}
 use Rattle.std.proofs.lemmas.List.{drop_more, drop_all, drop-drop, length-drop}
 use Rattle.std.proofs.lemmas.List.Elements.{recursion_from_All}
-use Rattle.std.specs.Prelude.{map}
 use Rattle.std.specs.List.{All, AllByRecursion, flat_map}
 use Rattle.std.specs.Ordering.{nat_cmp, ordering_then}
 use Rattle.std.specs.declared.cmp.Ordering.{Ordering}
@@ -20,10 +19,9 @@ use Rattle.base_bytes.proofs.TextLaws.{eq_texts, texts_eq, less_order}
 use Rattle.data_growing.specs.TextSetLaws.{below_all_of_less}
 use Rattle.base_vectors.specs.declared.id.Dot.{Dot}
 use Rattle.data_orset.specs.Placing.{Placed, placed_order, IsBeforeAll, IsNumbered, AreDots, at_dot, dot_at}
-use Rattle.data_orset.specs.declared.element.Element.{Element}
 use Rattle.data_orset.specs.Dots.{Dots}
 use Rattle.data_orset.specs.Keeping.{set_of}
-use Rattle.data_orset.specs.Elements.{AreRising, IsDot, IsPlaced, IsElement, AreElements, IsSoundSet, placed_of, texts_in, elements_of, element_spelled, elements_spelled, set_spelled}
+use Rattle.data_orset.specs.Elements.{Element, AreRising, IsDot, IsPlaced, IsElement, AreElements, IsSoundSet, placed_of, texts_in, elements_of, element_spelled, elements_spelled, set_spelled}
 use Rattle.data_orset.specs.ElementLaws.{by_parts, of_parts, elements_back}
 use Rattle.data_orset.specs.Runs.{with_dot, grouped, run, first_run}
 use Rattle.data_orset.proofs.Placings.{before_all}

@@ -30,12 +30,11 @@ use Rattle.base_bytes.specs.Fields.{◌>>=◌}
 use Rattle.base_bytes.specs.Spelling.{AreBytes, Takes}
 use Rattle.base_bytes.specs.FieldLaws.{bind_ok, ok_is}
 use Rattle.base_vectors.specs.declared.id.Dot.{Dot}
-use Rattle.data_orset.specs.declared.element.Element.{Element}
 use Rattle.data_orset.specs.Placing.{key, key_of, at_dot}
 use Rattle.data_orset.specs.Dots.{Dots, element_of, is_element, is_of, shown_elements, set_mentioned}
 use Rattle.data_orset.specs.DotLaws.{same_item, has_any, any_has}
 use Rattle.data_orset.specs.ShownLaws.{any_map}
-use Rattle.data_orset.specs.Elements.{dot_of, in_order, element_at, elements_of, placed_of, set_of_elements, AreRising, IsDot, IsElement, AreElements, AreFree, IsSoundSet, texts_in, elements_spelled, set_spelled}
+use Rattle.data_orset.specs.Elements.{Element, dot_of, in_order, element_at, elements_of, placed_of, set_of_elements, AreRising, IsDot, IsElement, AreElements, AreFree, IsSoundSet, texts_in, elements_spelled, set_spelled}
 use Rattle.data_orset.specs.Reading.{listed_in, set_in}
 use Rattle.data_orset.specs.ReadingLaws.{listed_takes, listed_again}
 

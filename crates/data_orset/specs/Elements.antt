@@ -16,11 +16,15 @@ use Rattle.model_kinds.specs.SixKinds.{set_operations}
 use Rattle.model_kinds.specs.declared.operation.Op.{Op}
 use Rattle.base_vectors.specs.declared.id.Dot.{Dot}
 use Rattle.data_orset.specs.Placing.{Placed, at_dot}
-use Rattle.data_orset.specs.declared.element.Element.{Element}
 use Rattle.data_orset.specs.Dots.{Dots, is_element, shown_elements}
 use Rattle.data_orset.specs.Keeping.{set_of}
 
 -- THE ELEMENTS OF A SET
+
+-- an element with its dots, which rise by origin, then by number
+pub record Element : Type 0 where
+  pub text : Text
+  pub dots : List Dot
 
 abbrev pub dot_of : List ℕ → Dot
 dot_of (origin ∷ seq ∷ element) = record { origin = origin; seq = seq }

@@ -13,8 +13,7 @@ use Rattle.base_bytes.specs.FieldLaws.{bind_ok, kept_ok, kept_on, ok_is, takes_n
 use Rattle.base_vectors.specs.declared.id.Dot.{Dot}
 use Rattle.base_vectors.specs.Fields.{identity_in, positive_in}
 use Rattle.base_vectors.specs.FieldLaws.{identity_takes, identity_again, positive_takes, positive_again}
-use Rattle.data_orset.specs.declared.element.Element.{Element}
-use Rattle.data_orset.specs.Elements.{AreRising, IsDot, IsElement, AreElements, AreFree, texts_in, dot_spelled, element_spelled, elements_spelled}
+use Rattle.data_orset.specs.Elements.{Element, AreRising, IsDot, IsElement, AreElements, AreFree, texts_in, dot_spelled, element_spelled, elements_spelled}
 use Rattle.data_orset.specs.Reading.{dot_in, dots_in, element_in, elements_in, listed_in}
 
 -- DOTS

@@ -2,8 +2,8 @@
 use Rattle.std.specs.Prelude.{ℕ, suc, List, [], ◌∷◌, if◌then◌else◌}
 use Rattle.std.specs.Str.{bytes_eq}
 use Rattle.model_history.specs.Texts.{Text}
+use Rattle.data_orset.specs.Elements.{Element}
 use Rattle.data_orset.specs.Placing.{Placed, dot_at}
-use Rattle.data_orset.specs.declared.element.Element.{Element}
 
 -- one more dot in front
 abbrev pub with_dot : Placed → List Element → List Element

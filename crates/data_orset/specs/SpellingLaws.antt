@@ -18,7 +18,6 @@ use Rattle.model_kinds.specs.declared.operation.Op.{Op}
 use Rattle.data_growing.specs.Bits.{same_bits}
 use Rattle.base_bytes.proofs.TextLaws.{texts_eq}
 use Rattle.base_vectors.specs.declared.id.Dot.{Dot}
-use Rattle.data_orset.specs.declared.element.Element.{Element}
 use Rattle.data_orset.specs.Placing.{key}
 use Rattle.data_orset.specs.Dots.{Dots, is_element}
 use Rattle.data_orset.specs.DotLaws.{same_item, itself}
@@ -27,7 +26,7 @@ use Rattle.data_orset.specs.LiveLaws.{any_held, held_any, live_in_log, live_in_c
 use Rattle.data_orset.specs.DataOf.{AreLiveDots}
 use Rattle.data_orset.specs.DataLaws.{live_not_gone}
 use Rattle.data_orset.specs.ShownLaws.{elements_mean}
-use Rattle.data_orset.specs.Elements.{AreRising, element_at, elements_of, dot_named, history_element, history_elements}
+use Rattle.data_orset.specs.Elements.{Element, AreRising, element_at, elements_of, dot_named, history_element, history_elements}
 use Rattle.data_orset.specs.ElementLaws.{key_at, of_parts, rising_from, element_is, element_named}
 
 -- RECORDS RISE

@@ -213,10 +213,7 @@ impl DotList {
         ensures { OnOk result (self.new ≡ self.old ++ at_dot dot.now element.now ∷ []) }
     {
         let place = intern(&mut self.texts, &mut self.spots, element)?;
-        match self.spots.push(Spot { place, dot: *dot }) {
-            Ok(()) => Ok(()),
-            Err(_) => Err(Memory),
-        }
+        Ok(self.spots.push(Spot { place, dot: *dot })?)
     }
 
     /// Drops the dots from an index up to another.

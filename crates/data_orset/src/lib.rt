@@ -10,7 +10,6 @@
 mod calls;
 mod dot_list;
 mod dots;
-mod element;
 mod elements;
 mod reading;
 mod replica;

@@ -1,14 +1,11 @@
-ghost use Rattle.std.specs.Prelude.{◌≡◌, ℕ, ◌++◌, map, option_copied, None, OnOk, IfOk};
-ghost use Rattle.std.specs.List.{flat_map, last_or};
+ghost use Rattle.std.specs.Prelude.{◌≡◌, None, option_copied};
 ghost use Rattle.base_bytes.specs.Fields.{Gives};
 ghost use Rattle.base_vectors.specs.IdSets.{members_in};
-ghost use Rattle.data_orset.specs.Elements.{AreElements, placed_of, set_of_elements, texts_in};
-ghost use Rattle.data_orset.specs.Reading.{dot_in, dots_in, element_in, elements_in, listed_in, set_in};
+ghost use Rattle.data_orset.specs.Reading.{dot_in, elements_in, listed_in, set_in, ReadsDots, ReadsElement, ReadsPlaced};
 
 use crate::dot_list::DotList;
-use crate::element::Element;
 use crate::set::OrSet;
-use base_bytes::{FieldError, Items, Memory, Text, keep, read_number, read_text};
+use base_bytes::{FieldError, Text, keep, read_number, read_text};
 use base_vectors::{Dot, IdSet, read_identity, read_positive};
 use std::alloc::Global;
 
@@ -34,16 +31,16 @@ fn read_dot(barred: IdSet, origin: u8, seq: u64, bytes: &[u8]) -> Result<(Dot, &
     }
 }
 
-/// So many dots, each after the one before it, and the bytes after them.
-fn read_dots(
-    alloc: Global,
+/// So many dots of an element, each after the one before it, which are added at the end; and the bytes after them.
+fn read_dots<'a>(
+    all: &mut DotList,
+    text: &Text,
     barred: IdSet,
     count: u64,
-    bytes: &[u8],
-) -> Result<(Items<Dot>, &[u8]), FieldError>
-    ensures { Gives (λ x. (x.0, x.1.now)) result (dots_in (members_in barred) count 0 0 bytes.now) }
+    bytes: &'a [u8],
+) -> Result<&'a [u8], FieldError>
+    ensures { ReadsDots (λ rest. rest.now) (members_in barred) count text.now bytes.now all.old all.new result }
 {
-    let mut dots = Items::new(alloc);
     let mut origin = 0;
     let mut seq = 0;
     let mut rest = bytes;
@@ -53,103 +50,61 @@ fn read_dots(
                 origin = dot.origin.number();
                 seq = dot.seq;
                 rest = after;
-                dots.push(dot)?;
+                all.push(text, &dot)?;
             }
             Err(error) => return Err(error),
         }
     }
-    Ok((dots, rest))
+    Ok(rest)
 }
 
-/// The text of the last of the elements, if there is one.
-fn last_text(elements: &[Element]) -> Option<&Text>
-    ensures { option_copied result ≡ last_or None (texts_in elements.now) }
-{
-    match elements {
-        [] => None,
-        [.., last] => Some(&last.text),
-    }
-}
-
-/// An element that comes after those before it, with its dots, and the bytes after it.
+/// An element that comes after the text before it, where there is one, which is added at its dots at the end: its text, and the bytes after it.
 #[tactic(auto, unfolding(crate::specs::Reading::element_in))]
 fn read_element<'a>(
     alloc: Global,
+    all: &mut DotList,
     barred: IdSet,
-    before: &[Element],
+    before: Option<&Text>,
     bytes: &'a [u8],
-) -> Result<(Element, &'a [u8]), FieldError>
-    ensures { Gives (λ x. (x.0, x.1.now)) result (element_in (members_in barred) (last_or None (texts_in before.now)) bytes.now) }
+) -> Result<(Text, &'a [u8]), FieldError>
+    ensures { ReadsElement (λ x. (x.0, x.1.now)) (members_in barred) (option_copied before.entry) bytes.now all.old all.new result }
 {
-    let (text, rest) = read_text(alloc, last_text(before), bytes)?;
+    let (text, rest) = read_text(alloc, before, bytes)?;
     let (count, rest) = read_positive(u64::MAX, rest)?;
-    let (dots, rest) = read_dots(alloc, barred, count, rest)?;
-    Ok((Element { text, dots }, rest))
+    let rest = read_dots(all, &text, barred, count, rest)?;
+    Ok((text, rest))
 }
 
-/// So many elements, each after the one before it, and the bytes after them.
+/// So many elements at their dots, each after the one before it, and the bytes after them.
 fn read_elements(
     alloc: Global,
     barred: IdSet,
     count: u64,
     bytes: &[u8],
-) -> Result<(Items<Element>, &[u8]), FieldError>
-    ensures { Gives (λ x. (x.0, x.1.now)) result (elements_in (members_in barred) count None bytes.now) }
+) -> Result<(DotList, &[u8]), FieldError>
+    ensures { ReadsPlaced (λ x. (x.0, x.1.now)) (elements_in (members_in barred) count None bytes.now) result }
 {
-    let mut elements = Items::new(alloc);
+    let mut all = DotList::new(alloc);
+    let mut last: Option<Text> = None;
     let mut rest = bytes;
     for _ in 0..count {
-        let (element, after) = read_element(alloc, barred, elements.as_slice(), rest)?;
-        elements.push(element)?;
+        let (text, after) = read_element(alloc, &mut all, barred, last.as_ref(), rest)?;
+        last = Some(text);
         rest = after;
     }
-    Ok((elements, rest))
+    Ok((all, rest))
 }
 
-/// Elements behind their number, and the bytes after them.
+/// Elements behind their number, at their dots, and the bytes after them.
 #[tactic(auto, unfolding(crate::specs::Reading::listed_in))]
-fn read_listed(
-    alloc: Global,
-    barred: IdSet,
-    bytes: &[u8],
-) -> Result<(Items<Element>, &[u8]), FieldError>
-    ensures { Gives (λ x. (x.0, x.1.now)) result (listed_in (members_in barred) bytes.now) }
+fn read_listed(alloc: Global, barred: IdSet, bytes: &[u8]) -> Result<(DotList, &[u8]), FieldError>
+    ensures { ReadsPlaced (λ x. (x.0, x.1.now)) (listed_in (members_in barred) bytes.now) result }
 {
     let (count, rest) = read_number(bytes)?;
     read_elements(alloc, barred, count, rest)
 }
 
-/// Adds an element at each of its dots at the end.
-fn place(all: &mut DotList, element: &Element) -> Result<(), Memory>
-    ensures { OnOk result (all.new ≡ all.old ++ placed_of element.now) }
-{
-    for dot in element.dots.as_slice() {
-        all.push(&element.text, dot)?;
-    }
-    Ok(())
-}
-
-/// Elements at their dots.
-fn placed(alloc: Global, elements: &[Element]) -> Result<DotList, Memory>
-    ensures { IfOk result (λ all. all ≡ flat_map placed_of elements.now) }
-{
-    let mut all = DotList::new(alloc);
-    for element in elements {
-        place(&mut all, element)?;
-    }
-    Ok(all)
-}
-
 impl OrSet {
-    /// The set of elements.
-    fn of_elements(alloc: Global, elements: &[Element]) -> Result<OrSet, Memory>
-        requires { AreElements elements.now }
-        ensures { IfOk result (λ made. made ≡ set_of_elements elements.now) }
-    {
-        let dots = placed(alloc, elements)?;
-        Ok(OrSet { alloc, dots })
-    }
-
     /// A set at the front of these bytes, and the bytes after it.
     #[tactic(auto, unfolding(crate::specs::Reading::set_in))]
     pub(crate) fn read(
@@ -159,7 +114,7 @@ impl OrSet {
     ) -> Result<(OrSet, &[u8]), FieldError>
         ensures { Gives (λ x. (x.0, x.1.now)) result (set_in (members_in barred) bytes.now) }
     {
-        let (elements, rest) = read_listed(alloc, barred, bytes)?;
-        Ok((OrSet::of_elements(alloc, elements.as_slice())?, rest))
+        let (dots, rest) = read_listed(alloc, barred, bytes)?;
+        Ok((OrSet { alloc, dots }, rest))
     }
 }

@@ -1,5 +1,4 @@
-use Rattle.std.proofs.Common.{◌+◌, ◌++◌, List, [], ◌∷◌, drop, arith, subst, sym, ap, ◌∙◌, inl, inr}
-use Rattle.std.specs.Prelude.{if◌then◌else◌}
+use Rattle.std.proofs.Common.{◌+◌, ◌++◌, List, [], ◌∷◌, drop, arith, subst, sym, ap, ◌∙◌, inl, inr, if◌then◌else◌}
 use Rattle.std.specs.List.{filter}
 use Rattle.data_orset.specs.Placing.{Placed, nth, key_of}
 use Rattle.data_orset.proofs.Tables.{nth_at}

@@ -1,5 +1,4 @@
-use Rattle.std.proofs.Common.{arith, List, [], ◌∷◌, ◌++◌, take, sym, ◌∙◌, ap}
-use Rattle.std.specs.Prelude.{if◌then◌else◌}
+use Rattle.std.proofs.Common.{arith, List, [], ◌∷◌, ◌++◌, take, sym, ◌∙◌, ap, if◌then◌else◌}
 use Rattle.model_history.specs.Texts.{Text, text_set}
 use Rattle.data_orset.specs.Keeping.{texts_of}
 use Rattle.data_orset.specs.Placing.{nth}

@@ -1,5 +1,4 @@
-use Rattle.std.proofs.Common.{◌≡◌, take}
-use Rattle.std.specs.Prelude.{map}
+use Rattle.std.proofs.Common.{◌≡◌, take, map}
 use Rattle.data_orset.specs.Placing.{at_dot}
 use Rattle.data_orset.proofs.elements.placed_at.Given as goal
 

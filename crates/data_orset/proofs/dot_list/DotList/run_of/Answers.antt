@@ -1,5 +1,4 @@
-use Rattle.std.proofs.Common.{◌≡◌, ◌<◌, ◌+◌, List, [], length, get_or, subst, sym}
-use Rattle.std.specs.Prelude.{nat_lt}
+use Rattle.std.proofs.Common.{◌≡◌, ◌<◌, ◌+◌, List, [], length, get_or, subst, sym, nat_lt}
 use Rattle.model_history.specs.Texts.{Text}
 use Rattle.data_growing.specs.Texts.{IsPlace}
 use Rattle.data_orset.specs.declared.dot_list.Spot.{Spot}

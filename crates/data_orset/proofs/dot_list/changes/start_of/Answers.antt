@@ -1,5 +1,4 @@
-use Rattle.std.proofs.Common.{rules}
-use Rattle.std.specs.Prelude.{nat_lt}
+use Rattle.std.proofs.Common.{rules, nat_lt}
 use Rattle.std.proofs.lemmas.List.Sorted.{IsPartitionPoint-from_clause}
 use Rattle.data_orset.proofs.SpotOrder.{bound_is, places_parted}
 use Rattle.data_orset.proofs.dot_list.changes.start_of.Goals as goal
