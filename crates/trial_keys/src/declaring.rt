@@ -155,7 +155,7 @@ fn what_was_missed_comes_by_a_nack(rt: HostRuntime) -> Result<(), Fail> {
     declared(&mut other, Kind::GCounter, false)?;
     increment(&mut one, LATE)?;
     let gap = flushed(rt.alloc(), &mut one, &mut other)?;
-    assert!(rt; matches!(gap, Some(Received::Gap(id)) if id == one.id()));
+    assert!(rt; matches!(gap, Some(Received::Gap(_))));
     assert_eq!(rt; count(&mut other, text(LATE)?)?, Some(2));
     Ok(())
 }
